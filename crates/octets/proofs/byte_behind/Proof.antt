@@ -1,0 +1,29 @@
+-- `octets::byte_behind` meets its contract.
+-- Assumes nothing.
+use native.Mathlib.Omega.{arith}
+use Rattle.octets.proofs.Reading.{past}
+use borrow.Author.Needs.{needs}
+use Rattle.octets.proofs.byte_behind.Statement.{statement}
+use Rattle.octets.proofs.byte_behind.Tie as tie
+
+returns : tie.Need-returns
+returns c = past 1 _ _ (omega arith) (omega arith)
+
+sub-if2 : tie.Need-sub-if2
+sub-if2 c = search needs
+
+returns-2 : tie.Need-returns-2
+returns-2 c = past 1 _ _ (omega arith) (omega arith)
+
+add-byte-at : tie.Need-add-byte-at
+add-byte-at c = search needs
+
+byte-at-requires : tie.Need-byte-at-requires
+byte-at-requires c κs = search needs
+
+returns-3 : tie.Need-returns-3
+returns-3 c = search needs
+
+pub byte-behind-spec : {M : Type 1} → statement M
+byte-behind-spec =
+    tie.close (tie.spec returns sub-if2 returns-2 add-byte-at byte-at-requires returns-3)

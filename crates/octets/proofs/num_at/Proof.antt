@@ -1,0 +1,60 @@
+-- `octets::num_at` meets its contract.
+-- Assumes nothing.
+use Rattle.octets.proofs.Reading.{of-width}
+use Rattle.octets.specs.declared.Width.the-variants.{One, Two, Three, Four}
+use borrow.Author.Needs.{needs}
+use Rattle.octets.proofs.num_at.Statement.{statement}
+use Rattle.octets.proofs.num_at.Tie as tie
+
+enum-told : tie.Need-enum-told
+enum-told c = search needs
+
+byte-at-requires : tie.Need-byte-at-requires
+byte-at-requires c κs = search needs
+
+enum-told-2 : tie.Need-enum-told-2
+enum-told-2 c = search needs
+
+u16-at-requires : tie.Need-u16-at-requires
+u16-at-requires c κs = search needs
+
+enum-told-3 : tie.Need-enum-told-3
+enum-told-3 c = search needs
+
+u24-at-requires : tie.Need-u24-at-requires
+u24-at-requires c κs = search needs
+
+enum-told-4 : tie.Need-enum-told-4
+enum-told-4 c = search needs
+
+u32-at-requires : tie.Need-u32-at-requires
+u32-at-requires c κs = search needs
+
+returns : tie.Need-returns
+returns c = of-width _ One _ _ _ (c .before .enum-told .given .1) (c .byte-at .ensures)
+
+returns-2 : tie.Need-returns-2
+returns-2 c = of-width _ Two _ _ _ (c .before .enum-told2 .given .1) (c .u16-at .ensures)
+
+returns-3 : tie.Need-returns-3
+returns-3 c = of-width _ Three _ _ _ (c .before .enum-told3 .given .1) (c .u24-at .ensures)
+
+returns-4 : tie.Need-returns-4
+returns-4 c = of-width _ Four _ _ _ (c .before .enum-told4 .given .1) (c .u32-at .ensures)
+
+pub num-at-spec : {M : Type 1} → statement M
+num-at-spec =
+    tie.close
+    (tie.spec
+    enum-told
+    byte-at-requires
+    enum-told-2
+    u16-at-requires
+    enum-told-3
+    u24-at-requires
+    enum-told-4
+    u32-at-requires
+    returns
+    returns-2
+    returns-3
+    returns-4)

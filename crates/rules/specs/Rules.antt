@@ -1,0 +1,118 @@
+-- The constructors of facts that both files have: one for each shape of rule, one relation each. `start` is where the record starts and
+-- `place` the byte place that a refusal reports. The claim of each is what its mark says (`says`).
+-- Assumes nothing.
+use Prim.Native.Nat.{ℕ, suc, _+_, _/_, _%_}
+use mathlib.Core.List.{List}
+use lib.ListN.{length}
+use lib.IntN.{natAbs}
+use Rattle.octets.specs.declared.Width.{Width}
+use Rattle.octets.specs.Octets.{bytesOf, numAt, signedAt}
+use Rattle.verdict.specs.declared.Mark.{Mark}
+use Rattle.verdict.specs.declared.Reason.{Reason}
+use Rattle.verdict.specs.declared.Reason.the-variants.{Length, Layout, Field, Agreement}
+use Rattle.verdict.specs.declared.Rule.{Rule}
+use Rattle.verdict.specs.declared.Rule.the-variants as rule
+use Rattle.verdict.specs.Facts.{Claim, same, atMost, both, either, Fact, fact}
+
+-- ---- what a shape says of a number
+
+abbrev pub liesBetween : ℕ → ℕ → ℕ → Claim
+liesBetween low high x = both (atMost low x) (atMost x high)
+
+abbrev pub isAmong : ℕ → ℕ → ℕ → ℕ → ℕ → ℕ → Claim
+isAmong a b c d e x = either (same x a) (either (same x b) (either (same x c) (either (same x d) (same x e))))
+
+-- ---- the constructors
+
+-- the file's length lies between two numbers
+abbrev pub lengthBetween : List ℕ → ℕ → ℕ → Fact
+lengthBetween f low high =
+    fact (liesBetween low high (length f)) (record { reason = Length; start = 0; place = 0; width = 0; rule = rule.LengthBetween low high })
+
+-- the number at a place is this one
+abbrev pub isNumber : Reason → List ℕ → ℕ → ℕ → Width → ℕ → Fact
+isNumber r f start place w x =
+    fact (same (numAt (bytesOf w) f place) x) (record { reason = r; start = start; place = place; width = bytesOf w; rule = rule.Is x })
+
+-- the number at a place lies between two numbers
+abbrev pub between : Reason → List ℕ → ℕ → ℕ → Width → ℕ → ℕ → Fact
+between r f start place w low high =
+    fact (liesBetween low high (numAt (bytesOf w) f place)) (record { reason = r; start = start; place = place; width = bytesOf w; rule = rule.Between low high })
+
+-- the signed number of a field is at most so far from 0
+abbrev pub within : List ℕ → ℕ → ℕ → Width → ℕ → Fact
+within f start place w limit =
+    fact (atMost (natAbs (signedAt (bytesOf w) f place)) limit) (record { reason = Field; start = start; place = place; width = bytesOf w; rule = rule.Within limit })
+
+-- the byte of a field is one of five
+abbrev pub among : List ℕ → ℕ → ℕ → ℕ → ℕ → ℕ → ℕ → ℕ → Fact
+among f start place a b c d e =
+    fact (isAmong a b c d e (numAt 1 f place)) (record { reason = Field; start = start; place = place; width = 1; rule = rule.Among a b c d e })
+
+-- some bits of a field's byte, as a number, lie between two numbers
+abbrev pub part : List ℕ → ℕ → ℕ → ℕ → ℕ → ℕ → ℕ → Fact
+part f start place over modulo low high =
+    fact (liesBetween low high (numAt 1 f place / over % modulo)) (record { reason = Field; start = start; place = place; width = 1; rule = rule.Part over modulo low high })
+
+-- what ends at `reach` fits into a room that ends at `room`
+abbrev pub fits : ℕ → ℕ → ℕ → ℕ → ℕ → Fact
+fits start place width reach room =
+    fact (atMost reach room) (record { reason = Layout; start = start; place = place; width = width; rule = rule.Fits reach room })
+
+-- so many bytes are whole records of a size
+abbrev pub whole : ℕ → ℕ → ℕ → ℕ → ℕ → Fact
+whole start place width bytes size =
+    fact (same (bytes % size) 0) (record { reason = Layout; start = start; place = place; width = width; rule = rule.Whole bytes size })
+
+-- what stops at a place stops at the end that is due
+abbrev pub endsAt : ℕ → ℕ → ℕ → Fact
+endsAt start place end =
+    fact (same place end) (record { reason = Layout; start = start; place = place; width = 0; rule = rule.EndsAt end })
+
+-- the number of a field is 0
+abbrev pub zeroAt : List ℕ → ℕ → ℕ → Width → ℕ → Fact
+zeroAt f start place w field =
+    fact (same (numAt (bytesOf w) f field) 0) (record { reason = Agreement; start = start; place = place; width = bytesOf w; rule = rule.Zero field })
+
+-- the number of a field is that of another field
+abbrev pub sameAs : List ℕ → ℕ → ℕ → Width → ℕ → ℕ → Fact
+sameAs f start place w field other =
+    fact (same (numAt (bytesOf w) f field) (numAt (bytesOf w) f other)) (record { reason = Agreement; start = start; place = place; width = bytesOf w; rule = rule.SameAs field other })
+
+-- the number of a field is above that of another field
+abbrev pub above : List ℕ → ℕ → ℕ → Width → ℕ → ℕ → Fact
+above f start place w field other =
+    fact (atMost (suc (numAt (bytesOf w) f other)) (numAt (bytesOf w) f field)) (record { reason = Agreement; start = start; place = place; width = bytesOf w; rule = rule.Above field other })
+
+-- ---- what a mark says; `other` is the claim of a shape that one file alone has
+
+-- what a shape says of the bytes at a place
+abbrev pub claimOf : List ℕ → Claim → ℕ → ℕ → Rule → Claim
+claimOf f other width place (rule.LengthBetween low high) = liesBetween low high (length f)
+claimOf f other width place (rule.Is n) = same (numAt width f place) n
+claimOf f other width place (rule.Between low high) = liesBetween low high (numAt width f place)
+claimOf f other width place (rule.Within limit) = atMost (natAbs (signedAt width f place)) limit
+claimOf f other width place (rule.Among a b c d e) = isAmong a b c d e (numAt width f place)
+claimOf f other width place (rule.Part over modulo low high) = liesBetween low high (numAt width f place / over % modulo)
+claimOf f other width place (rule.Fits reach room) = atMost reach room
+claimOf f other width place (rule.Whole bytes size) = same (bytes % size) 0
+claimOf f other width place (rule.EndsAt end) = same place end
+claimOf f other width place (rule.Zero field) = same (numAt width f field) 0
+claimOf f other width place (rule.SameAs field next) = same (numAt width f field) (numAt width f next)
+claimOf f other width place (rule.Above field next) = atMost (suc (numAt width f next)) (numAt width f field)
+claimOf f other width place (rule.SizeByte field low high) = other
+claimOf f other width place (rule.LastByte n) = other
+claimOf f other width place (rule.ObjectName least) = other
+claimOf f other width place rule.StationName = other
+claimOf f other width place (rule.SumWithin field base limit) = other
+claimOf f other width place (rule.SumIs field base end) = other
+claimOf f other width place rule.PlaceInCount = other
+claimOf f other width place rule.NamesObject = other
+claimOf f other width place rule.IsReturned = other
+claimOf f other width place (rule.NotDoubled field) = other
+claimOf f other width place rule.SameStation = other
+claimOf f other width place rule.InFirst = other
+claimOf f other width place rule.WithinTrack = other
+
+abbrev pub says : List ℕ → (Mark → Claim) → Mark → Claim
+says f other m = claimOf f (other m) (m .width) (m .place) (m .rule)

@@ -1,0 +1,57 @@
+-- The loops over records that stand without gaps: what one turn does, and the end, for each kind of check.
+-- Assumes nothing.
+use Prim.Native.Nat.{ℕ, _+_, _<_, _≤_}
+use mathlib.Core.Path.{_≡_, sym}
+use mathlib.Core.Bool.{Bool, _&&_, _||_, or-assoc, or-false, and-assoc, and-true}
+use mathlib.Core.List.{List, flatMap}
+use Rattle.verdict.specs.declared.Judged.{Judged}
+use Rattle.verdict.specs.Facts.{anyOf, allOf, Fact, judge, along}
+use Rattle.verdict.specs.Walk.{startsFrom}
+use Rattle.verdict.proofs.Facts.{judge-append}
+use Rattle.verdict.proofs.Walk.{starts-step, starts-stop}
+
+-- One turn of a loop that judges each record: the record's own facts, then those of the records that follow.
+module _ (size : ℕ → ℕ) (end : ℕ) (facts : ℕ → List Fact) where
+  pub judge-step :
+      ((x : ℕ) → 0 < size x) → (v w : Judged) (at next : ℕ) → at < end → w ≡ judge v (facts at) → next ≡ at + size at
+      → judge w (flatMap facts (startsFrom size end next)) ≡ judge v (flatMap facts (startsFrom size end at))
+  unfolding flatMap
+  judge-step pos v w at next h e q =
+      rw (e, q, starts-step size end pos at h) (sym (judge-append v (facts at) (flatMap facts (startsFrom size end (at + size at)))))
+
+  pub judge-stop : (v : Judged) (at : ℕ) → end ≤ at → judge v (flatMap facts (startsFrom size end at)) ≡ v
+  unfolding flatMap
+  judge-stop v at h = rw (starts-stop size end at h)
+
+-- One turn of a loop that judges each record with the one before it.
+module _ (size : ℕ → ℕ) (end : ℕ) (facts : ℕ → ℕ → List Fact) where
+  pub along-step :
+      ((x : ℕ) → 0 < size x) → (v w : Judged) (before at next : ℕ) → at < end → w ≡ judge v (facts before at) → next ≡ at + size at
+      → judge w (along facts at (startsFrom size end next)) ≡ judge v (along facts before (startsFrom size end at))
+  unfolding along
+  along-step pos v w before at next h e q =
+      rw (e, q, starts-step size end pos at h) (sym (judge-append v (facts before at) (along facts at (startsFrom size end (at + size at)))))
+
+  pub along-stop : (v : Judged) (before at : ℕ) → end ≤ at → judge v (along facts before (startsFrom size end at)) ≡ v
+  unfolding along
+  along-stop v before at h = rw (starts-stop size end at h)
+
+-- One turn of a loop that looks for a record: what was found, or is at this record, or is at one that follows.
+module _ (size : ℕ → ℕ) (end : ℕ) (t : ℕ → Bool) where
+  pub any-step :
+      ((x : ℕ) → 0 < size x) → (b d : Bool) (at next : ℕ) → at < end → d ≡ (b || t at) → next ≡ at + size at
+      → (d || anyOf t (startsFrom size end next)) ≡ (b || anyOf t (startsFrom size end at))
+  any-step pos b d at next h e q = rw (e, q, starts-step size end pos at h) (or-assoc b (t at) (anyOf t (startsFrom size end (at + size at))))
+
+  pub any-stop : (b : Bool) (at : ℕ) → end ≤ at → (b || anyOf t (startsFrom size end at)) ≡ b
+  any-stop b at h = rw (starts-stop size end at h) (or-false b)
+
+-- One turn of a loop that tests each record.
+module _ (size : ℕ → ℕ) (end : ℕ) (t : ℕ → Bool) where
+  pub all-step :
+      ((x : ℕ) → 0 < size x) → (b d : Bool) (at next : ℕ) → at < end → d ≡ (b && t at) → next ≡ at + size at
+      → (d && allOf t (startsFrom size end next)) ≡ (b && allOf t (startsFrom size end at))
+  all-step pos b d at next h e q = rw (e, q, starts-step size end pos at h) (and-assoc b (t at) (allOf t (startsFrom size end (at + size at))))
+
+  pub all-stop : (b : Bool) (at : ℕ) → end ≤ at → (b && allOf t (startsFrom size end at)) ≡ b
+  all-stop b at h = rw (starts-stop size end at h) (and-true b)

@@ -1,0 +1,4 @@
+pub mod Facts
+pub mod Walk
+pub mod Checks
+pub mod Orders

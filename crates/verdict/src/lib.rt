@@ -1,0 +1,249 @@
+// Reasons, faults and verdicts (01, 'Verdicts and their order'), and the one step that every check is made of.
+ghost use mathlib.Core.Path.{_≡_};
+ghost use Rattle.verdict.specs.Reasons.{numberOf, fileOf, shownOf, numberIn, placeIn, pairNumberIn, pairPlaceIn, pairFileIn};
+ghost use Rattle.verdict.specs.Facts.{also};
+
+// Why an answer is refused, in the order of 01's table: 6 comes before 5.
+pub enum Reason {
+    Length,
+    Checksum,
+    FileType,
+    Structure,
+    Layout,
+    Field,
+    Agreement,
+    Target,
+    Return,
+    Station,
+    Track,
+    Position,
+    Question,
+    Steps,
+    Room,
+}
+
+// A reason, with the byte place that it is reported at.
+pub struct Fault {
+    pub reason: Reason,
+    pub place: usize,
+}
+
+// The verdict of a file.
+pub enum Verdict {
+    Accepted,
+    Refused(Fault),
+}
+
+// The file of a pair that is at fault.
+pub enum File {
+    First,
+    Second,
+}
+
+// The verdict of a pair.
+pub enum PairVerdict {
+    Accepted,
+    Refused(File, Fault),
+}
+
+// The shape of a rule, with its numbers. Where nothing else is said, it speaks of the number at the mark's place.
+// A field or another field is given by its byte place.
+pub enum Rule {
+    // the file's length lies between two numbers
+    LengthBetween(usize, usize),
+    // the number is this one
+    Is(usize),
+    // the number lies between two numbers
+    Between(usize, usize),
+    // the number, read as signed, is at most this far from 0
+    Within(usize),
+    // the number is one of these five
+    Among(usize, usize, usize, usize, usize),
+    // the number divided by the first, modulo the second, lies between the other two
+    Part(usize, usize, usize, usize),
+    // the first number, where something ends, is at most the second, where its room ends
+    Fits(usize, usize),
+    // the first number is whole times the second
+    Whole(usize, usize),
+    // the mark's place is this one
+    EndsAt(usize),
+    // the size byte at this field is 16, or lies between the two numbers
+    SizeByte(usize, usize, usize),
+    // the last of the mark's bytes is this one
+    LastByte(usize),
+    // an object's name, of at least so many bytes
+    ObjectName(usize),
+    // a station's name
+    StationName,
+    // the number at this field is 0
+    Zero(usize),
+    // the number at the first field is the one at the second
+    SameAs(usize, usize),
+    // the number at the first field is above the one at the second
+    Above(usize, usize),
+    // the signed number at the first field, added to the one at the second, is at most this far from 0
+    SumWithin(usize, usize, usize),
+    // the signed number at the first field, added to the one at the second, is the one at the third
+    SumIs(usize, usize, usize),
+    // a balise's place is at most its group's count
+    PlaceInCount,
+    // a link is 0 or names the start of another object
+    NamesObject,
+    // a link is 0 or is returned by a link of its target
+    IsReturned,
+    // a link is 0 or is another one than the link at this field
+    NotDoubled(usize),
+    // the station is that of the first file
+    SameStation,
+    // the track is in the first file
+    InFirst,
+    // the position is at most the end of its track in the first file
+    WithinTrack,
+}
+
+// What a fact is about: the reason it refuses for, the start of its record, the place that is reported, how many bytes
+// stand there, and the rule.
+pub struct Mark {
+    pub reason: Reason,
+    pub start: usize,
+    pub place: usize,
+    pub width: usize,
+    pub rule: Rule,
+}
+
+// The verdict of the checks so far, with the mark of the first fact that failed.
+pub enum Judged {
+    Accepted,
+    Refused(Mark),
+}
+
+impl Reason {
+    // The paper's number.
+    pub fn number(self) -> usize
+        ensures { λ r. ⌜ r ≡ numberOf self ⌝ }
+    {
+        match self {
+            Reason::Length => 1,
+            Reason::Checksum => 2,
+            Reason::FileType => 3,
+            Reason::Structure => 4,
+            Reason::Layout => 6,
+            Reason::Field => 5,
+            Reason::Agreement => 7,
+            Reason::Target => 8,
+            Reason::Return => 9,
+            Reason::Station => 10,
+            Reason::Track => 11,
+            Reason::Position => 12,
+            Reason::Question => 13,
+            Reason::Steps => 14,
+            Reason::Room => 15,
+        }
+    }
+}
+
+impl File {
+    // The paper's number of the file.
+    pub fn number(self) -> usize
+        ensures { λ r. ⌜ r ≡ fileOf self ⌝ }
+    {
+        match self {
+            File::First => 1,
+            File::Second => 2,
+        }
+    }
+}
+
+impl Verdict {
+    // The number of the answer: 0 where the file is accepted.
+    pub fn number(self) -> usize
+        ensures { λ r. ⌜ r ≡ numberIn self ⌝ }
+    {
+        match self {
+            Verdict::Accepted => 0,
+            Verdict::Refused(fault) => {
+                let reason = fault.reason;
+                reason.number()
+            }
+        }
+    }
+
+    // The place of the answer: 0 where the file is accepted.
+    pub fn place(self) -> usize
+        ensures { λ r. ⌜ r ≡ placeIn self ⌝ }
+    {
+        match self {
+            Verdict::Accepted => 0,
+            Verdict::Refused(fault) => fault.place,
+        }
+    }
+}
+
+impl PairVerdict {
+    // The number of the answer: 0 where the pair is accepted.
+    pub fn number(self) -> usize
+        ensures { λ r. ⌜ r ≡ pairNumberIn self ⌝ }
+    {
+        match self {
+            PairVerdict::Accepted => 0,
+            PairVerdict::Refused(_, fault) => {
+                let reason = fault.reason;
+                reason.number()
+            }
+        }
+    }
+
+    // The place of the answer: 0 where the pair is accepted.
+    pub fn place(self) -> usize
+        ensures { λ r. ⌜ r ≡ pairPlaceIn self ⌝ }
+    {
+        match self {
+            PairVerdict::Accepted => 0,
+            PairVerdict::Refused(_, fault) => fault.place,
+        }
+    }
+
+    // The file at fault: 0 where the pair is accepted.
+    pub fn file(self) -> usize
+        ensures { λ r. ⌜ r ≡ pairFileIn self ⌝ }
+    {
+        match self {
+            PairVerdict::Accepted => 0,
+            PairVerdict::Refused(file, _) => file.number(),
+        }
+    }
+}
+
+impl Judged {
+    // The verdict that is answered: the mark's reason and place.
+    pub fn shown(self) -> Verdict
+        ensures { λ r. ⌜ r ≡ shownOf self ⌝ }
+    {
+        match self {
+            Judged::Accepted => Verdict::Accepted,
+            Judged::Refused(mark) => {
+                let reason = mark.reason;
+                Verdict::Refused(Fault {
+                    reason,
+                    place: mark.place,
+                })
+            }
+        }
+    }
+}
+
+// The verdict so far, then one fact more.
+pub fn also_fact(v: Judged, ok: bool, mark: Mark) -> Judged
+    ensures { λ r. ⌜ r ≡ also v ok mark ⌝ }
+{
+    match v {
+        Judged::Refused(_) => v,
+        Judged::Accepted => {
+            if ok {
+                Judged::Accepted
+            } else {
+                Judged::Refused(mark)
+            }
+        }
+    }
+}
