@@ -2,15 +2,17 @@
 -- Assumes nothing.
 use mathlib.Core.Path.{_≡_, refl, sym, ap, ap₂, _∙_, subst}
 use mathlib.Core.List.{List}
+use mathlib.Core.Bool.{true, false}
 use mathlib.Core.Logic.{⊎-elim}
 use Prim.Native.Nat.{ℕ, zero, suc, _+_, _-_, _*_, _^_, _≤_, _<_}
 use native.Mathlib.Omega.{arith}
 use lib.IntN.{ℤ, pos, negsuc, _-ℤ_, natAbs}
 use borrow.Author.Tests.{lt-ltb, le-ltb}
 use mir.Syntax.{w64}
-use mir.Val.{toZ, ofZ}
-use mir.Facts.{toZ-pos, toZ-ofZ}
-use lib.Signed.{mag}
+use mir.Val.{toZ, ofZ, Fits, SFits}
+use mir.Facts.{toZ-pos, toZ-ofZ, fits-ofZ, sfits-toZ}
+use lib.Dec.{T, leb·zero}
+use lib.Signed.{mag, leZ, nonNeg}
 use Rattle.verdict.proofs.Orders.{le-or-lt}
 use Rattle.octets.specs.declared.Width.{Width}
 use Rattle.octets.specs.declared.Width.the-variants.{One, Two, Three, Four}
@@ -77,3 +79,29 @@ high-distance half n h g = let e = ap natAbs (high half n h) in omega arith
 pub distance-of-number : (w : Width) (s : List ℕ) (i u h r : ℕ) → Is (bytesOf w) s i u → h ≡ halfOf (bytesOf w) → r ≡ natAbs (signed h u) → r ≡ natAbs (signedAt (bytesOf w) s i)
 unfolding signedAt
 distance-of-number w s i u h r p e q = q ∙ ap₂ (λ (x y : ℕ). natAbs (signed x y)) e (p .is)
+
+-- ---- a signed number's test against 0, and how far it is from 0 on either side
+
+-- what the machine reads back of z
+abbrev pub read : ℤ → ℤ
+read z = toZ w64 (ofZ w64 z)
+
+pub small : (z : ℤ) → SFits w64 z → mag (read z) < 2 ^ 63
+small z f = sfits-toZ {w = w64} (fits-ofZ {w = w64} f) .sfits
+
+pub up : (y : ℤ) → mag y < 2 ^ 63 → leZ (pos 0) y ≡ true → T (nonNeg y) × Fits w64 (natAbs y)
+up (pos n) h e = (tt, record { fits = omega arith })
+up (negsuc n) h e = absurd (subst T (sym e) tt)
+
+-- -1 - y, of a y below 0
+pub down : (y : ℤ) → leZ (pos 0) y ≡ false → negsuc 0 -ℤ y ≡ pos (mag y)
+down (pos n) e = absurd (subst T (sym (leb·zero n) ∙ e) tt)
+down (negsuc n) e = rw (le-ltb (suc n) 1 (omega arith)) (ap pos (omega arith))
+
+pub down-distance : (y : ℤ) → leZ (pos 0) y ≡ false → mag y + 1 ≡ natAbs y
+down-distance (pos n) e = absurd (subst T (sym (leb·zero n) ∙ e) tt)
+down-distance (negsuc n) e = omega arith
+
+-- -1 - y as the machine reads it back
+pub down-read : (y : ℤ) → mag y < 2 ^ 63 → leZ (pos 0) y ≡ false → read (negsuc 0 -ℤ y) ≡ pos (mag y)
+down-read y h e = ap read (down y e) ∙ toZ-pos w64 h

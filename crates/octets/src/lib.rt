@@ -154,3 +154,14 @@ pub fn distance_at(s: &[u8], at: usize, w: Width) -> usize
 {
     distance_of(num_at(s, at, w), w.half())
 }
+
+// How far a signed number is from 0.
+pub fn distance(z: i64) -> usize
+    ensures { λ r. ⌜ r ≡ natAbs z ⌝ }
+{
+    if z >= 0 {
+        z as usize
+    } else {
+        (-1 - z) as usize + 1
+    }
+}
