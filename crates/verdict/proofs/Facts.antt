@@ -86,6 +86,10 @@ pub judge-append : (v : Judged) (a b : List Fact) → judge v (a ++ b) ≡ judge
 judge-append v [] b = refl
 judge-append v (fact c m ∷ fs) b = judge-append (also v (test c) m) fs b
 
+-- the facts of one list, then those of another
+pub judge-then : (v x r : Judged) (a b : List Fact) → x ≡ judge v a → r ≡ judge x b → r ≡ judge v (a ++ b)
+judge-then v x r a b p q = q ∙ ap (λ (y : Judged). judge y b) p ∙ sym (judge-append v a b)
+
 pub judge-refused : (n : Mark) (fs : List Fact) → judge (Refused n) fs ≡ Refused n
 unfolding also
 judge-refused n [] = refl
@@ -99,6 +103,16 @@ judge-first (fact c m ∷ fs) = go (test c) (judge-first fs)
     go : (t : Bool) → judge Accepted fs ≡ firstFault fs → judge (also Accepted t m) fs ≡ cond t (firstFault fs) (Refused m)
     go true ih = ih
     go false ih = judge-refused m fs
+
+-- ---- one check after the other: a refusal is answered at once, and after an acceptance the next check counts
+
+pub stops : (v : Judged) (m : Mark) (a b : List Fact) → v ≡ judge Accepted a → v ≡ Refused m → v ≡ firstFault (a ++ b)
+stops v m a b p e =
+    e ∙ sym (judge-refused m b) ∙ ap (λ (y : Judged). judge y b) (sym e ∙ p) ∙ sym (judge-append Accepted a b) ∙ judge-first (a ++ b)
+
+pub goes-on : (v r : Judged) (a b : List Fact) → v ≡ judge Accepted a → v ≡ Accepted → r ≡ firstFault b → r ≡ firstFault (a ++ b)
+goes-on v r a b p e q =
+    q ∙ sym (judge-first b) ∙ ap (λ (y : Judged). judge y b) (sym e ∙ p) ∙ sym (judge-append Accepted a b) ∙ judge-first (a ++ b)
 
 -- ---- accepted is 'every fact holds'
 

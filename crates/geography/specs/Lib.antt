@@ -1,0 +1,6 @@
+pub mod Places
+pub mod Layout
+pub mod Fields
+pub mod Agreement
+pub mod Facts
+pub mod Obeys

@@ -1,0 +1,145 @@
+// Names (01, 'X.2, fixed application'): the 8 bytes of an object's name and the 16 bytes of a station's name. `place` is the first byte of
+// the name, `start` where its record starts. A byte past the end of the file counts as 0.
+ghost use mathlib.Core.Path.{_≡_};
+ghost use mathlib.Core.List.{[], _∷_};
+ghost use Prim.Native.Nat.{_*_, _≤_};
+ghost use Rattle.verdict.specs.Facts.{judge, test};
+ghost use Rattle.names.specs.Names.{objectBytes, stationCodes, byteBehind, bytesBetween, lead, Counted, nameLength, codeCount, isCode, codes, objectNameFact, stationNameFact};
+use octets::byte_behind;
+use verdict::Judged;
+use verdict::Mark;
+use verdict::Reason;
+use verdict::Rule;
+use verdict::also_fact;
+
+// An object's name: how many bytes it has room for, and the least and the greatest of its bytes.
+const OBJECT_BYTES: usize = 8;
+
+const LEAST_BYTE: usize = 0x21;
+
+const GREATEST_BYTE: usize = 0x7E;
+
+// A station's name: how many bytes and how many codes it has room for.
+const STATION_BYTES: usize = 16;
+
+const STATION_CODES: usize = 8;
+
+// A code: its bytes, the range of the first, and the range of the second, in which there is a gap.
+const CODE_BYTES: usize = 2;
+
+const FIRST_LEAST: usize = 0x81;
+
+const FIRST_GREATEST: usize = 0xFE;
+
+const SECOND_LEAST: usize = 0x40;
+
+const BEFORE_GAP: usize = 0x7E;
+
+const AFTER_GAP: usize = 0x80;
+
+const SECOND_GREATEST: usize = 0xFE;
+
+// Of the first `top` steps at a place, each of `step` bytes, how many stand before the first that begins with a zero.
+fn steps(f: &[u8], place: usize, step: usize, top: usize) -> usize
+    requires { ⌜ (step ≤ 2) × (top ≤ 8) ⌝ }
+    ensures { λ r. ⌜ Counted (lead (λ k. byteBehind (now (f .entry)) place (step * k)) top) top r ⌝ }
+{
+    let mut n = 0;
+    while n < top {
+        if byte_behind(f, place, step * n) == 0 {
+            return n;
+        }
+        n = n + 1;
+    }
+    n
+}
+
+// How many bytes the name of an object at a place has.
+pub fn name_length(f: &[u8], place: usize) -> usize
+    ensures { λ r. ⌜ Counted (nameLength (now (f .entry)) place) objectBytes r ⌝ }
+{
+    steps(f, place, 1, OBJECT_BYTES)
+}
+
+// How many codes the name of a station at a place has.
+fn code_count(f: &[u8], place: usize) -> usize
+    ensures { λ r. ⌜ Counted (codeCount (now (f .entry)) place) stationCodes r ⌝ }
+{
+    steps(f, place, CODE_BYTES, STATION_CODES)
+}
+
+// Whether each byte at a place, from one up to another, lies between two numbers.
+fn bytes_between(f: &[u8], place: usize, from: usize, until: usize, low: usize, high: usize) -> bool
+    ensures { λ r. ⌜ r ≡ test (bytesBetween (now (f .entry)) place from until low high) ⌝ }
+{
+    let mut ok = true;
+    let mut k = from;
+    while k < until {
+        let b = byte_behind(f, place, k);
+        ok = ok & ((low <= b) & (b <= high));
+        k = k + 1;
+    }
+    ok
+}
+
+// Whether two bytes are a code: the first 0x81 to 0xFE, the second 0x40 to 0x7E or 0x80 to 0xFE.
+fn is_code(a: usize, b: usize) -> bool
+    ensures { λ r. ⌜ r ≡ test (isCode a b) ⌝ }
+{
+    ((FIRST_LEAST <= a) & (a <= FIRST_GREATEST))
+        & (((SECOND_LEAST <= b) & (b <= BEFORE_GAP)) | ((AFTER_GAP <= b) & (b <= SECOND_GREATEST)))
+}
+
+// Whether the first n pairs of bytes at a place are codes.
+fn codes(f: &[u8], place: usize, n: usize) -> bool
+    requires { ⌜ n ≤ stationCodes ⌝ }
+    ensures { λ r. ⌜ r ≡ test (codes (now (f .entry)) place n) ⌝ }
+{
+    let mut ok = true;
+    let mut k = 0;
+    while k < n {
+        let a = byte_behind(f, place, CODE_BYTES * k);
+        let b = byte_behind(f, place, CODE_BYTES * k + 1);
+        ok = ok & is_code(a, b);
+        k = k + 1;
+    }
+    ok
+}
+
+// The 8 bytes at a place are an object's name: `least` or more bytes 0x21 to 0x7E, then only 0x00.
+pub fn object_name(v: Judged, f: &[u8], start: usize, place: usize, least: usize) -> Judged
+    ensures { λ r. ⌜ r ≡ judge v (objectNameFact (now (f .entry)) start place least ∷ []) ⌝ }
+{
+    let n = name_length(f, place);
+    let named = bytes_between(f, place, 0, n, LEAST_BYTE, GREATEST_BYTE);
+    let ended = bytes_between(f, place, n, OBJECT_BYTES, 0, 0);
+    let reason = Reason::Field;
+    let rule = Rule::ObjectName(least);
+    let mark = Mark {
+        reason,
+        start,
+        place,
+        width: OBJECT_BYTES,
+        rule,
+    };
+    also_fact(v, (least <= n) & (named & ended), mark)
+}
+
+// The 16 bytes at a place are a station's name: one to eight codes of two bytes, then zeros.
+pub fn station_name(v: Judged, f: &[u8], start: usize, place: usize) -> Judged
+    ensures { λ r. ⌜ r ≡ judge v (stationNameFact (now (f .entry)) start place ∷ []) ⌝ }
+{
+    let n = code_count(f, place);
+    let coded = codes(f, place, n);
+    let ended = bytes_between(f, place, CODE_BYTES * n, STATION_BYTES, 0, 0);
+    let reason = Reason::Field;
+    let rule = Rule::StationName;
+    let mark = Mark {
+        reason,
+        start,
+        place,
+        width: STATION_BYTES,
+        rule,
+    };
+    also_fact(v, (1 <= n) & (coded & ended), mark)
+}
