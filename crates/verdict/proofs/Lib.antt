@@ -1,4 +1,5 @@
 pub mod Facts
 pub mod Walk
 pub mod Checks
+pub mod Steps
 pub mod Orders

@@ -1,0 +1,376 @@
+-- A file is accepted exactly where it obeys: each check's facts hold exactly where its plain statement does, check by check. The facts
+-- speak of the starts of a walk; `fixed-iff` turns a start into a count of sizes, so that each fact is read at track i or at point j.
+-- Assumes nothing.
+use Prim.Native.Nat.{ℕ, suc, zero, _+_, _-_, _*_, _/_, _%_, _≤_, _<_}
+use mathlib.Core.Path.{_≡_, refl, sym, ap, subst, _∙_}
+use mathlib.Core.Bool.{Bool, true, false, cond}
+use mathlib.Core.Logic.{_⊎_, ⊎-elim, _↔_}
+use mathlib.Core.List.{List, [], _∷_, _++_, flatMap, List·Memᴰ}
+use lib.Dec.{ltb, eqb}
+use lib.ListN.{length, take}
+use lib.IntN.{ℤ, pos, negsuc, natAbs, _+ℤ_, _-ℤ_, -ℤ-+ℤ-cancel, +ℤ-idl, +ℤ-invr}
+use native.Mathlib.Nat.{mul-zero, mul-suc, div-add-mod, mul-mod-right, mul-le-mul-left, lt-of-mul-lt-mul-left}
+use native.Mathlib.Omega.{arith}
+use borrow.Author.Tests.{lt-ltb, le-ltb, eq-eqb, ne-eqb}
+use native.Mathlib.Decide.{ℕ-discrete}
+use Rattle.octets.specs.Octets.{numAt, signedAt}
+use Rattle.verdict.specs.Facts.{Fact, AllHold, Holds, firstFault}
+use Rattle.verdict.specs.declared.Judged.the-variants.{Accepted}
+use Rattle.verdict.proofs.Facts.{accepted-iff, all-append, all-each}
+use Rattle.verdict.proofs.Steps.{Stands, fixed-iff}
+use Rattle.geography.specs.Places as place
+use Rattle.geography.specs.Layout.{endOf, countOf, pointsAt, entries, firstOf, lastOf, isFirst, stopBefore, dueAt, entryLayout, countLayout, stopLayout, layoutFacts}
+use Rattle.geography.specs.Fields.{headerFields, entryFields, pointFields, allPoints, fieldFacts}
+use Rattle.geography.specs.Agreement.{sumOf, numberAgrees, opens, rises, stays, closes, pointAgrees, pointsOf, trackAgrees, agreementFacts}
+use Rattle.geography.specs.Facts.{sealFacts, checkFacts, facts, judgedOf}
+use Rattle.geography.specs.Obeys.{Between, Within, entryAt, pointAt, LayoutObeys, EntryObeys, PointObeys, FieldsObey, TrackAgrees, AgreementObeys, Obeys}
+
+-- ---- two signed numbers that are 0 apart
+
+no-distance : (z : ℤ) → natAbs z ≡ 0 → z ≡ pos 0
+no-distance (pos n) e = ap pos e
+no-distance (negsuc n) e = absurd (omega arith)
+
+apart-iff : (a b : ℤ) → (natAbs (a -ℤ b) ≡ 0) ↔ (a ≡ b)
+apart-iff a b = (
+  λ e. sym (-ℤ-+ℤ-cancel a b) ∙ ap (λ (z : ℤ). z +ℤ b) (no-distance (a -ℤ b) e) ∙ +ℤ-idl b,
+  λ e. ap (λ (z : ℤ). natAbs (z -ℤ b)) e ∙ ap natAbs (+ℤ-invr b),
+)
+
+-- ---- each entry, by the track's number in the file
+
+module _ (f : List ℕ) where
+  pub entry-start : (i : ℕ) → i < countOf f → List·Memᴰ (entryAt i) (entries f)
+  unfolding entries
+  entry-start i h = (fixed-iff place.entrySize (pointsAt f) (omega arith) place.entriesAt (entryAt i)) .1 (i, refl, omega arith)
+
+  pub start-entry : (e : ℕ) → List·Memᴰ e (entries f) → (i : ℕ) × (i < countOf f) × (e ≡ entryAt i)
+  unfolding entries
+  start-entry e m = let w = (fixed-iff place.entrySize (pointsAt f) (omega arith) place.entriesAt e) .0 m in (w .0, omega (arith, w .1, w .2), w .1)
+
+  pub entries-iff : (g : ℕ → List Fact) → AllHold (flatMap g (entries f)) ↔ ((i : ℕ) → i < countOf f → AllHold (g (entryAt i)))
+  entries-iff g =
+      let each = all-each g (entries f) in (
+        λ h i l. each .0 h (entryAt i) (entry-start i l),
+        λ h. each .1 (λ e m. let w = start-entry e m in subst (λ (x : ℕ). AllHold (g x)) (sym (w .2)) (h (w .0) (w .1))),
+      )
+
+-- ---- layout
+
+-- a last offset, of the first one, for points of a size
+two-iff : (size first last : ℕ) → 0 < size → ((first + size ≤ last) × ((last - first) % size ≡ 0)) ↔ ((k : ℕ) × (last ≡ first + size * suc k))
+two-iff size first last positive = (λ h. steps ((last - first) / size) refl (h .0) (h .1), λ w. back (w .0) (w .1))
+  where
+    steps : (n : ℕ) → (last - first) / size ≡ n → first + size ≤ last → (last - first) % size ≡ 0 → (k : ℕ) × (last ≡ first + size * suc k)
+    steps zero q h e =
+        let d = div-add-mod (last - first) size in
+        let z = mul-zero size in
+        let s : size * ((last - first) / size) ≡ size * 0 = ap (λ (x : ℕ). size * x) q in
+        absurd (omega arith)
+    steps (suc k) q h e =
+        let d = div-add-mod (last - first) size in
+        let s : size * ((last - first) / size) ≡ size * suc k = ap (λ (x : ℕ). size * x) q in
+        (k, omega arith)
+
+    back : (k : ℕ) → last ≡ first + size * suc k → (first + size ≤ last) × ((last - first) % size ≡ 0)
+    back k e =
+        let m = mul-suc size k in
+        let s : last - first ≡ size * suc k = omega arith in
+        (omega arith, ap (λ (x : ℕ). x % size) s ∙ mul-mod-right size (suc k))
+
+module _ (f : List ℕ) (size : ℕ) (positive : 0 < size) where
+  due-first : dueAt f size (entryAt 0) ≡ pointsAt f
+  unfolding dueAt
+  due-first = refl
+
+  due-next : (i : ℕ) → dueAt f size (entryAt (suc i)) ≡ lastOf f (entryAt i) + size
+  unfolding dueAt
+  due-next i = rw (le-ltb (entryAt (suc i)) 38 (omega arith)) (ap (λ (p : ℕ). numAt 2 f p + size) (omega arith))
+
+  stop-last : (i : ℕ) → suc i ≡ countOf f → stopBefore f size (pointsAt f) ≡ lastOf f (entryAt i) + size
+  stop-last i e = ap (λ (p : ℕ). numAt 2 f p + size) (omega arith)
+
+  due-iff : ((i : ℕ) → i < countOf f → firstOf f (entryAt i) ≡ dueAt f size (entryAt i)) → 0 < countOf f
+      → (firstOf f (entryAt 0) ≡ pointsAt f) × ((i : ℕ) → suc i < countOf f → firstOf f (entryAt (suc i)) ≡ lastOf f (entryAt i) + size)
+  due-iff h z = (h 0 z ∙ due-first, λ i l. h (suc i) l ∙ due-next i)
+
+  due-back : LayoutObeys f size → (i : ℕ) → i < countOf f → firstOf f (entryAt i) ≡ dueAt f size (entryAt i)
+  due-back o zero l = o .first-due ∙ sym due-first
+  due-back o (suc i) l = o .next-due i l ∙ sym (due-next i)
+
+  pub layout-iff : AllHold (layoutFacts f size) ↔ LayoutObeys f size
+  unfolding layoutFacts AllHold
+  layout-iff =
+      let cut = all-append (countLayout f) (flatMap (entryLayout f size) (entries f) ++ stopLayout f size) in
+      let rest = all-append (flatMap (entryLayout f size) (entries f)) (stopLayout f size) in
+      let each = entries-iff f (entryLayout f size) in (
+        λ h.
+            let count = (cut .0 h) .0 in
+            let more = rest .0 ((cut .0 h) .1) in
+            let track = each .0 (more .0) in
+            let due = due-iff (λ i l. (track i l) .0) (count .0 .0) in
+            record {
+              some-track = count .0;
+              entries-fit = count .1 .0;
+              first-due = due .0;
+              next-due = due .1;
+              two-points = λ i l. (two-iff size (firstOf f (entryAt i)) (lastOf f (entryAt i)) positive) .0 ((track i l) .1 .0, (track i l) .1 .1 .0);
+              points-fit = λ i l. (track i l) .1 .1 .1 .0;
+              final = λ i e. sym (stop-last i e) ∙ (more .1) .0;
+            },
+        λ o. cut .1 (
+          (o .some-track, (o .entries-fit, tt)),
+          rest .1 (
+            each .1 (λ i l.
+                let two = (two-iff size (firstOf f (entryAt i)) (lastOf f (entryAt i)) positive) .1 (o .two-points i l) in
+                (due-back o i l, (two .0, (two .1, (o .points-fit i l, tt))))),
+            (stops o, tt),
+          ),
+        ),
+      )
+    where
+      stops : LayoutObeys f size → stopBefore f size (pointsAt f) ≡ endOf f
+      stops o =
+          let z = o .some-track .0 in
+          let e : suc (countOf f - 1) ≡ countOf f = omega arith in
+          stop-last (countOf f - 1) e ∙ o .final (countOf f - 1) e
+
+-- ---- fields
+
+entry-iff : (f : List ℕ) (e : ℕ) → AllHold (entryFields f e) ↔ EntryObeys f e
+unfolding AllHold
+entry-iff f e = (
+  λ h. record {
+    number = h .0;
+    property = h .1 .0;
+    start-position = h .1 .1 .0;
+    start-latitude = h .1 .1 .1 .0;
+    start-longitude = h .1 .1 .1 .1 .0;
+    end-position = h .1 .1 .1 .1 .1 .0;
+    end-latitude = h .1 .1 .1 .1 .1 .1 .0;
+    end-longitude = h .1 .1 .1 .1 .1 .1 .1 .0;
+  },
+  λ o. (o .number, (o .property, (o .start-position, (o .start-latitude, (o .start-longitude, (o .end-position, (o .end-latitude, (o .end-longitude, tt)))))))),
+)
+
+point-iff : (f : List ℕ) (p : ℕ) → AllHold (pointFields f p) ↔ PointObeys f p
+unfolding AllHold
+point-iff f p = (λ h. record { position = h .0; heading = h .1 .0; near = h .1 .1 .0 }, λ o. (o .position, (o .heading, (o .near, tt))))
+
+module _ (f : List ℕ) (size : ℕ) (positive : 0 < size) where
+  points-iff : AllHold (flatMap (pointFields f) (allPoints f size)) ↔ ((j : ℕ) → pointsAt f + size * j < endOf f → PointObeys f (pointsAt f + size * j))
+  unfolding allPoints
+  points-iff =
+      let each = all-each (pointFields f) (allPoints f size) in (
+        λ h j l. (point-iff f (pointsAt f + size * j)) .0 (each .0 h (pointsAt f + size * j) ((fixed-iff size (endOf f) positive (pointsAt f) (pointsAt f + size * j)) .1 (j, refl, l))),
+        λ h. each .1 (λ p m.
+            let w = (fixed-iff size (endOf f) positive (pointsAt f) p) .0 m in
+            let l : pointsAt f + size * (w .0) < endOf f = omega (arith, w .1, w .2) in
+            subst (λ (x : ℕ). AllHold (pointFields f x)) (sym (w .1)) ((point-iff f (pointsAt f + size * (w .0))) .1 (h (w .0) l))),
+      )
+
+  pub fields-iff : AllHold (fieldFacts f size) ↔ FieldsObey f size
+  unfolding fieldFacts AllHold
+  fields-iff =
+      let cut = all-append (headerFields f) (flatMap (entryFields f) (entries f) ++ flatMap (pointFields f) (allPoints f size)) in
+      let rest = all-append (flatMap (entryFields f) (entries f)) (flatMap (pointFields f) (allPoints f size)) in
+      let each = entries-iff f (entryFields f) in (
+        λ h.
+            let head = (cut .0 h) .0 in
+            let more = rest .0 ((cut .0 h) .1) in
+            record {
+              data-version = head .0;
+              station = head .1 .0;
+              each-entry = λ i l. (entry-iff f (entryAt i)) .0 (each .0 (more .0) i l);
+              each-point = points-iff .0 (more .1);
+            },
+        λ o. cut .1 (
+          (o .data-version, (o .station, tt)),
+          rest .1 (each .1 (λ i l. (entry-iff f (entryAt i)) .1 (o .each-entry i l)), points-iff .1 (o .each-point)),
+        ),
+      )
+
+-- ---- agreement, of a track whose last point stands k + 1 sizes behind its first
+
+module _ (f : List ℕ) (size e k : ℕ) (positive : 0 < size) (spread : lastOf f e ≡ pointAt f size e (suc k)) where
+  -- point j is one of the track's points exactly where it is not behind the last one
+  in-track : (j : ℕ) → pointAt f size e j < lastOf f e + size → pointAt f size e j ≤ lastOf f e
+  in-track j h =
+      let a = mul-suc size k in
+      let b = mul-suc size (suc k) in
+      let l : size * j < size * suc (suc k) = omega arith in
+      let n : j ≤ suc k = let q = lt-of-mul-lt-mul-left size l in omega arith in
+      let m = mul-le-mul-left size n in
+      omega arith
+
+  track-points : (g : ℕ → List Fact) → AllHold (flatMap g (pointsOf f size e)) ↔ ((j : ℕ) → pointAt f size e j ≤ lastOf f e → AllHold (g (pointAt f size e j)))
+  unfolding pointsOf
+  track-points g =
+      let each = all-each g (pointsOf f size e) in (
+        λ h j l. each .0 h (pointAt f size e j) ((fixed-iff size (lastOf f e + size) positive (firstOf f e) (pointAt f size e j)) .1 (j, refl, omega arith)),
+        λ h. each .1 (λ p m.
+            let w = (fixed-iff size (lastOf f e + size) positive (firstOf f e) p) .0 m in
+            let l : pointAt f size e (w .0) < lastOf f e + size = omega (arith, w .1, w .2) in
+            subst (λ (x : ℕ). AllHold (g x)) (sym (w .1)) (h (w .0) (in-track (w .0) l))),
+      )
+
+  -- the three parts of a point's facts
+  abbrev start-part : ℕ → List Fact
+  start-part p = cond (ltb p (firstOf f e + size)) (opens f size p) (rises f size p)
+
+  abbrev end-part : ℕ → List Fact
+  end-part p = cond (eqb p (lastOf f e)) (closes f e p) []
+
+  parts-iff : (p : ℕ) → AllHold (pointAgrees f size e p) ↔ (AllHold (start-part p) × (AllHold (stays f e p) × AllHold (end-part p)))
+  parts-iff p =
+      let a = all-append (start-part p) (stays f e p ++ end-part p) in
+      let b = all-append (stays f e p) (end-part p) in
+      (λ h. ((a .0 h) .0, b .0 ((a .0 h) .1)), λ h. a .1 (h .0, b .1 (h .1)))
+
+  opens-first : start-part (pointAt f size e 0) ≡ opens f size (pointAt f size e 0)
+  opens-first = let z = mul-zero size in rw (lt-ltb (pointAt f size e 0) (firstOf f e + size) (omega arith))
+
+  rises-later : (j : ℕ) → start-part (pointAt f size e (suc j)) ≡ rises f size (pointAt f size e (suc j))
+  rises-later j = let z = mul-suc size j in rw (le-ltb (pointAt f size e (suc j)) (firstOf f e + size) (omega arith))
+
+  closes-last : (p : ℕ) → p ≡ lastOf f e → end-part p ≡ closes f e p
+  closes-last p q = rw (eq-eqb p (lastOf f e) q)
+
+  closes-none : (p : ℕ) → (p ≡ lastOf f e → ⊥) → end-part p ≡ []
+  closes-none p q = rw (ne-eqb p (lastOf f e) q)
+
+  -- the place of the point before point j + 1
+  before : (j : ℕ) → pointAt f size e (suc j) - size ≡ pointAt f size e j
+  before j = let z = mul-suc size j in omega arith
+
+  first-in : pointAt f size e 0 ≤ lastOf f e
+  first-in = let z = mul-zero size in omega arith
+
+  next-near : pointAt f size e 0 + size + place.near ≡ pointAt f size e 1 + place.near
+  next-near = let z = mul-zero size in let s = mul-suc size 0 in omega arith
+
+  track-iff : ((j : ℕ) → pointAt f size e j ≤ lastOf f e → AllHold (pointAgrees f size e (pointAt f size e j))) ↔ TrackAgrees f size e
+  unfolding AllHold
+  track-iff = (there, back)
+    where
+      there : ((j : ℕ) → pointAt f size e j ≤ lastOf f e → AllHold (pointAgrees f size e (pointAt f size e j))) → TrackAgrees f size e
+      there h =
+          let at : (j : ℕ) → pointAt f size e j ≤ lastOf f e → AllHold (start-part (pointAt f size e j)) × (AllHold (stays f e (pointAt f size e j)) × AllHold (end-part (pointAt f size e j))) =
+          λ j l. (parts-iff (pointAt f size e j)) .0 (h j l)
+          in
+          let open-facts : AllHold (opens f size (pointAt f size e 0)) = subst AllHold opens-first ((at 0 first-in) .0) in
+          let last : pointAt f size e (suc k) ≤ lastOf f e = omega arith in
+          let shut : AllHold (closes f e (pointAt f size e (suc k))) = subst AllHold (closes-last (pointAt f size e (suc k)) (sym spread)) ((at (suc k) last) .1 .1) in
+          let ends : AllHold (closes f e (lastOf f e)) = subst (λ (p : ℕ). AllHold (closes f e p)) (sym spread) shut in
+          record {
+            first-position = open-facts .0;
+            first-latitude = open-facts .1 .0;
+            first-longitude = open-facts .1 .1 .0;
+            first-near = open-facts .1 .1 .1 .0 ∙ ap (λ (p : ℕ). numAt 1 f p) next-near;
+            rising = λ j l.
+                let r : AllHold (rises f size (pointAt f size e (suc j))) = subst AllHold (rises-later j) ((at (suc j) l) .0) in
+                subst (λ (p : ℕ). numAt 4 f (p + place.position) < numAt 4 f (pointAt f size e (suc j) + place.position)) (before j) (r .0);
+            latitudes = λ j l. ((at j l) .1 .0) .0;
+            longitudes = λ j l. ((at j l) .1 .0) .1 .0;
+            last-position = ends .0;
+            last-latitude = (apart-iff (sumOf f (e + place.startLatitude) (lastOf f e + place.latitude)) (signedAt 4 f (e + place.endLatitude))) .0 (ends .1 .0);
+            last-longitude = (apart-iff (sumOf f (e + place.startLongitude) (lastOf f e + place.longitude)) (signedAt 4 f (e + place.endLongitude))) .0 (ends .1 .1 .0);
+          }
+
+      start-held : TrackAgrees f size e → (j : ℕ) → pointAt f size e j ≤ lastOf f e → AllHold (start-part (pointAt f size e j))
+      start-held o zero l =
+          subst AllHold (sym opens-first) (o .first-position, (o .first-latitude, (o .first-longitude, (o .first-near ∙ sym (ap (λ (p : ℕ). numAt 1 f p) next-near), tt))))
+      start-held o (suc j) l =
+          subst AllHold (sym (rises-later j)) (
+            subst (λ (p : ℕ). numAt 4 f (p + place.position) < numAt 4 f (pointAt f size e (suc j) + place.position)) (sym (before j)) (o .rising j l),
+            tt,
+          )
+
+      end-held : TrackAgrees f size e → (p : ℕ) → Dec (p ≡ lastOf f e) → AllHold (end-part p)
+      end-held o p (no n) = subst AllHold (sym (closes-none p n)) tt
+      end-held o p (yes q) =
+          subst AllHold (sym (closes-last p q)) (subst (λ (x : ℕ). AllHold (closes f e x)) (sym q) (
+            o .last-position,
+            (
+              (apart-iff (sumOf f (e + place.startLatitude) (lastOf f e + place.latitude)) (signedAt 4 f (e + place.endLatitude))) .1 (o .last-latitude),
+              ((apart-iff (sumOf f (e + place.startLongitude) (lastOf f e + place.longitude)) (signedAt 4 f (e + place.endLongitude))) .1 (o .last-longitude), tt),
+            ),
+          ))
+
+      back : TrackAgrees f size e → (j : ℕ) → pointAt f size e j ≤ lastOf f e → AllHold (pointAgrees f size e (pointAt f size e j))
+      back o j l =
+          (parts-iff (pointAt f size e j)) .1 (
+            start-held o j l,
+            ((o .latitudes j l, (o .longitudes j l, tt)), end-held o (pointAt f size e j) (ℕ-discrete (pointAt f size e j) (lastOf f e))),
+          )
+
+  pub points-agree-iff : AllHold (flatMap (pointAgrees f size e) (pointsOf f size e)) ↔ TrackAgrees f size e
+  points-agree-iff = let a = track-points (pointAgrees f size e) in let b = track-iff in (λ h. b .0 (a .0 h), λ o. a .1 (b .1 o))
+
+module _ (f : List ℕ) (size : ℕ) (positive : 0 < size) (laid : LayoutObeys f size) where
+  -- a later track's number is above the one before it
+  numbers-iff : (i : ℕ) → AllHold (numberAgrees f (entryAt (suc i))) ↔ (numAt 1 f (entryAt i + place.number) < numAt 1 f (entryAt (suc i) + place.number))
+  unfolding AllHold
+  numbers-iff i =
+      let e : entryAt (suc i) - place.entrySize ≡ entryAt i = omega arith in (
+        λ h. subst (λ (p : ℕ). numAt 1 f (p + place.number) < numAt 1 f (entryAt (suc i) + place.number)) e ((rw (le-ltb (entryAt (suc i)) 38 (omega arith)) at h) .0),
+        λ h. rw (le-ltb (entryAt (suc i)) 38 (omega arith)) (subst (λ (p : ℕ). numAt 1 f (p + place.number) < numAt 1 f (entryAt (suc i) + place.number)) (sym e) h, tt),
+      )
+
+  pub agreement-iff : AllHold (agreementFacts f size) ↔ AgreementObeys f size
+  unfolding agreementFacts trackAgrees AllHold
+  agreement-iff =
+      let each = entries-iff f (trackAgrees f size) in
+      let cut : (i : ℕ) → AllHold (trackAgrees f size (entryAt i)) ↔ (AllHold (numberAgrees f (entryAt i)) × AllHold (flatMap (pointAgrees f size (entryAt i)) (pointsOf f size (entryAt i)))) =
+      λ i. all-append (numberAgrees f (entryAt i)) (flatMap (pointAgrees f size (entryAt i)) (pointsOf f size (entryAt i)))
+      in
+      let points : (i : ℕ) → i < countOf f → AllHold (flatMap (pointAgrees f size (entryAt i)) (pointsOf f size (entryAt i))) ↔ TrackAgrees f size (entryAt i) =
+      λ i l. points-agree-iff f size (entryAt i) ((laid .two-points i l) .0) positive ((laid .two-points i l) .1)
+      in (
+        λ h. record {
+          numbers = λ i l. (numbers-iff i) .0 (((cut (suc i)) .0 (each .0 h (suc i) l)) .0);
+          each-track = λ i l. (points i l) .0 (((cut i) .0 (each .0 h i l)) .1);
+        },
+        λ o. each .1 (λ i l. (cut i) .1 (held o i l, (points i l) .1 (o .each-track i l))),
+      )
+    where
+      held : AgreementObeys f size → (i : ℕ) → i < countOf f → AllHold (numberAgrees f (entryAt i))
+      held o zero l = tt
+      held o (suc i) l = (numbers-iff i) .1 (o .numbers i l)
+
+-- ---- the file
+
+-- THEOREM (demand 2): an X.1 file is accepted exactly where it obeys.
+pub accepted-obeys : (f : List ℕ) → (judgedOf f ≡ Accepted) ↔ Obeys f
+unfolding facts checkFacts AllHold
+accepted-obeys f =
+    let size = place.pointSize in
+    let all = accepted-iff (facts f) in
+    let sealed = all-append (sealFacts f) (layoutFacts f size ++ (fieldFacts f size ++ agreementFacts f size)) in
+    let laid = all-append (layoutFacts f size) (fieldFacts f size ++ agreementFacts f size) in
+    let filled = all-append (fieldFacts f size) (agreementFacts f size) in
+    let lay = layout-iff f size (omega arith) in
+    let fill = fields-iff f size (omega arith) in (
+      λ e.
+          let h = all .0 e in
+          let s = sealed .0 (h .1) in
+          let l = laid .0 (s .1) in
+          let d = filled .0 (l .1) in
+          record {
+            least = h .0 .0;
+            most = h .0 .1;
+            checksum = s .0 .0;
+            file-type = s .0 .1 .0;
+            structure-version = s .0 .1 .1 .0;
+            layout = lay .0 (l .0);
+            fields = fill .0 (d .0);
+            agreement = (agreement-iff f size (omega arith) (lay .0 (l .0))) .0 (d .1);
+          },
+      λ o. all .1 (
+        (o .least, o .most),
+        sealed .1 (
+          (o .checksum, (o .file-type, (o .structure-version, tt))),
+          laid .1 (lay .1 (o .layout), filled .1 (fill .1 (o .fields), (agreement-iff f size (omega arith) (o .layout)) .1 (o .agreement))),
+        ),
+      ),
+    )
