@@ -1,0 +1,325 @@
+/* The answers, as yardask prints them: the first line has number and place
+ * (and file for the pair), then one name and value per line. */
+#include "batch.h"
+#include "commands.h"
+#include "core_application.h"
+
+static void line(FILE *output, const char *name, int64_t value)
+{
+    fprintf(output, "%s %ld\n", name, (long)value);
+}
+
+static void word_line(FILE *output, const char *name, const char *value)
+{
+    fprintf(output, "%s %s\n", name, value);
+}
+
+static void answer_line(FILE *output, ind_answer answer)
+{
+    fprintf(output, "answer %lu %lu\n", (unsigned long)answer.number,
+            (unsigned long)answer.place);
+}
+
+static void pair_line(FILE *output, ind_answer answer)
+{
+    fprintf(output, "answer %lu %lu %lu\n", (unsigned long)answer.number,
+            (unsigned long)answer.place, (unsigned long)answer.file);
+}
+
+/* A name's bytes up to the first zero, `-` where there are none. */
+static void name_line(FILE *output, const char *field, const uint8_t *name)
+{
+    size_t used = 0;
+    while (used < IND_NAME_SIZE && name[used] != 0)
+        used++;
+    fprintf(output, "%s ", field);
+    if (used == 0)
+        putc('-', output);
+    fwrite(name, 1, used, output);
+    putc('\n', output);
+}
+
+static void message_line(FILE *output, const uint8_t *message, uint32_t size)
+{
+    fputs("message ", output);
+    if (size == 0)
+        putc('-', output);
+    for (uint32_t i = 0; i < size; i++)
+        fprintf(output, "%02x", message[i]);
+    putc('\n', output);
+}
+
+static void exit_balise_line(FILE *output, const char *field, uint32_t number)
+{
+    if (number == IND_NO_BALISE)
+        word_line(output, field, "-");
+    else
+        line(output, field, number);
+}
+
+void print_route(FILE *output, const uint16_t *route)
+{
+    for (uint32_t i = 1; i <= route[0]; i++)
+        fprintf(output, i == 1 ? "%u" : " %u", (unsigned)route[i]);
+    putc('\n', output);
+}
+
+static void print_track(FILE *output, const ind_track *track)
+{
+    answer_line(output, track->answer);
+    if (track->answer.number != IND_ACCEPTED)
+        return;
+    line(output, "number", track->number);
+    line(output, "property", track->property);
+    line(output, "start_position", track->start_position);
+    line(output, "start_latitude", track->start_latitude);
+    line(output, "start_longitude", track->start_longitude);
+    line(output, "end_position", track->end_position);
+    line(output, "end_latitude", track->end_latitude);
+    line(output, "end_longitude", track->end_longitude);
+    line(output, "points", track->points);
+}
+
+static void print_point(FILE *output, const ind_point *point)
+{
+    answer_line(output, point->answer);
+    if (point->answer.number != IND_ACCEPTED)
+        return;
+    line(output, "position", point->position);
+    line(output, "latitude_increment", point->latitude_increment);
+    line(output, "longitude_increment", point->longitude_increment);
+    line(output, "heading", point->heading);
+    line(output, "near", point->near);
+}
+
+static void print_coordinate(FILE *output, const ind_coordinate *coordinate)
+{
+    answer_line(output, coordinate->answer);
+    if (coordinate->answer.number != IND_ACCEPTED)
+        return;
+    line(output, "latitude", coordinate->latitude);
+    line(output, "longitude", coordinate->longitude);
+}
+
+static void print_boundary(FILE *output, const ind_boundary *boundary)
+{
+    line(output, "type", boundary->type);
+    line(output, "link", boundary->link);
+    line(output, "neighbour_station", boundary->neighbour_station);
+    line(output, "neighbour_type", boundary->neighbour_type);
+    line(output, "neighbour_track", boundary->neighbour_track);
+    line(output, "position", boundary->position);
+    line(output, "track", boundary->track);
+}
+
+static void print_turnout(FILE *output, const ind_turnout *turnout)
+{
+    line(output, "number", turnout->number);
+    line(output, "direction", turnout->direction);
+    line(output, "tip_position", turnout->tip_position);
+    line(output, "normal_position", turnout->normal_position);
+    line(output, "reverse_position", turnout->reverse_position);
+    line(output, "front", turnout->front);
+    line(output, "normal", turnout->normal);
+    line(output, "reverse", turnout->reverse);
+    line(output, "front_track", turnout->front_track);
+    line(output, "normal_track", turnout->normal_track);
+    line(output, "reverse_track", turnout->reverse_track);
+}
+
+static void print_balise(FILE *output, const uint8_t *file,
+                         const ind_balise *balise)
+{
+    line(output, "previous", balise->previous);
+    line(output, "next", balise->next);
+    line(output, "number", balise->number);
+    line(output, "size", balise->size);
+    word_line(output, "nature",
+              balise->nature == IND_VIRTUAL ? "virtual" : "physical");
+    word_line(output, "direction",
+              balise->direction == IND_OPPOSITE ? "opposite" : "same");
+    line(output, "position", balise->position);
+    line(output, "track", balise->track);
+    line(output, "place", balise->place);
+    line(output, "count", balise->count);
+    message_line(output, file + balise->message, balise->message_size);
+}
+
+static void print_signal(FILE *output, const uint8_t *file,
+                         const ind_signal *signal)
+{
+    static const char *const directions[] = { "none", "down", "up" };
+    line(output, "previous", signal->previous);
+    line(output, "next", signal->next);
+    name_line(output, "name", file + signal->name);
+    line(output, "position", signal->position);
+    line(output, "track", signal->track);
+    word_line(output, "direction", directions[signal->direction]);
+    line(output, "type", signal->type);
+}
+
+static void print_joint(FILE *output, const uint8_t *file,
+                        const ind_joint *joint)
+{
+    line(output, "previous", joint->previous);
+    line(output, "next", joint->next);
+    name_line(output, "name", file + joint->name);
+    line(output, "position", joint->position);
+    line(output, "track", joint->track);
+}
+
+static void print_siding(FILE *output, const uint8_t *file,
+                         const ind_siding *siding)
+{
+    name_line(output, "name", file + siding->name);
+    line(output, "track", siding->track);
+    exit_balise_line(output, "up_balise", siding->up_balise);
+    name_line(output, "up_signal", file + siding->up_signal);
+    exit_balise_line(output, "down_balise", siding->down_balise);
+    name_line(output, "down_signal", file + siding->down_signal);
+}
+
+static void print_record(FILE *output, const uint8_t *file,
+                         const ind_record *record)
+{
+    answer_line(output, record->answer);
+    if (record->answer.number != IND_ACCEPTED)
+        return;
+    word_line(output, "kind", kind_name(record->kind));
+    switch (record->kind) {
+    case IND_TURNOUT: print_turnout(output, &record->turnout); break;
+    case IND_BALISE: print_balise(output, file, &record->balise); break;
+    case IND_SIGNAL: print_signal(output, file, &record->signal); break;
+    case IND_JOINT: print_joint(output, file, &record->joint); break;
+    case IND_SIDING: print_siding(output, file, &record->siding); break;
+    default: print_boundary(output, &record->boundary); break;
+    }
+}
+
+static uint16_t route_words[ROOM_LARGEST];
+
+static void print_routes(FILE *output, const ind_routes *routes)
+{
+    const uint16_t *route = route_words;
+    answer_line(output, routes->answer);
+    if (routes->answer.number != IND_ACCEPTED)
+        return;
+    line(output, "routes", routes->routes);
+    line(output, "words", routes->words);
+    line(output, "walks", routes->walks);
+    for (uint32_t i = 0; i < routes->routes; i++) {
+        print_route(output, route);
+        route += 1 + route[0];
+    }
+}
+
+static ind_track ask_track(const posed *ask)
+{
+    return ind_track_at(ask->bytes[0], ask->length[0],
+                        ask->numbers[0]);
+}
+
+static ind_point ask_point(const posed *ask)
+{
+    return ind_point_at(ask->bytes[0], ask->length[0],
+                        ask->numbers[0], ask->numbers[1]);
+}
+
+static ind_coordinate ask_coordinate(const posed *ask)
+{
+    return ind_coordinate_at(ask->bytes[0], ask->length[0],
+                             ask->numbers[0], ask->numbers[1]);
+}
+
+static ind_record ask_record(const posed *ask)
+{
+    return ind_record_at(ask->bytes[0], ask->length[0],
+                         ask->numbers[0]);
+}
+
+static ind_routes ask_routes(const posed *ask)
+{
+    static ind_walks walks;
+    return ind_routes_from(ask->bytes[0], ask->length[0],
+                           ask->numbers[0], ask->numbers[1], ask->numbers[2],
+                           route_words, ask->numbers[3], &walks);
+}
+
+static ind_answer ask_pair(const posed *ask)
+{
+    return ind_pair(ask->bytes[0], ask->length[0], ask->bytes[1],
+                    ask->length[1]);
+}
+
+ind_answer answer_case(const posed *ask)
+{
+    switch (ask->question) {
+    case ASK_X1: return ind_x1(ask->bytes[0], ask->length[0]);
+    case ASK_X2: return ind_x2(ask->bytes[0], ask->length[0]);
+    case ASK_PAIR: return ask_pair(ask);
+    case ASK_TRACK: return ask_track(ask).answer;
+    case ASK_POINT: return ask_point(ask).answer;
+    case ASK_COORDINATE: return ask_coordinate(ask).answer;
+    case ASK_RECORD: return ask_record(ask).answer;
+    default: return ask_routes(ask).answer;
+    }
+}
+
+void print_answer(FILE *output, const posed *ask)
+{
+    ind_track track;
+    ind_point point;
+    ind_coordinate coordinate;
+    ind_record record;
+    ind_routes routes;
+    switch (ask->question) {
+    case ASK_X1:
+    case ASK_X2:
+        answer_line(output, answer_case(ask));
+        break;
+    case ASK_PAIR:
+        pair_line(output, ask_pair(ask));
+        break;
+    case ASK_TRACK:
+        track = ask_track(ask);
+        print_track(output, &track);
+        break;
+    case ASK_POINT:
+        point = ask_point(ask);
+        print_point(output, &point);
+        break;
+    case ASK_COORDINATE:
+        coordinate = ask_coordinate(ask);
+        print_coordinate(output, &coordinate);
+        break;
+    case ASK_RECORD:
+        record = ask_record(ask);
+        print_record(output, ask->bytes[0], &record);
+        break;
+    default:
+        routes = ask_routes(ask);
+        print_routes(output, &routes);
+        break;
+    }
+}
+
+int command_answer(int count, char **words)
+{
+    static asked ask;
+    reading got;
+    (void)count;
+    (void)words;
+    while ((got = read_case(stdin, &ask)) == READ_WHOLE) {
+        posed given = pose(&ask);
+        print_answer(stdout, &given);
+        putc('\n', stdout);
+    }
+    fflush(stdout);
+    if (got == READ_CUT_OFF)
+        fputs("independent: the input ends inside a case\n", stderr);
+    if (got == READ_UNKNOWN_QUESTION)
+        fputs("independent: a case asks an unknown question\n", stderr);
+    if (got == READ_ROOM_TOO_LARGE)
+        fputs("independent: a case lends more than 65535 words\n", stderr);
+    return got == READ_NOTHING_MORE ? RUN_WELL : RUN_BAD;
+}

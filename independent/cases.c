@@ -1,0 +1,301 @@
+/* The generator's cases: right, damaged, joined and random files, and good
+ * and bad indexes, offsets and positions. */
+#include "cases.h"
+
+#include <stdlib.h>
+#include <string.h>
+
+#include "commands.h"
+#include "damage.h"
+#include "questions.h"
+
+/* The seeds of two cases that follow each other are so far apart. */
+#define BETWEEN_CASES UINT64_C(0x2545F491)
+
+/* Large files are rare; each costs as much as a hundred others. */
+static size_wanted some_size(source *from, const wanted *kinds)
+{
+    if (kinds->small)
+        return SIZE_SMALL;
+    if (once_in(from, 120))
+        return SIZE_LARGE;
+    return once_in(from, 5) ? SIZE_MIDDLE : SIZE_SMALL;
+}
+
+static uint32_t some_station(source *from)
+{
+    static const uint32_t values[] = { 1, 2, 255, 256, 65535 };
+    return once_in(from, 2) ? ONE_OF(from, values) : 1 + draw(from, 65535);
+}
+
+/* A right X.1. */
+static void right_geography(source *from, const wanted *kinds, stored *file)
+{
+    size_wanted size = some_size(from, kinds);
+    uint32_t station = some_station(from);
+    make_geography(from, size, station, file);
+}
+
+/* A right X.2. */
+static void right_application(source *from, const wanted *kinds, stored *file)
+{
+    static yard made;
+    size_wanted size = some_size(from, kinds);
+    uint32_t station = some_station(from);
+    make_yard(from, size, station, &made);
+    lay_out(&made, NULL, file);
+}
+
+/* A place to cut a file at: a record's start, the header's end or any. */
+static uint32_t some_cut(source *from, const stored *file)
+{
+    ind_layout layout;
+    uint32_t end = file->length - IND_CHECKSUM_SIZE;
+    if (once_in(from, 4)
+        || ind_application_layout(file->bytes, end, &layout).number
+            != IND_ACCEPTED)
+        return draw(from, end);
+    if (once_in(from, 4))
+        return layout.header;
+    return some_start(from, file);
+}
+
+/* The head of one data version with the tail of another in which one joint
+ * was added: cut at one place of both, or where the same object stands. */
+static void joined_application(source *from, const wanted *kinds,
+                               stored *file)
+{
+    static yard made;
+    static stored versions[2];
+    size_wanted size = some_size(from, kinds);
+    uint32_t station = some_station(from);
+    uint32_t head = draw(from, 2);
+    const stored *tail = &versions[1 - head];
+    uint32_t cut, resumed;
+    make_yard(from, size, station, &made);
+    lay_out(&made, NULL, &versions[0]);
+    add_joint(from, &made);
+    lay_out(&made, NULL, &versions[1]);
+    cut = some_cut(from, &versions[head]);
+    resumed = cut;
+    if (once_in(from, 2))
+        resumed = head == 0 ? cut + IND_JOINT_SIZE : cut - IND_JOINT_SIZE;
+    if (resumed > tail->length)
+        resumed = cut < tail->length ? cut : tail->length;
+    memcpy(file->bytes, versions[head].bytes, cut);
+    file->length = cut + tail->length - resumed;
+    memcpy(file->bytes + cut, tail->bytes + resumed, tail->length - resumed);
+    if (!once_in(from, 4))
+        seal(file);
+}
+
+/* One or two fields changed, or the layout, or both. */
+static void damage_aimed(source *from, int application, stored *file)
+{
+    /* Of ten, so many with one field alone, with two, with the layout. */
+    enum { ONE_FIELD = 6, TWO_FIELDS = 8, LAYOUT_FROM = 7 };
+    uint32_t choice = draw(from, 10);
+    uint32_t pokes = choice < ONE_FIELD ? 1 : choice < TWO_FIELDS ? 2 : 0;
+    while (pokes-- > 0) {
+        if (application)
+            poke_application(from, file);
+        else
+            poke_geography(from, file);
+    }
+    if (choice < LAYOUT_FROM)
+        return;
+    if (application)
+        break_application(from, file);
+    else
+        break_geography(from, file);
+}
+
+/* Damages a right file in one of many ways; the checksum is mostly
+ * repaired, so that the fault behind it is reached. */
+void spoil(source *from, int application, stored *file)
+{
+    /* Of a hundred, up to which number each way is taken. */
+    enum { AIMED = 72, FLIPPED = 84, CUT = 92, TOO_LONG = 94, RANDOM = 97 };
+    uint32_t choice = draw(from, 100);
+    if (choice < AIMED)
+        damage_aimed(from, application, file);
+    else if (choice < FLIPPED)
+        flip_bits(from, file);
+    else if (choice < CUT)
+        change_length(from, file);
+    else if (choice < TOO_LONG)
+        over_long(from, file);
+    else if (choice < RANDOM)
+        random_bytes(from, file);
+    else
+        file->bytes[IND_FILE_TYPE_PLACE] ^= IND_X1_TYPE ^ IND_X2_TYPE;
+    if (!once_in(from, 25))
+        seal(file);
+}
+
+static void ask_verdict(source *from, const wanted *kinds, asked *ask)
+{
+    int application = ask->question == ASK_X2;
+    stored *file = &ask->files[0];
+    if (application && once_in(from, 8)) {
+        joined_application(from, kinds, file);
+        return;
+    }
+    if (application)
+        right_application(from, kinds, file);
+    else
+        right_geography(from, kinds, file);
+    if (!once_in(from, 4))
+        spoil(from, application, file);
+}
+
+/* A station: two right files that agree, then perhaps damage. */
+static void ask_pair(source *from, const wanted *kinds, asked *ask)
+{
+    static yard made;
+    uint32_t station = some_station(from);
+    size_wanted size = some_size(from, kinds);
+    size_wanted other_size = some_size(from, kinds);
+    /* Of a hundred, up to which number each damage is done. */
+    enum { DISAGREEING = 55, X1_FROM = 45, X1_TO = 60, X2_FROM = 50,
+           X2_TO = 75 };
+    uint32_t choice = draw(from, 100);
+    uint32_t damages = 1 + draw(from, 2);
+    make_geography(from, size, station, &ask->files[0]);
+    make_yard(from, other_size, station, &made);
+    lay_out(&made, &ask->files[0], &ask->files[1]);
+    if (choice < DISAGREEING) {
+        while (damages-- > 0)
+            damage_pair(from, &ask->files[0], &ask->files[1]);
+        seal(&ask->files[1]);
+    }
+    if (choice >= X1_FROM && choice < X1_TO)
+        spoil(from, 0, &ask->files[0]);
+    if (choice >= X2_FROM && choice < X2_TO)
+        spoil(from, 1, &ask->files[1]);
+}
+
+static void ask_of_geography(source *from, const wanted *kinds, asked *ask)
+{
+    stored *file = &ask->files[0];
+    right_geography(from, kinds, file);
+    if (ask->question == ASK_TRACK)
+        ask->numbers[0] = some_track_index(from, file);
+    else if (ask->question == ASK_POINT)
+        some_point_index(from, file, ask->numbers);
+    else
+        some_position(from, file, ask->numbers);
+    if (once_in(from, 5))
+        spoil(from, 0, file);
+}
+
+static void ask_record(source *from, const wanted *kinds, asked *ask)
+{
+    stored *file = &ask->files[0];
+    right_application(from, kinds, file);
+    ask->numbers[0] = some_offset(from, file);
+    if (once_in(from, 5))
+        spoil(from, 1, file);
+}
+
+static void ask_routes(source *from, const wanted *kinds, asked *ask)
+{
+    static yard made;
+    stored *file = &ask->files[0];
+    yard_shape shape = (yard_shape)draw(from, YARD_SHAPES);
+    size_wanted size = SIZE_SMALL;
+    uint32_t station = some_station(from);
+    if (!kinds->small && once_in(from, 3)) {
+        size = SIZE_MIDDLE;
+        if (once_in(from, 3))
+            shape = once_in(from, 2) ? YARD_LONG_LINE : YARD_DIAMONDS;
+    }
+    make_route_yard(from, shape, size, station, &made);
+    lay_out(&made, NULL, file);
+    some_listing(from, file, shape == YARD_LONG_LINE, ask->numbers);
+    if (once_in(from, 12))
+        spoil(from, 1, file);
+}
+
+static uint32_t some_question(source *from, const wanted *kinds)
+{
+    uint32_t chosen;
+    do
+        chosen = (uint32_t)draw_between(from, ASK_X1, ASK_ROUTES);
+    while (!kinds->asked_for[chosen]);
+    return chosen;
+}
+
+void build_case(const generation *run, uint64_t index, asked *ask)
+{
+    source seeds = source_from(run->seed);
+    source from = source_from(draw_bits(&seeds) + index * BETWEEN_CASES);
+    memset(ask->numbers, 0, sizeof ask->numbers);
+    ask->files[0].length = 0;
+    ask->files[1].length = 0;
+    ask->question = some_question(&from, &run->kinds);
+    switch (ask->question) {
+    case ASK_X1:
+    case ASK_X2: ask_verdict(&from, &run->kinds, ask); break;
+    case ASK_PAIR: ask_pair(&from, &run->kinds, ask); break;
+    case ASK_RECORD: ask_record(&from, &run->kinds, ask); break;
+    case ASK_ROUTES: ask_routes(&from, &run->kinds, ask); break;
+    default: ask_of_geography(&from, &run->kinds, ask); break;
+    }
+}
+
+/* One KIND word; 0 if there is no such kind. */
+static int want_kind(const char *word, wanted *kinds)
+{
+    if (strcmp(word, "small") == 0) {
+        kinds->small = 1;
+        return 1;
+    }
+    for (uint32_t i = ASK_X1; i < QUESTIONS; i++)
+        if (strcmp(word, question_name(i)) == 0) {
+            kinds->asked_for[i] = 1;
+            return 1;
+        }
+    return 0;
+}
+
+static int read_number(const char *word, uint64_t *number)
+{
+    char *rest;
+    *number = strtoull(word, &rest, 10);
+    return word[0] >= '0' && word[0] <= '9' && *rest == '\0';
+}
+
+int read_generation(int count, char **words, generation *run)
+{
+    int named = 0;
+    memset(run, 0, sizeof *run);
+    if (count < 2 || !read_number(words[0], &run->seed)
+        || !read_number(words[1], &run->count)) {
+        fputs("independent: SEED and COUNT are numbers\n", stderr);
+        return 0;
+    }
+    for (int i = 2; i < count; i++) {
+        if (!want_kind(words[i], &run->kinds)) {
+            fprintf(stderr, "independent: no kind %s\n", words[i]);
+            return 0;
+        }
+        named += strcmp(words[i], "small") != 0;
+    }
+    for (uint32_t i = ASK_X1; named == 0 && i < QUESTIONS; i++)
+        run->kinds.asked_for[i] = 1;
+    return 1;
+}
+
+int command_cases(int count, char **words)
+{
+    static asked ask;
+    generation run;
+    if (!read_generation(count, words, &run))
+        return RUN_BAD;
+    for (uint64_t i = 0; i < run.count; i++) {
+        build_case(&run, i, &ask);
+        write_case(stdout, &ask);
+    }
+    return fflush(stdout) == 0 ? RUN_WELL : RUN_BAD;
+}

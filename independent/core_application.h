@@ -1,0 +1,221 @@
+/* X.2: sizes, places and values of tables 5 to 12, and where the records of
+ * a file stand. */
+#ifndef IND_CORE_APPLICATION_H
+#define IND_CORE_APPLICATION_H
+
+#include "core_bytes.h"
+
+/* Table 5: the header. */
+enum {
+    IND_X2_TYPE = 2,
+    IND_X2_LEAST_LENGTH = 69,
+    IND_STATION_NAME_PLACE = 7,
+    IND_STATION_NAME_SIZE = 16,
+    IND_START_COUNT_PLACE = 23,
+    IND_START_ENTRIES_PLACE = 24,
+    IND_ENTRY_TRACK = 0,
+    IND_ENTRY_OFFSET = 1,
+    IND_ENTRY_SIZE = 3,
+    IND_COUNT_SIZE = 1,
+    IND_GROUPS = 5,
+    IND_GROUPS_SIZE = IND_GROUPS * IND_OFFSET_SIZE
+};
+
+enum {
+    IND_TYPE_PLACE = 0,
+    IND_LARGEST_TRACK = 255
+};
+
+/* Names: object names of 8 bytes, and the station name's two-byte codes. */
+enum {
+    IND_NAME_SIZE = 8,
+    IND_NAME_LEAST = 0x21,
+    IND_NAME_LARGEST = 0x7E,
+    IND_CODE_SIZE = 2,
+    IND_CODE_FIRST_LEAST = 0x81,
+    IND_CODE_FIRST_LARGEST = 0xFE,
+    IND_CODE_SECOND_LEAST = 0x40,
+    IND_CODE_SECOND_GAP = 0x7F,
+    IND_CODE_SECOND_LARGEST = 0xFE
+};
+
+/* Tables 6 and 7: a boundary. */
+enum {
+    IND_BOUNDARY_LINK = 1,
+    IND_BOUNDARY_NEIGHBOUR_STATION = 3,
+    IND_BOUNDARY_NEIGHBOUR_TYPE = 5,
+    IND_BOUNDARY_NEIGHBOUR_TRACK = 6,
+    IND_BOUNDARY_POSITION = 7,
+    IND_BOUNDARY_TRACK = 11,
+    IND_BOUNDARY_SIZE = 12
+};
+
+enum {
+    IND_UP_START = 0x00,
+    IND_DOWN_START = 0x01,
+    IND_UP_END = 0xFF,
+    IND_DOWN_END = 0xFE,
+    IND_NEIGHBOUR_UNKNOWN = 0x55
+};
+
+/* Table 8: a turnout. */
+enum {
+    IND_TURNOUT_TYPE = 0x06,
+    IND_TURNOUT_NUMBER = 1,
+    IND_TURNOUT_DIRECTION = 2,
+    IND_TURNOUT_TIP_POSITION = 3,
+    IND_TURNOUT_NORMAL_POSITION = 7,
+    IND_TURNOUT_REVERSE_POSITION = 11,
+    IND_TURNOUT_FRONT = 15,
+    IND_TURNOUT_NORMAL = 17,
+    IND_TURNOUT_REVERSE = 19,
+    IND_TURNOUT_FRONT_TRACK = 21,
+    IND_TURNOUT_NORMAL_TRACK = 22,
+    IND_TURNOUT_REVERSE_TRACK = 23,
+    IND_TURNOUT_SIZE = 24,
+    IND_TURNOUT_LARGEST_DIRECTION = 1
+};
+
+/* Table 9: a balise. */
+enum {
+    IND_BALISE_TYPE = 0x33,
+    IND_BALISE_PREVIOUS = 1,
+    IND_BALISE_NEXT = 3,
+    IND_BALISE_NUMBER = 5,
+    IND_BALISE_SIZE_BYTE = 8,
+    IND_BALISE_ATTRIBUTE = 9,
+    IND_BALISE_POSITION = 10,
+    IND_BALISE_TRACK = 14,
+    IND_BALISE_GROUP = 15,
+    IND_BALISE_MESSAGE = 16,
+    IND_BALISE_PLAIN_SIZE = 16,
+    IND_BALISE_LEAST_WITH_MESSAGE = 18,
+    IND_BALISE_LARGEST = 120
+};
+
+/* The attribute byte: nature in the low two bits, direction in the top two. */
+enum {
+    IND_NATURE_BITS = 0x03,
+    IND_DIRECTION_SHIFT = 6,
+    IND_ATTRIBUTE_VIRTUAL_OPPOSITE = 0x40,
+    IND_ATTRIBUTE_PHYSICAL_OPPOSITE = 0x41,
+    IND_ATTRIBUTE_VIRTUAL_SAME = 0x80,
+    IND_ATTRIBUTE_PHYSICAL_SAME = 0x81
+};
+
+/* The group byte: place minus 1 low, count minus 1 on top. */
+enum {
+    IND_GROUP_PLACE_BITS = 0x07,
+    IND_GROUP_MIDDLE_BITS = 0x18,
+    IND_GROUP_COUNT_SHIFT = 5
+};
+
+enum {
+    IND_MESSAGE_LAST = 0xFF
+};
+
+/* Tables 10 and 11: a signal and a joint are alike up to the track. */
+enum {
+    IND_SIGNAL_TYPE = 0xC3,
+    IND_JOINT_TYPE = 0xC6,
+    IND_SIGNAL_PREVIOUS = 1,
+    IND_SIGNAL_NEXT = 3,
+    IND_SIGNAL_NAME = 5,
+    IND_SIGNAL_POSITION = 13,
+    IND_SIGNAL_TRACK = 17,
+    IND_SIGNAL_BYTE = 18,
+    IND_SIGNAL_SIZE = 19,
+    IND_JOINT_PREVIOUS = 1,
+    IND_JOINT_NEXT = 3,
+    IND_JOINT_NAME = 5,
+    IND_JOINT_POSITION = 13,
+    IND_JOINT_TRACK = 17,
+    IND_JOINT_SIZE = 18
+};
+
+/* The signal byte: direction on top, type low. */
+enum {
+    IND_SIGNAL_DIRECTION_SHIFT = 6,
+    IND_SIGNAL_LARGEST_DIRECTION = 2,
+    IND_SIGNAL_MIDDLE_BITS = 0x30,
+    IND_SIGNAL_TYPE_BITS = 0x0F,
+    IND_SIGNAL_LEAST_TYPE = 1,
+    IND_SIGNAL_LARGEST_TYPE = 5
+};
+
+/* Table 12: a siding. */
+enum {
+    IND_SIDING_TYPE = 0xCC,
+    IND_SIDING_NAME = 1,
+    IND_SIDING_TRACK = 9,
+    IND_SIDING_UP_BALISE = 10,
+    IND_SIDING_UP_SIGNAL = 13,
+    IND_SIDING_DOWN_BALISE = 21,
+    IND_SIDING_DOWN_SIGNAL = 24,
+    IND_SIDING_SIZE = 32
+};
+
+/* Where the records stand: for each kind the place of its first record and
+ * the place behind its last, equal where there is none. */
+typedef struct {
+    uint32_t starts;
+    uint32_t ends;
+    uint32_t header;
+    uint32_t end;
+    uint32_t from[IND_KINDS];
+    uint32_t to[IND_KINDS];
+} ind_layout;
+
+/* Check 6 and, where it passes, the layout. */
+ind_answer ind_application_layout(const uint8_t *file, uint32_t end,
+                                  ind_layout *layout);
+
+/* In a file whose layout is right: */
+
+/* The header's entry of a boundary, counted through starts and ends. */
+uint32_t ind_entry_place(const ind_layout *layout, uint32_t boundary);
+
+/* A record: its kind and where it starts. Behind the last record the kind
+ * is IND_NO_KIND. */
+typedef struct {
+    ind_kind kind;
+    uint32_t start;
+} ind_object;
+
+ind_object ind_first_record(const ind_layout *layout);
+ind_object ind_next_record(const uint8_t *file, const ind_layout *layout,
+                           ind_object record);
+
+/* The kind whose records stand at a place, IND_NO_KIND in the header and
+ * from End on. */
+ind_kind ind_kind_at(const ind_layout *layout, uint32_t place);
+
+uint32_t ind_record_size(const uint8_t *file, ind_object record);
+
+/* A start or an end boundary. */
+static inline int ind_is_boundary(ind_kind kind)
+{
+    return kind == IND_START_BOUNDARY || kind == IND_END_BOUNDARY;
+}
+
+/* Links of a record in field order. */
+uint32_t ind_links(ind_kind kind);
+uint32_t ind_link_place(ind_object record, uint32_t index);
+
+/* A balise's place in its group. */
+uint32_t ind_balise_place(const uint8_t *file, uint32_t balise);
+uint32_t ind_balise_count(const uint8_t *file, uint32_t balise);
+
+/* Checks 5 and 7, then 8 and 9. */
+ind_answer ind_application_fields(const uint8_t *file,
+                                  const ind_layout *layout);
+ind_answer ind_application_agreement(const uint8_t *file,
+                                     const ind_layout *layout);
+ind_answer ind_link_targets(const uint8_t *file, const ind_layout *layout);
+ind_answer ind_link_returns(const uint8_t *file, const ind_layout *layout);
+
+/* The whole verdict; the layout is set where it is 0. */
+ind_answer ind_application(const uint8_t *file, size_t length,
+                           ind_layout *layout);
+
+#endif

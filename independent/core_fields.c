@@ -1,0 +1,266 @@
+/* 01, X.2's 'Fields' and 'Agreement'. A record's fault is given as the
+ * field's place in the record. */
+#include "core_application.h"
+
+static int all_zero(const uint8_t *bytes, uint32_t from, uint32_t size)
+{
+    while (from < size && bytes[from] == 0)
+        from++;
+    return from == size;
+}
+
+/* One or more bytes 0x21 to 0x7E, then only 0x00. */
+static int name_right(const uint8_t *name)
+{
+    uint32_t used = 0;
+    while (used < IND_NAME_SIZE && name[used] >= IND_NAME_LEAST
+           && name[used] <= IND_NAME_LARGEST)
+        used++;
+    return used > 0 && all_zero(name, used, IND_NAME_SIZE);
+}
+
+/* A siding's exit signal may have no name at all. */
+static int exit_name_right(const uint8_t *name)
+{
+    return all_zero(name, 0, IND_NAME_SIZE) || name_right(name);
+}
+
+static int code_right(const uint8_t *code)
+{
+    return code[0] >= IND_CODE_FIRST_LEAST
+        && code[0] <= IND_CODE_FIRST_LARGEST
+        && code[1] >= IND_CODE_SECOND_LEAST
+        && code[1] <= IND_CODE_SECOND_LARGEST
+        && code[1] != IND_CODE_SECOND_GAP;
+}
+
+/* One to eight two-byte codes, then zeros. */
+static int station_name_right(const uint8_t *name)
+{
+    uint32_t used = 0;
+    while (used < IND_STATION_NAME_SIZE && code_right(name + used))
+        used += IND_CODE_SIZE;
+    return used > 0 && all_zero(name, used, IND_STATION_NAME_SIZE);
+}
+
+static int position_right(const uint8_t *record, uint32_t field)
+{
+    return ind_four(record, field) <= IND_LARGEST_POSITION;
+}
+
+static int start_type(uint8_t type)
+{
+    return type == IND_UP_START || type == IND_DOWN_START;
+}
+
+static int end_type(uint8_t type)
+{
+    return type == IND_UP_END || type == IND_DOWN_END;
+}
+
+static uint32_t boundary_fault(const uint8_t *boundary, ind_kind kind)
+{
+    uint8_t type = boundary[IND_TYPE_PLACE];
+    uint8_t neighbour = boundary[IND_BOUNDARY_NEIGHBOUR_TYPE];
+    if (kind == IND_START_BOUNDARY ? !start_type(type) : !end_type(type))
+        return IND_TYPE_PLACE;
+    if (!start_type(neighbour) && !end_type(neighbour)
+        && neighbour != IND_NEIGHBOUR_UNKNOWN)
+        return IND_BOUNDARY_NEIGHBOUR_TYPE;
+    if (!position_right(boundary, IND_BOUNDARY_POSITION))
+        return IND_BOUNDARY_POSITION;
+    if (boundary[IND_BOUNDARY_TRACK] == 0)
+        return IND_BOUNDARY_TRACK;
+    return IND_NO_FAULT;
+}
+
+static uint32_t turnout_fault(const uint8_t *turnout)
+{
+    if (turnout[IND_TYPE_PLACE] != IND_TURNOUT_TYPE)
+        return IND_TYPE_PLACE;
+    if (turnout[IND_TURNOUT_NUMBER] == 0)
+        return IND_TURNOUT_NUMBER;
+    if (turnout[IND_TURNOUT_DIRECTION] > IND_TURNOUT_LARGEST_DIRECTION)
+        return IND_TURNOUT_DIRECTION;
+    if (!position_right(turnout, IND_TURNOUT_TIP_POSITION))
+        return IND_TURNOUT_TIP_POSITION;
+    if (!position_right(turnout, IND_TURNOUT_NORMAL_POSITION))
+        return IND_TURNOUT_NORMAL_POSITION;
+    if (!position_right(turnout, IND_TURNOUT_REVERSE_POSITION))
+        return IND_TURNOUT_REVERSE_POSITION;
+    if (turnout[IND_TURNOUT_FRONT_TRACK] == 0)
+        return IND_TURNOUT_FRONT_TRACK;
+    if (turnout[IND_TURNOUT_NORMAL_TRACK] == 0)
+        return IND_TURNOUT_NORMAL_TRACK;
+    if (turnout[IND_TURNOUT_REVERSE_TRACK] == 0)
+        return IND_TURNOUT_REVERSE_TRACK;
+    return IND_NO_FAULT;
+}
+
+static int attribute_right(uint8_t attribute)
+{
+    return attribute == IND_ATTRIBUTE_VIRTUAL_OPPOSITE
+        || attribute == IND_ATTRIBUTE_PHYSICAL_OPPOSITE
+        || attribute == IND_ATTRIBUTE_VIRTUAL_SAME
+        || attribute == IND_ATTRIBUTE_PHYSICAL_SAME;
+}
+
+static uint32_t balise_fault(const uint8_t *balise)
+{
+    uint32_t size = balise[IND_BALISE_SIZE_BYTE];
+    if (balise[IND_TYPE_PLACE] != IND_BALISE_TYPE)
+        return IND_TYPE_PLACE;
+    if (ind_three(balise, IND_BALISE_NUMBER) == IND_NO_BALISE)
+        return IND_BALISE_NUMBER;
+    if (!attribute_right(balise[IND_BALISE_ATTRIBUTE]))
+        return IND_BALISE_ATTRIBUTE;
+    if (!position_right(balise, IND_BALISE_POSITION))
+        return IND_BALISE_POSITION;
+    if (balise[IND_BALISE_TRACK] == 0)
+        return IND_BALISE_TRACK;
+    if (balise[IND_BALISE_GROUP] & IND_GROUP_MIDDLE_BITS)
+        return IND_BALISE_GROUP;
+    if (size > IND_BALISE_PLAIN_SIZE && balise[size - 1] != IND_MESSAGE_LAST)
+        return IND_BALISE_MESSAGE;
+    return IND_NO_FAULT;
+}
+
+static int signal_byte_right(uint8_t value)
+{
+    uint32_t type = value & IND_SIGNAL_TYPE_BITS;
+    return value >> IND_SIGNAL_DIRECTION_SHIFT <= IND_SIGNAL_LARGEST_DIRECTION
+        && (value & IND_SIGNAL_MIDDLE_BITS) == 0
+        && type >= IND_SIGNAL_LEAST_TYPE && type <= IND_SIGNAL_LARGEST_TYPE;
+}
+
+static uint32_t signal_fault(const uint8_t *signal)
+{
+    if (signal[IND_TYPE_PLACE] != IND_SIGNAL_TYPE)
+        return IND_TYPE_PLACE;
+    if (!name_right(signal + IND_SIGNAL_NAME))
+        return IND_SIGNAL_NAME;
+    if (!position_right(signal, IND_SIGNAL_POSITION))
+        return IND_SIGNAL_POSITION;
+    if (signal[IND_SIGNAL_TRACK] == 0)
+        return IND_SIGNAL_TRACK;
+    if (!signal_byte_right(signal[IND_SIGNAL_BYTE]))
+        return IND_SIGNAL_BYTE;
+    return IND_NO_FAULT;
+}
+
+static uint32_t joint_fault(const uint8_t *joint)
+{
+    if (joint[IND_TYPE_PLACE] != IND_JOINT_TYPE)
+        return IND_TYPE_PLACE;
+    if (!name_right(joint + IND_JOINT_NAME))
+        return IND_JOINT_NAME;
+    if (!position_right(joint, IND_JOINT_POSITION))
+        return IND_JOINT_POSITION;
+    if (joint[IND_JOINT_TRACK] == 0)
+        return IND_JOINT_TRACK;
+    return IND_NO_FAULT;
+}
+
+static uint32_t siding_fault(const uint8_t *siding)
+{
+    if (siding[IND_TYPE_PLACE] != IND_SIDING_TYPE)
+        return IND_TYPE_PLACE;
+    if (!name_right(siding + IND_SIDING_NAME))
+        return IND_SIDING_NAME;
+    if (siding[IND_SIDING_TRACK] == 0)
+        return IND_SIDING_TRACK;
+    if (!exit_name_right(siding + IND_SIDING_UP_SIGNAL))
+        return IND_SIDING_UP_SIGNAL;
+    if (!exit_name_right(siding + IND_SIDING_DOWN_SIGNAL))
+        return IND_SIDING_DOWN_SIGNAL;
+    return IND_NO_FAULT;
+}
+
+static uint32_t record_fault(const uint8_t *record, ind_kind kind)
+{
+    switch (kind) {
+    case IND_TURNOUT: return turnout_fault(record);
+    case IND_BALISE: return balise_fault(record);
+    case IND_SIGNAL: return signal_fault(record);
+    case IND_JOINT: return joint_fault(record);
+    case IND_SIDING: return siding_fault(record);
+    default: return boundary_fault(record, kind);
+    }
+}
+
+static uint32_t header_fault(const uint8_t *file, const ind_layout *layout)
+{
+    uint32_t fault = ind_opening_field_fault(file);
+    if (fault != IND_NO_FAULT)
+        return fault;
+    if (!station_name_right(file + IND_STATION_NAME_PLACE))
+        return IND_STATION_NAME_PLACE;
+    for (uint32_t i = 0; i < layout->starts + layout->ends; i++) {
+        uint32_t field = ind_entry_place(layout, i) + IND_ENTRY_TRACK;
+        if (file[field] == 0)
+            return field;
+    }
+    return IND_NO_FAULT;
+}
+
+ind_answer ind_application_fields(const uint8_t *file,
+                                  const ind_layout *layout)
+{
+    uint32_t fault = header_fault(file, layout);
+    if (fault != IND_NO_FAULT)
+        return ind_says(IND_FIELD, fault);
+    for (ind_object record = ind_first_record(layout);
+         record.kind != IND_NO_KIND;
+         record = ind_next_record(file, layout, record)) {
+        fault = record_fault(file + record.start, record.kind);
+        if (fault != IND_NO_FAULT)
+            return ind_says(IND_FIELD, record.start + fault);
+    }
+    return ind_says(IND_ACCEPTED, 0);
+}
+
+uint32_t ind_balise_place(const uint8_t *file, uint32_t balise)
+{
+    return (file[balise + IND_BALISE_GROUP] & IND_GROUP_PLACE_BITS) + 1u;
+}
+
+uint32_t ind_balise_count(const uint8_t *file, uint32_t balise)
+{
+    return (file[balise + IND_BALISE_GROUP] >> IND_GROUP_COUNT_SHIFT) + 1u;
+}
+
+/* A header boundary's track equals its record's. */
+static uint32_t header_track_fault(const uint8_t *file,
+                                   const ind_layout *layout)
+{
+    uint32_t boundary = layout->header;
+    for (uint32_t i = 0; i < layout->starts + layout->ends; i++) {
+        uint32_t field = ind_entry_place(layout, i) + IND_ENTRY_TRACK;
+        if (file[field] != file[boundary + IND_BOUNDARY_TRACK])
+            return field;
+        boundary += IND_BOUNDARY_SIZE;
+    }
+    return IND_NO_FAULT;
+}
+
+/* A balise's place is at most its count. */
+static uint32_t group_byte_fault(const uint8_t *file,
+                                 const ind_layout *layout)
+{
+    uint32_t balise = layout->from[IND_BALISE];
+    while (balise < layout->to[IND_BALISE]) {
+        if (ind_balise_place(file, balise) > ind_balise_count(file, balise))
+            return balise + IND_BALISE_GROUP;
+        balise += file[balise + IND_BALISE_SIZE_BYTE];
+    }
+    return IND_NO_FAULT;
+}
+
+ind_answer ind_application_agreement(const uint8_t *file,
+                                     const ind_layout *layout)
+{
+    uint32_t fault = header_track_fault(file, layout);
+    if (fault == IND_NO_FAULT)
+        fault = group_byte_fault(file, layout);
+    return ind_unless(fault, IND_AGREEMENT);
+}
