@@ -18,7 +18,7 @@ use Rattle.verdict.specs.Facts.{Fact, AllHold, Holds, firstFault}
 use Rattle.verdict.specs.declared.Judged.the-variants.{Accepted}
 use Rattle.verdict.proofs.Facts.{accepted-iff, all-append, all-each}
 use Rattle.verdict.proofs.Steps.{Stands, fixed-iff}
-use Rattle.geography.specs.Places as place
+use Rattle.tracks.specs.Places as place
 use Rattle.geography.specs.Layout.{endOf, countOf, pointsAt, entries, firstOf, lastOf, isFirst, stopBefore, dueAt, entryLayout, countLayout, stopLayout, layoutFacts}
 use Rattle.geography.specs.Fields.{headerFields, entryFields, pointFields, allPoints, fieldFacts}
 use Rattle.geography.specs.Agreement.{sumOf, numberAgrees, opens, rises, stays, closes, pointAgrees, pointsOf, trackAgrees, agreementFacts}

@@ -15,7 +15,7 @@ use Rattle.verdict.specs.Walk.{startsFrom}
 use Rattle.verdict.specs.declared.Reason.the-variants as reason
 use Rattle.verdict.specs.declared.Rule.the-variants as rule
 use Rattle.rules.specs.Rules.{zeroAt, sameAs, above}
-use Rattle.geography.specs.Places.{entrySize, number, startLatitude, startLongitude, endPosition, endLatitude, endLongitude, position, latitude, longitude, near, latitudeMost, longitudeMost}
+use Rattle.tracks.specs.Places.{entrySize, number, startLatitude, startLongitude, endPosition, endLatitude, endLongitude, position, latitude, longitude, near, latitudeMost, longitudeMost}
 use Rattle.geography.specs.Layout.{isFirst, firstOf, lastOf, entries}
 
 -- a start, at `base`, plus an increment, at `field`

@@ -11,7 +11,7 @@ use Rattle.verdict.specs.declared.Judged.{Judged}
 use Rattle.verdict.specs.declared.Verdict.{Verdict}
 use Rattle.verdict.specs.declared.Reason.the-variants as reason
 use Rattle.rules.specs.Rules.{lengthBetween, isNumber}
-use Rattle.geography.specs.Places.{leastLength, mostLength, typeAt, structureAt, pointSize}
+use Rattle.tracks.specs.Places.{leastLength, mostLength, typeAt, structureAt, pointSize}
 use Rattle.geography.specs.Layout.{endOf, layoutFacts}
 use Rattle.geography.specs.Fields.{fieldFacts}
 use Rattle.geography.specs.Agreement.{agreementFacts}

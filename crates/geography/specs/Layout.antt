@@ -11,7 +11,7 @@ use Rattle.verdict.specs.Facts.{Fact}
 use Rattle.verdict.specs.Walk.{startsFrom}
 use Rattle.verdict.specs.declared.Reason.the-variants as reason
 use Rattle.rules.specs.Rules.{isNumber, between, fits, whole, endsAt}
-use Rattle.geography.specs.Places.{countAt, entriesAt, entrySize, firstPoint, lastPoint}
+use Rattle.tracks.specs.Places.{countAt, entriesAt, entrySize, firstPoint, lastPoint}
 
 -- 'End': the length without the checksum
 abbrev pub endOf : List ℕ → ℕ

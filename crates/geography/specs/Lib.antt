@@ -1,4 +1,3 @@
-pub mod Places
 pub mod Layout
 pub mod Fields
 pub mod Agreement

@@ -8,7 +8,7 @@ use lib.ListN.{length, take}
 use lib.IntN.{ℤ, natAbs}
 use Rattle.octets.specs.Octets.{numAt, signedAt}
 use Rattle.checksum.specs.Checksum.{checksumOf}
-use Rattle.geography.specs.Places as place
+use Rattle.tracks.specs.Places as place
 use Rattle.geography.specs.Layout.{endOf, countOf, pointsAt, firstOf, lastOf}
 use Rattle.geography.specs.Agreement.{sumOf}
 

@@ -1,0 +1,102 @@
+-- `records::Record::read` meets its contract.
+-- Assumes nothing.
+use Rattle.records.specs.Records.{recordAt}
+use borrow.Author.Needs.{needs}
+use Rattle.records.proofs.Record.read.Statement.{statement}
+use Rattle.records.proofs.Record.read.Tie as tie
+
+enum-told : tie.Need-enum-told
+enum-told c = search needs
+
+read-requires : tie.Need-read-requires
+read-requires c κs = search needs
+
+enum-told-2 : tie.Need-enum-told-2
+enum-told-2 c = search needs
+
+read-requires-2 : tie.Need-read-requires-2
+read-requires-2 c κs = search needs
+
+enum-told-3 : tie.Need-enum-told-3
+enum-told-3 c = search needs
+
+read-requires-3 : tie.Need-read-requires-3
+read-requires-3 c κs = search needs
+
+enum-told-4 : tie.Need-enum-told-4
+enum-told-4 c = search needs
+
+read-requires-4 : tie.Need-read-requires-4
+read-requires-4 c κs = search needs
+
+enum-told-5 : tie.Need-enum-told-5
+enum-told-5 c = search needs
+
+read-requires-5 : tie.Need-read-requires-5
+read-requires-5 c κs = search needs
+
+enum-told-6 : tie.Need-enum-told-6
+enum-told-6 c = search needs
+
+read-requires-6 : tie.Need-read-requires-6
+read-requires-6 c κs = search needs
+
+enum-told-7 : tie.Need-enum-told-7
+enum-told-7 c = search needs
+
+read-requires-7 : tie.Need-read-requires-7
+read-requires-7 c κs = search needs
+
+returns : tie.Need-returns
+unfolding recordAt
+returns c = simp (c .read .ensures, c .before .enum-told .given .1)
+
+returns-2 : tie.Need-returns-2
+unfolding recordAt
+returns-2 c = simp (c .read2 .ensures, c .before .enum-told2 .given .1)
+
+returns-3 : tie.Need-returns-3
+unfolding recordAt
+returns-3 c = simp (c .read3 .ensures, c .before .enum-told3 .given .1)
+
+returns-4 : tie.Need-returns-4
+unfolding recordAt
+returns-4 c = simp (c .read4 .ensures, c .before .enum-told4 .given .1)
+
+returns-5 : tie.Need-returns-5
+unfolding recordAt
+returns-5 c = simp (c .read5 .ensures, c .before .enum-told5 .given .1)
+
+returns-6 : tie.Need-returns-6
+unfolding recordAt
+returns-6 c = simp (c .read6 .ensures, c .before .enum-told6 .given .1)
+
+returns-7 : tie.Need-returns-7
+unfolding recordAt
+returns-7 c = simp (c .read7 .ensures, c .before .enum-told7 .given .1)
+
+pub read-spec : {M : Type 1} → statement M
+read-spec =
+    tie.close
+    (tie.spec
+    enum-told
+    read-requires
+    enum-told-2
+    read-requires-2
+    enum-told-3
+    read-requires-3
+    enum-told-4
+    read-requires-4
+    enum-told-5
+    read-requires-5
+    enum-told-6
+    read-requires-6
+    enum-told-7
+    read-requires-7
+    returns
+    returns-2
+    returns-3
+    returns-4
+    returns-5
+    returns-6
+    returns-7)

@@ -1,0 +1,21 @@
+-- `records::signals::Facing::of` meets its contract.
+-- Assumes nothing.
+use borrow.Author.Tests.{ne-eqb}
+use Rattle.records.specs.Tables.{facingOf}
+use Rattle.records.proofs.signals.Facing.of.Statement.{statement}
+use Rattle.records.proofs.signals.Facing.of.Tie as tie
+
+returns : tie.Need-returns
+unfolding facingOf
+returns c = simp (c .match .keys1)
+
+returns-2 : tie.Need-returns-2
+unfolding facingOf
+returns-2 c = simp (c .match .keys2)
+
+returns-3 : tie.Need-returns-3
+unfolding facingOf
+returns-3 c = simp (ne-eqb _ _ (c .match .rest .0 .1), ne-eqb _ _ (c .match .rest .1))
+
+pub of-spec : {M : Type 1} → statement M
+of-spec = tie.close (tie.spec returns returns-2 returns-3)

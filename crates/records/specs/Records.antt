@@ -1,0 +1,40 @@
+-- The record of a kind that starts at a place. The kind follows from the place in the file, and is given.
+-- Assumes nothing.
+use Prim.Native.Nat.{ℕ, _+_}
+use mathlib.Core.List.{List, [], _∷_}
+use Rattle.records.specs.declared.Kind.{Kind}
+use Rattle.records.specs.declared.Kind.the-variants as kind
+use Rattle.records.specs.declared.Record.{Record}
+use Rattle.records.specs.declared.Record.the-variants as is
+use Rattle.records.specs.Places as place
+use Rattle.records.specs.Tables.{boundaryAt, turnoutAt, baliseAt, signalAt, jointAt, sidingAt}
+
+-- how many bytes a record of a kind has; a balise's message comes on top
+abbrev pub sizeOf : Kind → ℕ
+sizeOf kind.StartBoundary = place.boundarySize
+sizeOf kind.EndBoundary = place.boundarySize
+sizeOf kind.Turnout = place.turnoutSize
+sizeOf kind.Balise = place.baliseSize
+sizeOf kind.Signal = place.signalSize
+sizeOf kind.Joint = place.jointSize
+sizeOf kind.Siding = place.sidingSize
+
+-- where the links of a record stand, in the order of its fields
+abbrev pub linkPlaces : Kind → ℕ → List ℕ
+linkPlaces kind.StartBoundary at = (at + place.boundaryLink) ∷ []
+linkPlaces kind.EndBoundary at = (at + place.boundaryLink) ∷ []
+linkPlaces kind.Turnout at = (at + place.turnoutFront) ∷ (at + place.turnoutNormal) ∷ (at + place.turnoutReverse) ∷ []
+linkPlaces kind.Balise at = (at + place.balisePrevious) ∷ (at + place.baliseNext) ∷ []
+linkPlaces kind.Signal at = (at + place.signalPrevious) ∷ (at + place.signalNext) ∷ []
+linkPlaces kind.Joint at = (at + place.jointPrevious) ∷ (at + place.jointNext) ∷ []
+linkPlaces kind.Siding at = []
+
+-- what the bytes at a place mean, read as a record of a kind
+unfoldable pub recordAt : List ℕ → Kind → ℕ → Record
+recordAt f kind.StartBoundary at = is.StartBoundary (boundaryAt f at)
+recordAt f kind.EndBoundary at = is.EndBoundary (boundaryAt f at)
+recordAt f kind.Turnout at = is.Turnout (turnoutAt f at)
+recordAt f kind.Balise at = is.Balise (baliseAt f at)
+recordAt f kind.Signal at = is.Signal (signalAt f at)
+recordAt f kind.Joint at = is.Joint (jointAt f at)
+recordAt f kind.Siding at = is.Siding (sidingAt f at)

@@ -1,0 +1,182 @@
+// Balises (应答器): table 9. Two of its bytes have parts: a part of a byte is the byte divided by its OVER, modulo its MODULO.
+ghost use mathlib.Core.Path.{_≡_};
+ghost use Rattle.records.specs.Tables.{natureOf, natureNumber, wayOf, wayNumber, placeOf, countOf, baliseAt};
+use crate::byte_of;
+use crate::u16_of;
+use crate::u24_of;
+use crate::u32_of;
+
+// 应答器属性: the low two bits of the attribute byte.
+pub enum Nature {
+    // 0: 虚拟应答器, which stands in the data alone
+    Virtual,
+    // 1: 实体应答器, which lies in the track
+    Physical,
+}
+
+impl Nature {
+    // The nature that an attribute byte gives. Every number but 0 counts as 1; an accepted file has no other.
+    pub fn of(b: usize) -> Self
+        ensures { λ r. ⌜ r ≡ natureOf b ⌝ }
+    {
+        match b / Balise::NATURE_OVER % Balise::NATURE_MODULO {
+            0 => Nature::Virtual,
+            _ => Nature::Physical,
+        }
+    }
+
+    // The table's number.
+    pub fn number(self) -> usize
+        ensures { λ r. ⌜ r ≡ natureNumber self ⌝ }
+    {
+        match self {
+            Nature::Virtual => 0,
+            Nature::Physical => 1,
+        }
+    }
+}
+
+// 所在应答器组方向与位置坐标增加方向关系: the direction of the balise's group against that of rising positions, the top two bits of the
+// attribute byte.
+pub enum Way {
+    // 1: 相反, against rising positions
+    Opposite,
+    // 2: 相同, with rising positions
+    Same,
+}
+
+impl Way {
+    // The way that an attribute byte gives. Every number but 1 counts as 2; an accepted file has no other.
+    pub fn of(b: usize) -> Self
+        ensures { λ r. ⌜ r ≡ wayOf b ⌝ }
+    {
+        match b / Balise::DIRECTION_OVER % Balise::DIRECTION_MODULO {
+            1 => Way::Opposite,
+            _ => Way::Same,
+        }
+    }
+
+    // The table's number.
+    pub fn number(self) -> usize
+        ensures { λ r. ⌜ r ≡ wayNumber self ⌝ }
+    {
+        match self {
+            Way::Opposite => 1,
+            Way::Same => 2,
+        }
+    }
+}
+
+pub struct Balise {
+    // 上一个数据对象的字节偏移: the object before it on its track
+    pub previous: usize,
+    // 下一个数据对象的字节偏移: the object after it
+    pub next: usize,
+    // 应答器编号: the balise's number
+    pub number: usize,
+    // 数据大小: how many bytes the record has, its message with them
+    pub size: usize,
+    // 应答器属性: whether it is virtual or physical
+    pub nature: Nature,
+    // 所在应答器组方向与位置坐标增加方向关系: the way of its group
+    pub direction: Way,
+    // 应答器位置: the position of its middle, in centimetres
+    pub position: usize,
+    // 应答器所在轨道号: its track
+    pub track: usize,
+    // 本应答器在应答器组中的位置: its place in its group, 1 to 8
+    pub place: usize,
+    // 应答器组中所包含的应答器数量: how many balises its group has, 1 to 8
+    pub count: usize,
+    // 应答器报文: where its message stands; a message has size - 16 bytes
+    pub message: usize,
+}
+
+impl Balise {
+    // How many bytes a balise has without its message: with it, 16 + N.
+    pub const SIZE: usize = 16;
+
+    // The type byte.
+    pub const TYPE: usize = 0x33;
+
+    // The number that stands for no balise.
+    pub const NONE: usize = 0xFF_FFFF;
+
+    // Where each field stands, counted from the balise's start.
+    pub const ENTRY: usize = 0;
+
+    pub const PREVIOUS: usize = 1;
+
+    pub const NEXT: usize = 3;
+
+    pub const NUMBER: usize = 5;
+
+    pub const SIZE_BYTE: usize = 8;
+
+    pub const ATTRIBUTE: usize = 9;
+
+    pub const POSITION: usize = 10;
+
+    pub const TRACK: usize = 14;
+
+    pub const GROUP: usize = 15;
+
+    pub const MESSAGE: usize = 16;
+
+    // The parts of the attribute byte.
+    pub const NATURE_OVER: usize = 1;
+
+    pub const NATURE_MODULO: usize = 4;
+
+    pub const DIRECTION_OVER: usize = 64;
+
+    pub const DIRECTION_MODULO: usize = 4;
+
+    // The parts of the group byte; the middle one is 0.
+    pub const PLACE_OVER: usize = 1;
+
+    pub const PLACE_MODULO: usize = 8;
+
+    pub const MIDDLE_OVER: usize = 8;
+
+    pub const MIDDLE_MODULO: usize = 4;
+
+    pub const COUNT_OVER: usize = 32;
+
+    pub const COUNT_MODULO: usize = 8;
+
+    // The place that a group byte gives, 1 to 8.
+    pub fn place_of(b: usize) -> usize
+        ensures { λ r. ⌜ r ≡ placeOf b ⌝ }
+    {
+        b / Self::PLACE_OVER % Self::PLACE_MODULO + 1
+    }
+
+    // The count that a group byte gives, 1 to 8.
+    pub fn count_of(b: usize) -> usize
+        ensures { λ r. ⌜ r ≡ countOf b ⌝ }
+    {
+        b / Self::COUNT_OVER % Self::COUNT_MODULO + 1
+    }
+
+    // The balise that starts at a place.
+    pub fn read(s: &[u8], at: u16) -> Self
+        ensures { λ r. ⌜ r ≡ baliseAt (now (s .entry)) at ⌝ }
+    {
+        let attribute = byte_of(s, at, Self::ATTRIBUTE);
+        let group = byte_of(s, at, Self::GROUP);
+        Balise {
+            previous: u16_of(s, at, Self::PREVIOUS),
+            next: u16_of(s, at, Self::NEXT),
+            number: u24_of(s, at, Self::NUMBER),
+            size: byte_of(s, at, Self::SIZE_BYTE),
+            nature: Nature::of(attribute),
+            direction: Way::of(attribute),
+            position: u32_of(s, at, Self::POSITION),
+            track: byte_of(s, at, Self::TRACK),
+            place: Self::place_of(group),
+            count: Self::count_of(group),
+            message: at as usize + Self::MESSAGE,
+        }
+    }
+}

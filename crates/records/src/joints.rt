@@ -1,0 +1,53 @@
+// Insulated rail joints (绝缘节): table 11.
+ghost use mathlib.Core.Path.{_≡_};
+ghost use Rattle.records.specs.Tables.{jointAt};
+use crate::byte_of;
+use crate::u16_of;
+use crate::u32_of;
+
+pub struct Joint {
+    // 上一个数据对象的字节偏移: the object before it on its track
+    pub previous: usize,
+    // 下一个数据对象的字节偏移: the object after it
+    pub next: usize,
+    // 绝缘节名称: where its name of 8 bytes stands
+    pub name: usize,
+    // 绝缘节位置: its position, in centimetres
+    pub position: usize,
+    // 绝缘节所在轨道号: its track
+    pub track: usize,
+}
+
+impl Joint {
+    // How many bytes a joint has.
+    pub const SIZE: usize = 18;
+
+    // The type byte.
+    pub const TYPE: usize = 0xC6;
+
+    // Where each field stands, counted from the joint's start.
+    pub const ENTRY: usize = 0;
+
+    pub const PREVIOUS: usize = 1;
+
+    pub const NEXT: usize = 3;
+
+    pub const NAME: usize = 5;
+
+    pub const POSITION: usize = 13;
+
+    pub const TRACK: usize = 17;
+
+    // The joint that starts at a place.
+    pub fn read(s: &[u8], at: u16) -> Self
+        ensures { λ r. ⌜ r ≡ jointAt (now (s .entry)) at ⌝ }
+    {
+        Joint {
+            previous: u16_of(s, at, Self::PREVIOUS),
+            next: u16_of(s, at, Self::NEXT),
+            name: at as usize + Self::NAME,
+            position: u32_of(s, at, Self::POSITION),
+            track: byte_of(s, at, Self::TRACK),
+        }
+    }
+}

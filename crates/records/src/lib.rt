@@ -1,0 +1,119 @@
+// The records of a fixed application file (01, 'X.2, fixed application'; the standard's tables 6 to 12), one module for each table: what
+// the bytes at a place mean, read as a record of a kind. The kind follows from the place in the file, so it is given and never taken from
+// the type byte. A place is a 16-bit number, as every offset in the file is, and a byte past the end counts as 0: each reading answers
+// for every file and every place.
+ghost use mathlib.Core.Path.{_≡_};
+ghost use Prim.Native.Nat.{_+_, _<_};
+ghost use Rattle.octets.specs.Octets.{numAt};
+ghost use Rattle.records.specs.Records.{sizeOf, recordAt};
+use octets::byte_at;
+use octets::u16_at;
+use octets::u24_at;
+use octets::u32_at;
+
+mod balises;
+mod boundaries;
+mod joints;
+mod sidings;
+mod signals;
+mod turnouts;
+
+pub use balises::Balise;
+pub use balises::Nature;
+pub use balises::Way;
+pub use boundaries::Boundary;
+pub use joints::Joint;
+pub use sidings::Siding;
+pub use signals::Duty;
+pub use signals::Facing;
+pub use signals::Signal;
+pub use turnouts::Direction;
+pub use turnouts::Turnout;
+
+// What a record is, in stored order.
+pub enum Kind {
+    StartBoundary,
+    EndBoundary,
+    Turnout,
+    Balise,
+    Signal,
+    Joint,
+    Siding,
+}
+
+impl Kind {
+    // How many bytes a record of the kind has; a balise's message comes on top.
+    pub fn size(self) -> usize
+        ensures { λ r. ⌜ r ≡ sizeOf self ⌝ }
+    {
+        match self {
+            Kind::StartBoundary => Boundary::SIZE,
+            Kind::EndBoundary => Boundary::SIZE,
+            Kind::Turnout => Turnout::SIZE,
+            Kind::Balise => Balise::SIZE,
+            Kind::Signal => Signal::SIZE,
+            Kind::Joint => Joint::SIZE,
+            Kind::Siding => Siding::SIZE,
+        }
+    }
+}
+
+// A record, decoded.
+pub enum Record {
+    StartBoundary(Boundary),
+    EndBoundary(Boundary),
+    Turnout(Turnout),
+    Balise(Balise),
+    Signal(Signal),
+    Joint(Joint),
+    Siding(Siding),
+}
+
+impl Record {
+    // The record of a kind that starts at a place.
+    pub fn read(s: &[u8], k: Kind, at: u16) -> Self
+        ensures { λ r. ⌜ r ≡ recordAt (now (s .entry)) k at ⌝ }
+    {
+        match k {
+            Kind::StartBoundary => Record::StartBoundary(Boundary::read(s, at)),
+            Kind::EndBoundary => Record::EndBoundary(Boundary::read(s, at)),
+            Kind::Turnout => Record::Turnout(Turnout::read(s, at)),
+            Kind::Balise => Record::Balise(Balise::read(s, at)),
+            Kind::Signal => Record::Signal(Signal::read(s, at)),
+            Kind::Joint => Record::Joint(Joint::read(s, at)),
+            Kind::Siding => Record::Siding(Siding::read(s, at)),
+        }
+    }
+}
+
+// The field of one byte that stands k bytes behind a record's start.
+fn byte_of(s: &[u8], at: u16, k: usize) -> usize
+    requires { ⌜ k < 256 ⌝ }
+    ensures { λ r. ⌜ r ≡ numAt 1 (now (s .entry)) (at + k) ⌝ }
+{
+    byte_at(s, at as usize + k)
+}
+
+// The field of two bytes.
+fn u16_of(s: &[u8], at: u16, k: usize) -> usize
+    requires { ⌜ k < 256 ⌝ }
+    ensures { λ r. ⌜ r ≡ numAt 2 (now (s .entry)) (at + k) ⌝ }
+{
+    u16_at(s, at as usize + k)
+}
+
+// The field of three bytes.
+fn u24_of(s: &[u8], at: u16, k: usize) -> usize
+    requires { ⌜ k < 256 ⌝ }
+    ensures { λ r. ⌜ r ≡ numAt 3 (now (s .entry)) (at + k) ⌝ }
+{
+    u24_at(s, at as usize + k)
+}
+
+// The field of four bytes.
+fn u32_of(s: &[u8], at: u16, k: usize) -> usize
+    requires { ⌜ k < 256 ⌝ }
+    ensures { λ r. ⌜ r ≡ numAt 4 (now (s .entry)) (at + k) ⌝ }
+{
+    u32_at(s, at as usize + k)
+}

@@ -1,0 +1,57 @@
+// Sidings (股道): table 12. A siding is no object of its track: it has no link and no position.
+ghost use mathlib.Core.Path.{_≡_};
+ghost use Rattle.records.specs.Tables.{sidingAt};
+use crate::byte_of;
+use crate::u24_of;
+
+pub struct Siding {
+    // 股道名称: where its name of 8 bytes stands
+    pub name: usize,
+    // 股道所在轨道号: its track
+    pub track: usize,
+    // 上行出站应答器编号: the number of the exit balise on the up side, Balise::NONE for none
+    pub up_balise: usize,
+    // 上行出站信号机名称: where the name of the exit signal on the up side stands, 8 bytes, all 0 for none
+    pub up_signal: usize,
+    // 下行出站应答器编号: the same of the down side
+    pub down_balise: usize,
+    // 下行出站信号机名称: the same of the down side
+    pub down_signal: usize,
+}
+
+impl Siding {
+    // How many bytes a siding has.
+    pub const SIZE: usize = 32;
+
+    // The type byte.
+    pub const TYPE: usize = 0xCC;
+
+    // Where each field stands, counted from the siding's start.
+    pub const ENTRY: usize = 0;
+
+    pub const NAME: usize = 1;
+
+    pub const TRACK: usize = 9;
+
+    pub const UP_BALISE: usize = 10;
+
+    pub const UP_SIGNAL: usize = 13;
+
+    pub const DOWN_BALISE: usize = 21;
+
+    pub const DOWN_SIGNAL: usize = 24;
+
+    // The siding that starts at a place.
+    pub fn read(s: &[u8], at: u16) -> Self
+        ensures { λ r. ⌜ r ≡ sidingAt (now (s .entry)) at ⌝ }
+    {
+        Siding {
+            name: at as usize + Self::NAME,
+            track: byte_of(s, at, Self::TRACK),
+            up_balise: u24_of(s, at, Self::UP_BALISE),
+            up_signal: at as usize + Self::UP_SIGNAL,
+            down_balise: u24_of(s, at, Self::DOWN_BALISE),
+            down_signal: at as usize + Self::DOWN_SIGNAL,
+        }
+    }
+}

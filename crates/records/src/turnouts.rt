@@ -1,0 +1,113 @@
+// Turnouts (道岔): table 8.
+ghost use mathlib.Core.Path.{_≡_};
+ghost use Rattle.records.specs.Tables.{directionOf, directionNumber, turnoutAt};
+use crate::byte_of;
+use crate::u16_of;
+use crate::u32_of;
+
+// 方向: the direction in which a turnout opens, on the track of its tip.
+pub enum Direction {
+    // 0: with falling positions
+    Decreasing,
+    // 1: with rising positions
+    Increasing,
+}
+
+impl Direction {
+    // The direction that a byte gives. Every byte but 0 counts as 1; an accepted file has no other.
+    pub fn of(b: usize) -> Self
+        ensures { λ r. ⌜ r ≡ directionOf b ⌝ }
+    {
+        match b {
+            0 => Direction::Decreasing,
+            _ => Direction::Increasing,
+        }
+    }
+
+    // The table's number.
+    pub fn number(self) -> usize
+        ensures { λ r. ⌜ r ≡ directionNumber self ⌝ }
+    {
+        match self {
+            Direction::Decreasing => 0,
+            Direction::Increasing => 1,
+        }
+    }
+}
+
+pub struct Turnout {
+    // 道岔编号: the turnout's number in the station
+    pub number: usize,
+    // 方向: the direction in which it opens
+    pub direction: Direction,
+    // 道岔岔尖位置: the position of the tip, in centimetres, as the next two are
+    pub tip_position: usize,
+    // 道岔定位位置: the position of the normal leg
+    pub normal_position: usize,
+    // 道岔反位位置: the position of the reverse leg
+    pub reverse_position: usize,
+    // 岔前链接的数据对象的偏移: the next object at the front
+    pub front: usize,
+    // 定位链接的数据对象的偏移: the next object on the normal leg
+    pub normal: usize,
+    // 反位链接的数据对象的偏移: the next object on the reverse leg
+    pub reverse: usize,
+    // 道岔岔前所在轨道: the track at the front
+    pub front_track: usize,
+    // 道岔定位所在轨道: the track of the normal leg
+    pub normal_track: usize,
+    // 道岔反位所在轨道: the track of the reverse leg
+    pub reverse_track: usize,
+}
+
+impl Turnout {
+    // How many bytes a turnout has.
+    pub const SIZE: usize = 24;
+
+    // The type byte.
+    pub const TYPE: usize = 0x06;
+
+    // Where each field stands, counted from the turnout's start.
+    pub const ENTRY: usize = 0;
+
+    pub const NUMBER: usize = 1;
+
+    pub const DIRECTION: usize = 2;
+
+    pub const TIP_POSITION: usize = 3;
+
+    pub const NORMAL_POSITION: usize = 7;
+
+    pub const REVERSE_POSITION: usize = 11;
+
+    pub const FRONT: usize = 15;
+
+    pub const NORMAL: usize = 17;
+
+    pub const REVERSE: usize = 19;
+
+    pub const FRONT_TRACK: usize = 21;
+
+    pub const NORMAL_TRACK: usize = 22;
+
+    pub const REVERSE_TRACK: usize = 23;
+
+    // The turnout that starts at a place.
+    pub fn read(s: &[u8], at: u16) -> Self
+        ensures { λ r. ⌜ r ≡ turnoutAt (now (s .entry)) at ⌝ }
+    {
+        Turnout {
+            number: byte_of(s, at, Self::NUMBER),
+            direction: Direction::of(byte_of(s, at, Self::DIRECTION)),
+            tip_position: u32_of(s, at, Self::TIP_POSITION),
+            normal_position: u32_of(s, at, Self::NORMAL_POSITION),
+            reverse_position: u32_of(s, at, Self::REVERSE_POSITION),
+            front: u16_of(s, at, Self::FRONT),
+            normal: u16_of(s, at, Self::NORMAL),
+            reverse: u16_of(s, at, Self::REVERSE),
+            front_track: byte_of(s, at, Self::FRONT_TRACK),
+            normal_track: byte_of(s, at, Self::NORMAL_TRACK),
+            reverse_track: byte_of(s, at, Self::REVERSE_TRACK),
+        }
+    }
+}

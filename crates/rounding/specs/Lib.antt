@@ -1,0 +1,2 @@
+pub mod Nearest
+pub mod Way

@@ -1,0 +1,21 @@
+-- `tracks::Track::points` meets its contract.
+-- Assumes nothing.
+use borrow.Author.Tests.{lt-ltb, le-ltb}
+use Rattle.tracks.specs.Tracks.{pointsIn}
+use borrow.Author.Needs.{needs}
+use Rattle.tracks.proofs.Track.points.Statement.{statement}
+use Rattle.tracks.proofs.Track.points.Tie as tie
+
+returns : tie.Need-returns
+unfolding pointsIn
+returns c = simp (lt-ltb _ _ (c .if1 .taken))
+
+add-result : tie.Need-add-result
+add-result c = search needs
+
+returns-2 : tie.Need-returns-2
+unfolding pointsIn
+returns-2 c = simp (le-ltb _ _ (c .if1 .left))
+
+pub points-spec : {M : Type 1} → statement M
+points-spec = tie.close (tie.spec returns add-result returns-2)
