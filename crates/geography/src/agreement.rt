@@ -28,7 +28,7 @@ use verdict::Rule;
 use verdict::also_fact;
 
 // A start plus an increment.
-fn sum_of(f: &[u8], base: usize, field: usize) -> i64
+pub fn sum_of(f: &[u8], base: usize, field: usize) -> i64
     ensures { λ r. ⌜ SumOf (now (f .entry)) base field r ⌝ }
 {
     i32_at(f, base) + i24_at(f, field)

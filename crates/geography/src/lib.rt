@@ -2,4 +2,7 @@
 mod agreement;
 mod fields;
 mod layout;
-mod verdicts;
+pub mod verdicts;
+
+pub use agreement::sum_of;
+pub use layout::points_at;

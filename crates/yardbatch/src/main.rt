@@ -1,0 +1,128 @@
+// Many questions in one run. Standard input is a sequence of cases: the question in 1 byte, four numbers of 4 bytes each, two lengths of
+// 4 bytes each, and the bytes of the first and of the second file; all numbers are little-endian. Standard output is, for each case, what
+// yardask prints, and an empty line. Input that ends inside a case, or an unknown question, is a line on standard error and ends the run.
+ghost use mathlib.Core.Path.{_≡_};
+ghost use Prim.Native.Nat.{_≤_, min};
+use libc::STDERR_FILENO;
+use libc::STDIN_FILENO;
+use libc::STDOUT_FILENO;
+use octets::byte_at;
+use octets::u32_at;
+
+// What stands before the files of a case: the question, four numbers and two lengths.
+const HEAD: usize = 25;
+
+// Where the two lengths stand.
+const FIRST_LENGTH: usize = 17;
+
+const SECOND_LENGTH: usize = 21;
+
+// A byte more than the longest file: a file that fills the room is too long, whatever follows.
+const ROOM: usize = 65536;
+
+// As many bytes are passed over at once.
+const PART: usize = 4096;
+
+// Says why the run ends. It answers false: there is no next case.
+fn stop(why: &[u8]) -> bool {
+    io::write_all(STDERR_FILENO, why);
+    false
+}
+
+// The smaller of two numbers.
+fn least(a: usize, b: usize) -> usize
+    ensures { λ r. ⌜ r ≡ min a b ⌝ }
+{
+    if a < b { a } else { b }
+}
+
+// Passes over n bytes of the input, no more than a part. It answers whether they were there.
+fn part_passed_over(n: usize) -> bool
+    requires { ⌜ n ≤ 4096 ⌝ }
+{
+    let mut part = io::buffer();
+    let got = io::read_full(STDIN_FILENO, &mut part[..n]);
+    n <= got
+}
+
+// Passes over n bytes of the input. It answers whether they were there.
+fn passed_over(n: usize) -> bool {
+    let mut left = n;
+    while 0 < left {
+        let part = least(left, PART);
+        if !part_passed_over(part) {
+            return false;
+        }
+        left -= part;
+    }
+    true
+}
+
+// Reads a file of n bytes, of which there is room for some, and passes over the others. It answers whether all its bytes were there.
+fn read_file(room: &mut [u8], n: usize) -> bool {
+    let kept = room.len();
+    let got = io::read_full(STDIN_FILENO, room);
+    if got < kept {
+        return false;
+    }
+    if n < kept {
+        return false;
+    }
+    passed_over(n - kept)
+}
+
+// Answers the question of a case. It answers whether there is such a question.
+fn answered(question: usize, first: &[u8]) -> bool {
+    if question == 1 {
+        answers::x1(first);
+        return true;
+    }
+    false
+}
+
+// Reads the files of a case, of n and m bytes, and answers it. It answers whether there may be a next case.
+fn case_in(head: &[u8], first: &mut [u8], n: usize, second: &mut [u8], m: usize) -> bool {
+    if !read_file(first, n) {
+        return stop(b"yardbatch: the input ends inside a case\n");
+    }
+    if !read_file(second, m) {
+        return stop(b"yardbatch: the input ends inside a case\n");
+    }
+    if !answered(byte_at(head, 0), first) {
+        return stop(b"yardbatch: unknown question\n");
+    }
+    io::write_all(STDOUT_FILENO, b"\n");
+    true
+}
+
+// The same, with room for the two files.
+fn case_of(head: &[u8]) -> bool {
+    let mut first = io::large_buffer();
+    let mut second = io::large_buffer();
+    let n = u32_at(head, FIRST_LENGTH);
+    let m = u32_at(head, SECOND_LENGTH);
+    let a = least(n, ROOM);
+    let b = least(m, ROOM);
+    case_in(head, &mut first[..a], n, &mut second[..b], m)
+}
+
+// Reads and answers a case. It answers whether there may be a next one.
+fn next_case() -> bool {
+    let mut head = [0u8; HEAD];
+    let got = io::read_full(STDIN_FILENO, &mut head);
+    if got == 0 {
+        return false;
+    }
+    if got < HEAD {
+        return stop(b"yardbatch: the input ends inside a case\n");
+    }
+    case_of(&head)
+}
+
+// A proved loop has to end, and nothing says that the input does: it counts down from a number that no run uses up.
+fn main() {
+    let mut turns = u64::MAX;
+    while turns > 0 && next_case() {
+        turns -= 1;
+    }
+}
