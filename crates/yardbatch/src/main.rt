@@ -12,6 +12,24 @@ use octets::u32_at;
 // What stands before the files of a case: the question, four numbers and two lengths.
 const HEAD: usize = 25;
 
+// The questions.
+const X1: usize = 1;
+
+const X2: usize = 2;
+
+const TRACK: usize = 4;
+
+const POINT: usize = 5;
+
+const COORDINATE: usize = 6;
+
+const RECORD: usize = 7;
+
+// Where the four numbers stand, and the bytes of each.
+const NUMBERS: usize = 1;
+
+const NUMBER: usize = 4;
+
 // Where the two lengths stand.
 const FIRST_LENGTH: usize = 17;
 
@@ -71,10 +89,33 @@ fn read_file(room: &mut [u8], n: usize) -> bool {
     passed_over(n - kept)
 }
 
-// Answers the question of a case. It answers whether there is such a question.
-fn answered(question: usize, first: &[u8]) -> bool {
-    if question == 1 {
+// Answers the question of a case about its first file. It answers whether there is such a question.
+fn answered(head: &[u8], first: &[u8]) -> bool {
+    let question = byte_at(head, 0);
+    let a = u32_at(head, NUMBERS);
+    let b = u32_at(head, NUMBERS + NUMBER);
+    if question == X1 {
         answers::x1(first);
+        return true;
+    }
+    if question == X2 {
+        answers::x2(first);
+        return true;
+    }
+    if question == TRACK {
+        answers::track(first, a);
+        return true;
+    }
+    if question == POINT {
+        answers::point(first, a, b);
+        return true;
+    }
+    if question == COORDINATE {
+        answers::coordinate(first, a, b);
+        return true;
+    }
+    if question == RECORD {
+        answers::record(first, a);
         return true;
     }
     false
@@ -88,7 +129,7 @@ fn case_in(head: &[u8], first: &mut [u8], n: usize, second: &mut [u8], m: usize)
     if !read_file(second, m) {
         return stop(b"yardbatch: the input ends inside a case\n");
     }
-    if !answered(byte_at(head, 0), first) {
+    if !answered(head, first) {
         return stop(b"yardbatch: unknown question\n");
     }
     io::write_all(STDOUT_FILENO, b"\n");

@@ -1,0 +1,103 @@
+// The answers about an X.1 file.
+ghost use mathlib.Core.Path.{_≡_};
+ghost use Rattle.verdict.specs.Reasons.{numberOf, numberIn};
+ghost use Rattle.geography.specs.Facts.{verdictOf};
+ghost use Rattle.survey.specs.Questions.{trackOf, pointOf, coordinateAsked};
+ghost use Rattle.survey.specs.Answers.{trackNumberIn, pointNumberIn, coordinateNumberIn};
+use crate::text::head;
+use crate::text::line;
+use crate::text::signed_line;
+use survey::Coordinate;
+use survey::CoordinateAnswer;
+use survey::PointAnswer;
+use survey::TrackAnswer;
+use tracks::Point;
+use tracks::Track;
+use verdict::Fault;
+
+// A refusal.
+pub fn refused(fault: Fault) -> usize
+    ensures { λ r. ⌜ r ≡ numberOf (fault .reason) ⌝ }
+{
+    let reason = fault.reason;
+    let n = reason.number();
+    head(n, fault.place);
+    n
+}
+
+// The question x1.
+pub fn x1(f: &[u8]) -> usize
+    ensures { λ r. ⌜ r ≡ numberIn (verdictOf (now (f .entry))) ⌝ }
+{
+    let v = geography::verdicts::verdict_of(f);
+    let n = v.number();
+    head(n, v.place());
+    n
+}
+
+fn track_lines(t: Track) {
+    head(0, 0);
+    line(b"number", t.number);
+    line(b"property", t.property);
+    line(b"start_position", t.start_position);
+    signed_line(b"start_latitude", t.start_latitude);
+    signed_line(b"start_longitude", t.start_longitude);
+    line(b"end_position", t.end_position);
+    signed_line(b"end_latitude", t.end_latitude);
+    signed_line(b"end_longitude", t.end_longitude);
+    line(b"points", t.points());
+}
+
+// The question track.
+pub fn track(f: &[u8], index: usize) -> usize
+    ensures { λ r. ⌜ r ≡ trackNumberIn (trackOf (now (f .entry)) index) ⌝ }
+{
+    match survey::track(f, index) {
+        TrackAnswer::Track(t) => {
+            track_lines(t);
+            0
+        }
+        TrackAnswer::Refused(fault) => refused(fault),
+    }
+}
+
+fn point_lines(p: Point) {
+    head(0, 0);
+    line(b"position", p.position);
+    signed_line(b"latitude_increment", p.latitude);
+    signed_line(b"longitude_increment", p.longitude);
+    signed_line(b"heading", p.heading);
+    line(b"near", p.near);
+}
+
+// The question point.
+pub fn point(f: &[u8], track: usize, index: usize) -> usize
+    ensures { λ r. ⌜ r ≡ pointNumberIn (pointOf (now (f .entry)) track index) ⌝ }
+{
+    match survey::point(f, track, index) {
+        PointAnswer::Point(p) => {
+            point_lines(p);
+            0
+        }
+        PointAnswer::Refused(fault) => refused(fault),
+    }
+}
+
+fn coordinate_lines(c: Coordinate) {
+    head(0, 0);
+    signed_line(b"latitude", c.latitude);
+    signed_line(b"longitude", c.longitude);
+}
+
+// The question coordinate.
+pub fn coordinate(f: &[u8], number: usize, position: usize) -> usize
+    ensures { λ r. ⌜ r ≡ coordinateNumberIn (coordinateAsked (now (f .entry)) number position) ⌝ }
+{
+    match survey::coordinate(f, number, position) {
+        CoordinateAnswer::Coordinate(c) => {
+            coordinate_lines(c);
+            0
+        }
+        CoordinateAnswer::Refused(fault) => refused(fault),
+    }
+}

@@ -1,0 +1,92 @@
+-- The ways out of the question 'record at an offset'.
+-- Assumes nothing.
+use Prim.Native.Nat.{ℕ, _≤_, _<_}
+use mathlib.Core.Path.{_≡_, _∙_, refl, sym, ap, subst}
+use mathlib.Core.Bool.{Bool, true, false, not, true≢false}
+use mathlib.Core.List.{List, List·Memᴰ}
+use lib.ListN.{length}
+use native.Mathlib.Omega.{arith}
+use Rattle.verdict.specs.declared.Fault.{Fault}
+use Rattle.verdict.specs.declared.Mark.{Mark}
+use Rattle.verdict.specs.declared.Judged.{Judged}
+use Rattle.verdict.specs.declared.Judged.the-variants as judged
+use Rattle.verdict.specs.declared.Verdict.{Verdict}
+use Rattle.verdict.specs.declared.Verdict.the-variants as verdict
+use Rattle.verdict.specs.Facts.{Claim, test, Holds, firstFault}
+use Rattle.verdict.specs.Reasons.{shownOf}
+use Rattle.verdict.proofs.Facts.{agrees, accepted-iff, never}
+use Rattle.records.specs.declared.Kind.{Kind}
+use Rattle.records.specs.declared.Record.{Record}
+use Rattle.records.specs.Records.{recordAt}
+use Rattle.layout.specs.declared.Layout.{Layout}
+use Rattle.layout.specs.declared.Shape.{Shape}
+use Rattle.layout.specs.declared.Shape.the-variants.{Found, Faulty}
+use Rattle.layout.specs.Layout.{layoutOf}
+use Rattle.layout.specs.Facts.{layoutFacts, shapeOf}
+use Rattle.layout.specs.Records.{kindAt, starts, isStart}
+use Rattle.layout.specs.Regions.{Regions}
+use Rattle.layout.proofs.Obeys.{layout-obeyed}
+use Rattle.layout.proofs.Starts.{start-iff, start-below}
+use Rattle.application.specs.declared.RecordAnswer.{RecordAnswer}
+use Rattle.application.specs.declared.RecordAnswer.the-variants as answer
+use Rattle.application.specs.Facts.{judgedOf, verdictOf}
+use Rattle.application.specs.Obeys.{Obeys}
+use Rattle.application.specs.Questions.{outOfRange, refusedAs, recordIf, asked, recordOf}
+use Rattle.application.proofs.Obeys.{accepted-obeys}
+use Rattle.application.proofs.Checks.{faulty-wrong}
+
+shown-accepted : (v : Judged) → shownOf v ≡ verdict.Accepted → v ≡ judged.Accepted
+shown-accepted judged.Accepted e = refl
+shown-accepted (judged.Refused m) e = let z : _≡_ {A = ℕ} 0 1 = cc in absurd (omega arith)
+
+-- an accepted file obeys
+pub verdict-obeys : (f : List ℕ) → verdictOf f ≡ verdict.Accepted → Obeys f
+verdict-obeys f e = (accepted-obeys f) .0 (shown-accepted (judgedOf f) e)
+
+-- what a test of 'not b' says of b
+pub not-true : (b : Bool) → not b ≡ true → b ≡ false
+not-true true e = absurd (true≢false (sym e))
+not-true false e = refl
+
+pub not-false : (b : Bool) → not b ≡ false → b ≡ true
+not-false true e = refl
+not-false false e = absurd (true≢false e)
+
+holds-true : (c : Claim) → test c ≡ true → Holds c
+holds-true c e = rw e at (agrees c)
+
+module _ (f : List ℕ) (x : ℕ) (v : Verdict) (p : v ≡ verdictOf f) where
+  pub own-fault : (t : Fault) → v ≡ verdict.Refused t → (r : RecordAnswer) → r ≡ refusedAs v → r ≡ recordOf f x
+  unfolding recordOf
+  own-fault t e r q = q ∙ ap refusedAs e ∙ sym (ap (λ (w : Verdict). asked w f x) (sym p ∙ e))
+
+  module _ (e : v ≡ verdict.Accepted) where
+    -- an accepted file has a layout
+    pub never-faulty : (s : Shape) → s ≡ shapeOf f → (m : Mark) → s ≡ Faulty m → ⊥
+    never-faulty s q m k =
+        let o = verdict-obeys f (sym p ∙ e) in
+        let h = (accepted-iff (layoutFacts f (layoutOf f))) .1 ((layout-obeyed f (layoutOf f)) .1 (o .layout)) in
+        never m (sym (faulty-wrong f s q m k) ∙ h)
+
+    module _ (l : Layout) (i : l ≡ layoutOf f) (b : Bool) (q : b ≡ test (isStart f l x)) where
+      started : test (isStart f (layoutOf f) x) ≡ b
+      started = sym (q ∙ ap (λ (k : Layout). test (isStart f k x)) i)
+
+      answered : asked (verdictOf f) f x ≡ recordIf b f x
+      answered = ap (λ (w : Verdict). asked w f x) (sym p ∙ e) ∙ ap (λ (c : Bool). recordIf c f x) started
+
+      pub no-record : b ≡ false → (r : RecordAnswer) → r ≡ answer.Refused outOfRange → r ≡ recordOf f x
+      unfolding recordOf
+      no-record h r n = n ∙ sym (answered ∙ ap (λ (c : Bool). recordIf c f x) h)
+
+      pub start-small : b ≡ true → Regions f l → l .stop < 65536 → x < 65536
+      start-small h g s =
+          let m = (start-iff f l x) .0 (holds-true (isStart f l x) (sym q ∙ h)) in
+          let z = start-below f l g x m in
+          omega arith
+
+      pub record-there : b ≡ true → (k : Kind) → k ≡ kindAt l x → (r : Record) → r ≡ recordAt f k x → answer.Record r ≡ recordOf f x
+      unfolding recordOf
+      record-there h k j r n =
+          ap answer.Record (n ∙ ap (λ (y : Kind). recordAt f y x) (j ∙ ap (λ (m : Layout). kindAt m x) i))
+          ∙ sym (answered ∙ ap (λ (c : Bool). recordIf c f x) h)

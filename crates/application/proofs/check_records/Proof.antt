@@ -1,0 +1,67 @@
+-- `application::check_records` meets its contract.
+-- Assumes nothing.
+use Rattle.application.proofs.Checks.{fields-refused, agreement-refused, targets-refused, all-checked}
+use borrow.Author.Needs.{needs}
+use Rattle.application.proofs.check_records.Statement.{statement}
+use Rattle.application.proofs.check_records.Tie as tie
+
+check-fields-requires : tie.Need-check-fields-requires
+check-fields-requires c κs = search needs
+
+enum-told : tie.Need-enum-told
+enum-told c = search needs
+
+enum-told-2 : tie.Need-enum-told-2
+enum-told-2 c = search needs
+
+returns : tie.Need-returns
+returns c = fields-refused _ _ _ (c .before .before .check-fields .ensures) _ (c .enum-told2 .given .1)
+
+check-agreement-requires : tie.Need-check-agreement-requires
+check-agreement-requires c κs = search needs
+
+enum-told-3 : tie.Need-enum-told-3
+enum-told-3 c = search needs
+
+enum-told-4 : tie.Need-enum-told-4
+enum-told-4 c = search needs
+
+returns-2 : tie.Need-returns-2
+returns-2 c = agreement-refused _ _ _ (c .before .before .before .before .before .check-fields .ensures) (c .before .before .before .enum-told .given .1) _ (c .before .before .check-agreement .ensures) _ (c .enum-told4 .given .1)
+
+check-targets-requires : tie.Need-check-targets-requires
+check-targets-requires c κs = search needs
+
+enum-told-5 : tie.Need-enum-told-5
+enum-told-5 c = search needs
+
+enum-told-6 : tie.Need-enum-told-6
+enum-told-6 c = search needs
+
+returns-3 : tie.Need-returns-3
+returns-3 c = targets-refused _ _ _ (c .before .before .before .before .before .before .before .before .check-fields .ensures) (c .before .before .before .before .before .before .enum-told .given .1) _ (c .before .before .before .before .before .check-agreement .ensures) (c .before .before .before .enum-told3 .given .1) _ (c .before .before .check-targets .ensures) _ (c .enum-told6 .given .1)
+
+check-returns-requires : tie.Need-check-returns-requires
+check-returns-requires c κs = search needs
+
+returns-4 : tie.Need-returns-4
+returns-4 c = all-checked _ _ _ (c .before .before .before .before .before .before .before .before .before .check-fields .ensures) (c .before .before .before .before .before .before .before .enum-told .given .1) _ (c .before .before .before .before .before .before .check-agreement .ensures) (c .before .before .before .before .enum-told3 .given .1) _ (c .before .before .before .check-targets .ensures) (c .before .enum-told5 .given .1) _ (c .check-returns .ensures)
+
+pub check-records-spec : {M : Type 1} → statement M
+check-records-spec =
+    tie.close
+    (tie.spec
+    check-fields-requires
+    enum-told
+    enum-told-2
+    returns
+    check-agreement-requires
+    enum-told-3
+    enum-told-4
+    returns-2
+    check-targets-requires
+    enum-told-5
+    enum-told-6
+    returns-3
+    check-returns-requires
+    returns-4)

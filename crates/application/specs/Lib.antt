@@ -1,0 +1,4 @@
+pub mod Facts
+pub mod Obeys
+pub mod Questions
+pub mod Shapes

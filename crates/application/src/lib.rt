@@ -1,0 +1,132 @@
+// X.2, fixed application: the verdict of a file, the checks in 01's order, and the question 'record at an offset'.
+ghost use mathlib.Core.Path.{_≡_};
+ghost use Prim.Native.Nat.{_≤_, _<_};
+ghost use Rattle.verdict.specs.Facts.{firstFault};
+ghost use Rattle.fields.specs.Fields.{Bounded};
+ghost use Rattle.application.specs.Facts.{recordFacts, judgedOf, verdictOf};
+
+ghost use Rattle.application.specs.Questions.{outOfRange, refusedAs, recordOf};
+ghost use Rattle.application.specs.Shapes.{judgedAs};
+use fields::check_agreement;
+use fields::check_fields;
+use layout::Layout;
+use layout::Shape;
+use layout::find_layout;
+use layout::kind_at;
+use layout::starts_record;
+use links::check_returns;
+use links::check_targets;
+use records::Record;
+use rules::length_between;
+use seal::check_seal;
+use verdict::Fault;
+use verdict::Judged;
+use verdict::Reason;
+use verdict::Verdict;
+
+// How long an X.2 file is, and its type.
+pub const LEAST_LENGTH: usize = 69;
+
+pub const MOST_LENGTH: usize = 65535;
+
+pub const FILE_TYPE: usize = 2;
+
+// The answer to 'record at an offset'.
+pub enum RecordAnswer {
+    Record(Record),
+    Refused(Fault),
+}
+
+// The checks of the records of a file whose layout is right.
+fn check_records(f: &[u8], l: Layout) -> Judged
+    requires { ⌜ Bounded l ⌝ }
+    ensures { λ r. ⌜ r ≡ firstFault (recordFacts (now (f .entry)) l) ⌝ }
+{
+    let filled = check_fields(f, l, Judged::Accepted);
+    let Judged::Accepted = filled else {
+        return filled;
+    };
+    let agreed = check_agreement(f, l, Judged::Accepted);
+    let Judged::Accepted = agreed else {
+        return agreed;
+    };
+    let aimed = check_targets(f, l, Judged::Accepted);
+    let Judged::Accepted = aimed else {
+        return aimed;
+    };
+    check_returns(f, l, Judged::Accepted)
+}
+
+// The verdict of the layout.
+fn laid(s: Shape) -> Judged
+    ensures { λ r. ⌜ r ≡ judgedAs s ⌝ }
+{
+    match s {
+        Shape::Found(_) => Judged::Accepted,
+        Shape::Faulty(mark) => Judged::Refused(mark),
+    }
+}
+
+// The first fact of an X.2 file that fails, with its mark.
+pub fn first_fault(f: &[u8]) -> Judged
+    ensures { λ r. ⌜ r ≡ judgedOf (now (f .entry)) ⌝ }
+{
+    let sized = length_between(Judged::Accepted, f, LEAST_LENGTH, MOST_LENGTH);
+    let Judged::Accepted = sized else {
+        return sized;
+    };
+    let sealed = check_seal(f, FILE_TYPE, Judged::Accepted);
+    let Judged::Accepted = sealed else {
+        return sealed;
+    };
+    let shape = find_layout(f);
+    let Shape::Found(l) = shape else {
+        return laid(shape);
+    };
+    check_records(f, l)
+}
+
+// The verdict of an X.2 file.
+pub fn verdict_of(f: &[u8]) -> Verdict
+    ensures { λ r. ⌜ r ≡ verdictOf (now (f .entry)) ⌝ }
+{
+    first_fault(f).shown()
+}
+
+// 13, place 0.
+fn out_of_range() -> RecordAnswer
+    ensures { λ r. ⌜ r ≡ RecordAnswer.Refused outOfRange ⌝ }
+{
+    let reason = Reason::Question;
+    RecordAnswer::Refused(Fault { reason, place: 0 })
+}
+
+// The file's own fault, as an answer.
+fn refused(v: Verdict) -> RecordAnswer
+    ensures { λ r. ⌜ r ≡ refusedAs v ⌝ }
+{
+    match v {
+        Verdict::Refused(fault) => RecordAnswer::Refused(fault),
+        Verdict::Accepted => out_of_range(),
+    }
+}
+
+// The record that starts at an offset.
+pub fn record_at(f: &[u8], offset: usize) -> RecordAnswer
+    ensures { λ r. ⌜ r ≡ recordOf (now (f .entry)) offset ⌝ }
+{
+    let v = verdict_of(f);
+    let Verdict::Accepted = v else {
+        return refused(v);
+    };
+    let shape = find_layout(f);
+    let Shape::Found(l) = shape else {
+        return out_of_range();
+    };
+    if !starts_record(f, l, offset) {
+        return out_of_range();
+    }
+    let k = kind_at(l, offset);
+    let r = Record::read(f, k, offset as u16);
+    RecordAnswer::Record(r)
+}

@@ -1,0 +1,22 @@
+-- `station::verdicts::shown` meets its contract.
+-- Assumes nothing.
+use mathlib.Core.Path.{sym, ap, _∙_}
+use Rattle.verdict.specs.declared.PairVerdict.the-variants as pair
+use Rattle.verdict.specs.declared.Verdict.{Verdict}
+use Rattle.station.specs.Pair.{ofSecond}
+use Rattle.station.proofs.Checks.{shown-pair}
+use borrow.Author.Needs.{needs}
+use Rattle.station.proofs.verdicts.shown.Statement.{statement}
+use Rattle.station.proofs.verdicts.shown.Tie as tie
+
+shown-requires : tie.Need-shown-requires
+shown-requires c κs = search needs
+
+second-refused-requires : tie.Need-second-refused-requires
+second-refused-requires c κs = search needs
+
+returns : tie.Need-returns
+returns c = c .second-refused .ensures ∙ ap (λ (v : Verdict). ofSecond v pair.Accepted) (c .before .shown .ensures) ∙ shown-pair (c .before .before .args .v)
+
+pub shown-spec : {M : Type 1} → statement M
+shown-spec = tie.close (tie.spec shown-requires second-refused-requires returns)

@@ -1,0 +1,112 @@
+-- The pair (01, 'The pair: ..'): X.1's fault, then X.2's, then 10, then by record and position in stored order 11 before 12. f is X.1, g is
+-- X.2; the verdict also says the file.
+-- Assumes nothing.
+use Prim.Native.Nat.{ℕ, _+_}
+use mathlib.Core.List.{List, [], _∷_, _++_, flatMap}
+use Rattle.octets.specs.Octets.{numAt}
+use Rattle.verdict.specs.Facts.{Fact, fact, same, atMost, firstFault}
+use Rattle.verdict.specs.Reasons.{faultOf}
+use Rattle.verdict.specs.declared.Reason.the-variants as reason
+use Rattle.verdict.specs.declared.Rule.the-variants as rule
+use Rattle.verdict.specs.declared.File.the-variants.{First, Second}
+use Rattle.verdict.specs.declared.Judged.{Judged}
+use Rattle.verdict.specs.declared.Judged.the-variants as judged
+use Rattle.verdict.specs.declared.Verdict.{Verdict}
+use Rattle.verdict.specs.declared.Verdict.the-variants as verdict
+use Rattle.verdict.specs.declared.PairVerdict.{PairVerdict}
+use Rattle.verdict.specs.declared.PairVerdict.the-variants as pair
+use Rattle.tracks.specs.Places as track
+use Rattle.geography.specs.Facts as geography
+use Rattle.lookup.specs.declared.Found.{Found}
+use Rattle.lookup.specs.declared.Found.the-variants.{At, Absent}
+use Rattle.lookup.specs.Lookup.{findTrack}
+use Rattle.records.specs.declared.Kind.{Kind}
+use Rattle.records.specs.declared.Kind.the-variants as kind
+use Rattle.records.specs.Places as place
+use Rattle.layout.specs.declared.Layout.{Layout}
+use Rattle.layout.specs.Layout.{layoutOf}
+use Rattle.layout.specs.Records.{kindAt, starts}
+use Rattle.application.specs.Facts as application
+
+-- ---- where a record stands on the tracks, in stored order
+
+-- a track byte with a position field, or a track byte alone
+pub data Spot : Type 0 where
+  lies : ℕ → ℕ → Spot
+  stands : ℕ → Spot
+
+-- a turnout's tip, normal and reverse positions go with its front, normal and reverse tracks; a siding has a track alone
+abbrev pub spots : Kind → ℕ → List Spot
+spots kind.StartBoundary at = lies (at + place.boundaryTrack) (at + place.boundaryPosition) ∷ []
+spots kind.EndBoundary at = lies (at + place.boundaryTrack) (at + place.boundaryPosition) ∷ []
+spots kind.Turnout at =
+    lies (at + place.turnoutFrontTrack) (at + place.turnoutTipPosition)
+    ∷ lies (at + place.turnoutNormalTrack) (at + place.turnoutNormalPosition)
+    ∷ lies (at + place.turnoutReverseTrack) (at + place.turnoutReversePosition)
+    ∷ []
+spots kind.Balise at = lies (at + place.baliseTrack) (at + place.balisePosition) ∷ []
+spots kind.Signal at = lies (at + place.signalTrack) (at + place.signalPosition) ∷ []
+spots kind.Joint at = lies (at + place.jointTrack) (at + place.jointPosition) ∷ []
+spots kind.Siding at = stands (at + place.sidingTrack) ∷ []
+
+-- ---- the facts
+
+-- 1 where a track was found
+abbrev pub present : Found → ℕ
+present (At e) = 1
+present Absent = 0
+
+-- the end position of the track that was found
+abbrev pub reach : List ℕ → Found → ℕ
+reach f (At e) = numAt 4 f (e + track.endPosition)
+reach f Absent = 0
+
+-- 10: the stations are the same
+abbrev pub sameStation : List ℕ → List ℕ → Fact
+sameStation f g =
+    fact (same (numAt 2 g track.stationAt) (numAt 2 f track.stationAt)) (record { reason = reason.Station; start = 0; place = track.stationAt; width = 2; rule = rule.SameStation })
+
+-- 11: the track at t, of the record at `at`, is in X.1
+abbrev pub inFirst : List ℕ → List ℕ → ℕ → ℕ → Fact
+inFirst f g at t =
+    fact (same (present (findTrack f (numAt 1 g t))) 1) (record { reason = reason.Track; start = at; place = t; width = 1; rule = rule.InFirst })
+
+-- 12: the position at p is at most the end of that track
+abbrev pub withinTrack : List ℕ → List ℕ → ℕ → ℕ → ℕ → Fact
+withinTrack f g at t p =
+    fact (atMost (numAt 4 g p) (reach f (findTrack f (numAt 1 g t)))) (record { reason = reason.Position; start = at; place = p; width = 4; rule = rule.WithinTrack })
+
+abbrev pub spotFacts : List ℕ → List ℕ → ℕ → Spot → List Fact
+spotFacts f g at (lies t p) = inFirst f g at t ∷ withinTrack f g at t p ∷ []
+spotFacts f g at (stands t) = inFirst f g at t ∷ []
+
+abbrev pub spotsFacts : List ℕ → List ℕ → ℕ → List Spot → List Fact
+spotsFacts f g at [] = []
+spotsFacts f g at (s ∷ ss) = spotFacts f g at s ++ spotsFacts f g at ss
+
+abbrev pub recordPair : List ℕ → List ℕ → Layout → ℕ → List Fact
+recordPair f g l at = spotsFacts f g at (spots (kindAt l at) at)
+
+unfoldable pub recordsPair : List ℕ → List ℕ → Layout → List Fact
+recordsPair f g l = flatMap (recordPair f g l) (starts g l)
+
+unfoldable pub pairFacts : List ℕ → List ℕ → Layout → List Fact
+pairFacts f g l = sameStation f g ∷ recordsPair f g l
+
+-- ---- the verdict
+
+abbrev pub ofFirst : Verdict → PairVerdict → PairVerdict
+ofFirst (verdict.Refused t) r = pair.Refused First t
+ofFirst verdict.Accepted r = r
+
+abbrev pub ofSecond : Verdict → PairVerdict → PairVerdict
+ofSecond (verdict.Refused t) r = pair.Refused Second t
+ofSecond verdict.Accepted r = r
+
+-- the pair's own faults are of file 2
+abbrev pub ofPair : Judged → PairVerdict
+ofPair judged.Accepted = pair.Accepted
+ofPair (judged.Refused m) = pair.Refused Second (faultOf m)
+
+unfoldable pub pairOf : List ℕ → List ℕ → PairVerdict
+pairOf f g = ofFirst (geography.verdictOf f) (ofSecond (application.verdictOf g) (ofPair (firstFault (pairFacts f g (layoutOf g)))))

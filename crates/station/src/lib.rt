@@ -1,0 +1,5 @@
+// The station pair: X.1 and X.2 held against each other, 10 to 12 in 01's table.
+mod spots;
+mod verdicts;
+
+pub use verdicts::pair_verdict;

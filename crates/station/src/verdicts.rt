@@ -1,0 +1,95 @@
+// The verdict of a pair.
+ghost use mathlib.Core.Path.{_≡_};
+ghost use mathlib.Core.List.{[], _∷_};
+ghost use Prim.Native.Nat.{_<_};
+ghost use Rattle.verdict.specs.Facts.{judge};
+ghost use Rattle.geography.specs.Obeys.{Obeys};
+ghost use Rattle.station.specs.Pair.{sameStation, pairFacts, ofFirst, ofSecond, ofPair, pairOf};
+use crate::spots::records_pair;
+use layout::Layout;
+use layout::Shape;
+use layout::find_layout;
+use octets::u16_at;
+use tracks::STATION;
+use verdict::Fault;
+use verdict::File;
+use verdict::Judged;
+use verdict::Mark;
+use verdict::PairVerdict;
+use verdict::Reason;
+use verdict::Rule;
+use verdict::Verdict;
+use verdict::also_fact;
+
+// The stations are the same.
+fn same_station(f: &[u8], g: &[u8], v: Judged) -> Judged
+    ensures { λ r. ⌜ r ≡ judge v (sameStation (now (f .entry)) (now (g .entry)) ∷ []) ⌝ }
+{
+    let first = u16_at(f, STATION);
+    let second = u16_at(g, STATION);
+    let reason = Reason::Station;
+    let rule = Rule::SameStation;
+    let mark = Mark {
+        reason,
+        start: 0,
+        place: STATION,
+        width: 2,
+        rule,
+    };
+    also_fact(v, second == first, mark)
+}
+
+// The facts of a pair of files that are each accepted.
+fn check_pair(f: &[u8], g: &[u8], l: Layout) -> Judged
+    requires { ⌜ Obeys (now f) × (l .header < 65536) × (l .stop < 65536) ⌝ }
+    ensures { λ r. ⌜ r ≡ judge Judged.Accepted (pairFacts (now (f .entry)) (now (g .entry)) l) ⌝ }
+{
+    let v = same_station(f, g, Judged::Accepted);
+    records_pair(f, g, l, v)
+}
+
+// X.1's own fault.
+fn first_refused(v: Verdict) -> PairVerdict
+    ensures { λ r. ⌜ r ≡ ofFirst v PairVerdict.Accepted ⌝ }
+{
+    match v {
+        Verdict::Refused(fault) => PairVerdict::Refused(File::First, fault),
+        Verdict::Accepted => PairVerdict::Accepted,
+    }
+}
+
+// X.2's own fault.
+fn second_refused(v: Verdict) -> PairVerdict
+    ensures { λ r. ⌜ r ≡ ofSecond v PairVerdict.Accepted ⌝ }
+{
+    match v {
+        Verdict::Refused(fault) => PairVerdict::Refused(File::Second, fault),
+        Verdict::Accepted => PairVerdict::Accepted,
+    }
+}
+
+// The pair's own fault, which is of file 2.
+fn shown(v: Judged) -> PairVerdict
+    ensures { λ r. ⌜ r ≡ ofPair v ⌝ }
+{
+    second_refused(v.shown())
+}
+
+// The verdict of a pair.
+pub fn pair_verdict(first: &[u8], second: &[u8]) -> PairVerdict
+    ensures { λ r. ⌜ r ≡ pairOf (now (first .entry)) (now (second .entry)) ⌝ }
+{
+    let v = geography::verdicts::verdict_of(first);
+    let Verdict::Accepted = v else {
+        return first_refused(v);
+    };
+    let w = application::verdict_of(second);
+    let Verdict::Accepted = w else {
+        return second_refused(w);
+    };
+    let shape = find_layout(second);
+    let Shape::Found(l) = shape else {
+        return PairVerdict::Accepted;
+    };
+    shown(check_pair(first, second, l))
+}

@@ -1,0 +1,3 @@
+pub mod Stretches
+pub mod Questions
+pub mod Coordinates

@@ -1,0 +1,76 @@
+-- `survey::coordinate` meets its contract. An accepted file obeys, and so does the track that is found in it.
+-- Assumes nothing.
+use mathlib.Core.Path.{sym, _∙_}
+use native.Mathlib.Omega.{arith}
+use Rattle.lookup.proofs.Lookup.{verdict-obeys}
+use Rattle.survey.specs.Questions.{coordinateAsked}
+use Rattle.survey.proofs.Stretches.{found-obeys}
+use Rattle.survey.proofs.Questions.{own-fault, no-track, along-track}
+use borrow.Author.Needs.{needs}
+use Rattle.survey.proofs.coordinate.Statement.{statement}
+use Rattle.survey.proofs.coordinate.Tie as tie
+
+verdict-of-requires : tie.Need-verdict-of-requires
+verdict-of-requires c κs = search needs
+
+enum-told : tie.Need-enum-told
+enum-told c = search needs
+
+enum-told-2 : tie.Need-enum-told-2
+enum-told-2 c = search needs
+
+refused-coordinate-requires : tie.Need-refused-coordinate-requires
+refused-coordinate-requires c κs = search needs
+
+returns : tie.Need-returns
+unfolding coordinateAsked
+returns c = own-fault _ _ _ _ _ _ _ (c .before .before .before .verdict-of .ensures) (c .before .enum-told2 .given .1) (c .refused-coordinate .ensures)
+
+find-track-requires : tie.Need-find-track-requires
+find-track-requires c κs = search needs
+
+enum-known-found : tie.Need-enum-known-found
+enum-known-found c = search needs
+
+enum-told-3 : tie.Need-enum-told-3
+enum-told-3 c = search needs
+
+refused-requires : tie.Need-refused-requires
+refused-requires c κs = search needs
+
+returns-2 : tie.Need-returns-2
+returns-2 c =
+    let d = c .before .before .before in
+    let v = d .before .before .before in
+    no-track (v .before .before .args .f .now) (v .before .before .args .number) _ (v .verdict-of .ensures) (d .before .enum-told .given .1) (d .find-track .ensures) (c .before .enum-told3 .given .1) (c .refused .ensures)
+
+coordinate-at-requires : tie.Need-coordinate-at-requires
+coordinate-at-requires c κs =
+    let d = c .before .before .before in
+    let v = d .before .before .before in
+    let a = v .before .before .args in
+    let o = (verdict-obeys (a .f .now)) .0 (sym (v .verdict-of .ensures) ∙ d .before .enum-told .given .1) in
+    (omega arith, omega arith, found-obeys (a .f .now) o (a .number) _ (sym (d .find-track .ensures) ∙ c .before .found .given .1))
+
+returns-3 : tie.Need-returns-3
+returns-3 c =
+    let d = c .before .before .before .before in
+    let v = d .before .before .before in
+    along-track (v .before .before .args .f .now) (v .before .before .args .number) _ (v .verdict-of .ensures) (d .before .enum-told .given .1) (d .find-track .ensures) (c .before .before .found .given .1) (c .coordinate-at .ensures)
+
+pub coordinate-spec : {M : Type 1} → statement M
+coordinate-spec =
+    tie.close
+    (tie.spec
+    verdict-of-requires
+    enum-told
+    enum-told-2
+    refused-coordinate-requires
+    returns
+    find-track-requires
+    enum-known-found
+    enum-told-3
+    refused-requires
+    returns-2
+    coordinate-at-requires
+    returns-3)

@@ -1,0 +1,30 @@
+-- What the coordinate at a position is (01, 'Coordinate at a position'), as plain facts: it lies between two neighbouring points of the track,
+-- and is the whole number nearest the exact linear one between them, a half going up. The track's entry is at e, its points are `size`
+-- bytes long and counted by j from 0.
+-- Assumes nothing.
+use Prim.Native.Nat.{ℕ, suc, _-_, _≤_}
+use mathlib.Core.List.{List}
+use lib.IntN.{ℤ}
+use Rattle.geography.specs.Layout.{lastOf}
+use Rattle.geography.specs.Obeys.{pointAt}
+use Rattle.rounding.specs.Nearest.{Nearest, exactOf}
+use Rattle.survey.specs.declared.answers.Coordinate.{Coordinate}
+use Rattle.survey.specs.Stretch.{positionOf, latitudeOf, longitudeOf}
+
+-- position x lies between point j and the next one, which is still a point of the track
+pub record Neighbours (f : List ℕ) (size e x j : ℕ) : Type 0 where
+  pub in-track : pointAt f size e (suc j) ≤ lastOf f e
+  pub behind : positionOf f (pointAt f size e j) ≤ x
+  pub ahead : x ≤ positionOf f (pointAt f size e (suc j))
+
+-- r is nearest to the exact one at x between p and q, where what y gives moves linearly
+abbrev pub NearestAt : List ℕ → (ℕ → ℤ) → ℕ → ℕ → ℕ → ℤ → Type 0
+NearestAt f y x p q r =
+    Nearest (exactOf (y p) (y q) (x - positionOf f p) (positionOf f q - positionOf f p)) (positionOf f q - positionOf f p) r
+
+-- r is the coordinate at position x
+pub record CoordinateAt (f : List ℕ) (size e x : ℕ) (r : Coordinate) : Type 0 where
+  pub point : ℕ
+  pub between : Neighbours f size e x point
+  pub latitude : NearestAt f (latitudeOf f e) x (pointAt f size e point) (pointAt f size e (suc point)) (r .latitude)
+  pub longitude : NearestAt f (longitudeOf f e) x (pointAt f size e point) (pointAt f size e (suc point)) (r .longitude)

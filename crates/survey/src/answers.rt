@@ -1,0 +1,28 @@
+// The answers to the questions on an X.1 file.
+use tracks::Point;
+use tracks::Track;
+use verdict::Fault;
+
+// A track, or why there is none.
+pub enum TrackAnswer {
+    Track(Track),
+    Refused(Fault),
+}
+
+// A point, or why there is none.
+pub enum PointAnswer {
+    Point(Point),
+    Refused(Fault),
+}
+
+// A coordinate, in milliarcseconds.
+pub struct Coordinate {
+    pub latitude: i64,
+    pub longitude: i64,
+}
+
+// A coordinate, or why there is none.
+pub enum CoordinateAnswer {
+    Coordinate(Coordinate),
+    Refused(Fault),
+}
