@@ -9,68 +9,26 @@ use Rattle.verdict.specs.declared.Mark.{Mark}
 use Rattle.verdict.specs.declared.Judged.{Judged}
 use Rattle.verdict.specs.declared.Judged.the-variants.{Accepted, Refused}
 use Rattle.verdict.specs.Facts.{Fact, judge, firstFault}
-use Rattle.verdict.proofs.Facts.{judge-first, accepted-iff, stops, goes-on}
+use Rattle.verdict.proofs.Facts.{judge-first, stops, goes-on}
 use Rattle.rules.specs.Rules.{lengthBetween}
 use Rattle.seal.specs.Seal.{sealFacts}
 use Rattle.layout.specs.declared.Layout.{Layout}
 use Rattle.layout.specs.declared.Shape.{Shape}
 use Rattle.layout.specs.declared.Shape.the-variants.{Found, Faulty}
 use Rattle.layout.specs.Layout.{layoutOf}
-use Rattle.layout.specs.Facts.{layoutFacts, shaped, shapeOf}
-use Rattle.layout.specs.Regions.{Regions}
-use Rattle.layout.proofs.Obeys.{layout-obeyed}
-use Rattle.layout.proofs.Regions.{regions}
+use Rattle.layout.specs.Facts.{layoutFacts, shapeOf}
+use Rattle.layout.proofs.Shapes.{faulty-judged, found-judged, found-layout, found-regions}
 use Rattle.fields.specs.Fields.{Bounded, fieldFacts}
+use Rattle.fields.proofs.Bounds.{bounded}
 use Rattle.fields.specs.Agreement.{agreementFacts}
 use Rattle.links.specs.Links.{targetFacts, returnFacts}
 use Rattle.application.specs.Facts.{leastLength, mostLength, fileType, recordFacts, checkFacts, facts, judgedOf}
 use Rattle.application.specs.Shapes.{judgedAs}
 
--- ---- what a shape says of the layout
+-- ---- the numbers of a layout that was found
 
-shaped-found : (v : Judged) (k l : Layout) → shaped v k ≡ Found l → (v ≡ Accepted) × (l ≡ k)
-unfolding shaped
-shaped-found Accepted k l e = (refl, cc)
-shaped-found (Refused m) k l e = let z : _≡_ {A = ℕ} 0 1 = cc in absurd (omega arith)
-
-shaped-faulty : (v : Judged) (k : Layout) (m : Mark) → shaped v k ≡ Faulty m → v ≡ Refused m
-unfolding shaped
-shaped-faulty Accepted k m e = let z : _≡_ {A = ℕ} 0 1 = cc in absurd (omega arith)
-shaped-faulty (Refused n) k m e = cc
-
-module _ (f : List ℕ) (s : Shape) (p : s ≡ shapeOf f) where
-  pub found-right : (l : Layout) → s ≡ Found l → firstFault (layoutFacts f (layoutOf f)) ≡ Accepted
-  unfolding shapeOf
-  found-right l e = (shaped-found _ (layoutOf f) l (sym p ∙ e)) .0
-
-  pub found-layout : (l : Layout) → s ≡ Found l → l ≡ layoutOf f
-  unfolding shapeOf
-  found-layout l e = (shaped-found _ (layoutOf f) l (sym p ∙ e)) .1
-
-  pub found-regions : (l : Layout) → s ≡ Found l → Regions f l
-  found-regions l e =
-      subst (Regions f) (sym (found-layout l e)) (regions f ((layout-obeyed f (layoutOf f)) .0 ((accepted-iff (layoutFacts f (layoutOf f))) .0 (found-right l e))))
-
-  pub faulty-wrong : (m : Mark) → s ≡ Faulty m → firstFault (layoutFacts f (layoutOf f)) ≡ Refused m
-  unfolding shapeOf
-  faulty-wrong m e = shaped-faulty _ (layoutOf f) m (sym p ∙ e)
-
-  pub found-bounded : (l : Layout) → s ≡ Found l → length f ≤ mostLength → Bounded l
-  unfolding layoutOf
-  found-bounded l e h =
-      let r = found-regions l e in
-      let stop = ap (λ (k : Layout). k .stop) (found-layout l e) in
-      let a = r .start-boundaries in
-      let b = r .end-boundaries in
-      let c = r .turnouts .order in
-      let d = r .balises .order in
-      let g = r .signals .order in
-      let i = r .joints .order in
-      let j = r .sidings .order in
-      let x = r .few-starts in
-      let y = r .few-ends in
-      let z : l .stop < 65536 = omega arith in
-      record { starts = omega arith; ends = omega arith; header = omega arith; middle = omega arith; stop = z }
+pub found-bounded : (f : List ℕ) (s : Shape) → s ≡ shapeOf f → (l : Layout) → s ≡ Found l → length f ≤ mostLength → Bounded l
+found-bounded f s p l e h = bounded f l (found-regions f s p l e) (omega arith)
 
 -- ---- the records: d is the verdict of the fields, g of the agreement, t of the targets
 
@@ -122,11 +80,9 @@ module _ (f : List ℕ) (s : Judged) (p : s ≡ judge Accepted (lengthBetween f 
       pub layout-refused : (m : Mark) → z ≡ Faulty m → (r : Judged) → r ≡ judgedAs z → r ≡ judgedOf f
       layout-refused m k r n =
           let v : r ≡ Refused m = n ∙ ap judgedAs k in
-          let u = faulty-wrong f z w m k in
-          after-seal r (stops r m (layoutFacts f (layoutOf f)) (recordFacts f (layoutOf f)) (v ∙ sym u ∙ sym (judge-first (layoutFacts f (layoutOf f)))) v)
+          after-seal r (stops r m (layoutFacts f (layoutOf f)) (recordFacts f (layoutOf f)) (v ∙ sym (faulty-judged f z w m k)) v)
 
       pub records-judged : (l : Layout) → z ≡ Found l → (r : Judged) → r ≡ firstFault (recordFacts f l) → r ≡ judgedOf f
       records-judged l k r n =
           let i = found-layout f z w l k in
-          let u = found-right f z w l k in
-          after-seal r (goes-on Accepted r (layoutFacts f (layoutOf f)) (recordFacts f (layoutOf f)) (sym u ∙ sym (judge-first (layoutFacts f (layoutOf f)))) refl (n ∙ ap (λ (m : Layout). firstFault (recordFacts f m)) i))
+          after-seal r (goes-on Accepted r (layoutFacts f (layoutOf f)) (recordFacts f (layoutOf f)) (sym (found-judged f z w l k)) refl (n ∙ ap (λ (m : Layout). firstFault (recordFacts f m)) i))

@@ -14,7 +14,7 @@ use Rattle.verdict.specs.declared.Verdict.{Verdict}
 use Rattle.verdict.specs.declared.Verdict.the-variants as verdict
 use Rattle.verdict.specs.Facts.{Claim, test, Holds, firstFault}
 use Rattle.verdict.specs.Reasons.{shownOf}
-use Rattle.verdict.proofs.Facts.{agrees, accepted-iff, never}
+use Rattle.verdict.proofs.Facts.{agrees, accepted-iff, judge-first, never}
 use Rattle.records.specs.declared.Kind.{Kind}
 use Rattle.records.specs.declared.Record.{Record}
 use Rattle.records.specs.Records.{recordAt}
@@ -33,7 +33,7 @@ use Rattle.application.specs.Facts.{judgedOf, verdictOf}
 use Rattle.application.specs.Obeys.{Obeys}
 use Rattle.application.specs.Questions.{outOfRange, refusedAs, recordIf, asked, recordOf}
 use Rattle.application.proofs.Obeys.{accepted-obeys}
-use Rattle.application.proofs.Checks.{faulty-wrong}
+use Rattle.layout.proofs.Shapes.{faulty-judged}
 
 shown-accepted : (v : Judged) → shownOf v ≡ verdict.Accepted → v ≡ judged.Accepted
 shown-accepted judged.Accepted e = refl
@@ -66,7 +66,7 @@ module _ (f : List ℕ) (x : ℕ) (v : Verdict) (p : v ≡ verdictOf f) where
     never-faulty s q m k =
         let o = verdict-obeys f (sym p ∙ e) in
         let h = (accepted-iff (layoutFacts f (layoutOf f))) .1 ((layout-obeyed f (layoutOf f)) .1 (o .layout)) in
-        never m (sym (faulty-wrong f s q m k) ∙ h)
+        never m (sym (faulty-judged f s q m k) ∙ judge-first (layoutFacts f (layoutOf f)) ∙ h)
 
     module _ (l : Layout) (i : l ≡ layoutOf f) (b : Bool) (q : b ≡ test (isStart f l x)) where
       started : test (isStart f (layoutOf f) x) ≡ b

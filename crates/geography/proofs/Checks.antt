@@ -12,11 +12,12 @@ use Rattle.verdict.specs.declared.Judged.the-variants.{Accepted, Refused}
 use Rattle.verdict.specs.Facts.{Fact, judge, firstFault}
 use Rattle.verdict.proofs.Facts.{judge-then, judge-first, stops, goes-on}
 use Rattle.rules.specs.Rules.{lengthBetween}
+use Rattle.seal.specs.Seal.{sealFacts}
 use Rattle.tracks.specs.Places.{leastLength, mostLength, pointSize}
 use Rattle.geography.specs.Layout.{firstOf, lastOf, entries, entryLayout, countLayout, stopLayout, layoutFacts}
 use Rattle.geography.specs.Fields.{headerFields, entryFields, pointFields, allPoints, fieldFacts}
 use Rattle.geography.specs.Agreement.{numberAgrees, opens, rises, stays, closes, pointAgrees, pointsOf, trackAgrees, agreementFacts}
-use Rattle.geography.specs.Facts.{sealFacts, checkFacts, facts, judgedOf}
+use Rattle.geography.specs.Facts.{fileType, checkFacts, facts, judgedOf}
 
 module _ (f : List ℕ) (size : ℕ) (v x y r : Judged) where
   pub layout-judged : x ≡ judge v (countLayout f) → y ≡ judge x (flatMap (entryLayout f size) (entries f)) → r ≡ judge y (stopLayout f size) → r ≡ judge v (layoutFacts f size)
@@ -58,15 +59,15 @@ module _ (f : List ℕ) where
       unfolding facts
       after-length r q = goes-on s r (lengthBetween f leastLength mostLength ∷ []) (checkFacts f pointSize) p e q
 
-      module _ (t : Judged) (q : t ≡ judge Accepted (sealFacts f)) where
+      module _ (t : Judged) (q : t ≡ judge Accepted (sealFacts f fileType)) where
         pub seal-refused : (m : Mark) → t ≡ Refused m → t ≡ judgedOf f
         unfolding checkFacts rest
-        seal-refused m g = after-length t (stops t m (sealFacts f) (layoutFacts f pointSize ++ rest) q g)
+        seal-refused m g = after-length t (stops t m (sealFacts f fileType) (layoutFacts f pointSize ++ rest) q g)
 
         module _ (g : t ≡ Accepted) where
           after-seal : (r : Judged) → r ≡ firstFault (layoutFacts f pointSize ++ rest) → r ≡ judgedOf f
           unfolding checkFacts rest
-          after-seal r h = after-length r (goes-on t r (sealFacts f) (layoutFacts f pointSize ++ rest) q g h)
+          after-seal r h = after-length r (goes-on t r (sealFacts f fileType) (layoutFacts f pointSize ++ rest) q g h)
 
           module _ (l : Judged) (h : l ≡ judge Accepted (layoutFacts f pointSize)) where
             pub layout-refused : (m : Mark) → l ≡ Refused m → l ≡ judgedOf f

@@ -14,6 +14,7 @@ use native.Mathlib.Omega.{arith}
 use borrow.Author.Tests.{lt-ltb, le-ltb, eq-eqb, ne-eqb}
 use native.Mathlib.Decide.{ℕ-discrete}
 use Rattle.octets.specs.Octets.{numAt, signedAt}
+use Rattle.seal.specs.Seal.{sealFacts}
 use Rattle.verdict.specs.Facts.{Fact, AllHold, Holds, firstFault}
 use Rattle.verdict.specs.declared.Judged.the-variants.{Accepted}
 use Rattle.verdict.proofs.Facts.{accepted-iff, all-append, all-each}
@@ -22,7 +23,7 @@ use Rattle.tracks.specs.Places as place
 use Rattle.geography.specs.Layout.{endOf, countOf, pointsAt, entries, firstOf, lastOf, isFirst, stopBefore, dueAt, entryLayout, countLayout, stopLayout, layoutFacts}
 use Rattle.geography.specs.Fields.{headerFields, entryFields, pointFields, allPoints, fieldFacts}
 use Rattle.geography.specs.Agreement.{sumOf, numberAgrees, opens, rises, stays, closes, pointAgrees, pointsOf, trackAgrees, agreementFacts}
-use Rattle.geography.specs.Facts.{sealFacts, checkFacts, facts, judgedOf}
+use Rattle.geography.specs.Facts.{fileType, checkFacts, facts, judgedOf}
 use Rattle.geography.specs.Obeys.{Between, Within, entryAt, pointAt, LayoutObeys, EntryObeys, PointObeys, FieldsObey, TrackAgrees, AgreementObeys, Obeys}
 
 -- ---- two signed numbers that are 0 apart
@@ -346,7 +347,7 @@ unfolding facts checkFacts AllHold
 accepted-obeys f =
     let size = place.pointSize in
     let all = accepted-iff (facts f) in
-    let sealed = all-append (sealFacts f) (layoutFacts f size ++ (fieldFacts f size ++ agreementFacts f size)) in
+    let sealed = all-append (sealFacts f fileType) (layoutFacts f size ++ (fieldFacts f size ++ agreementFacts f size)) in
     let laid = all-append (layoutFacts f size) (fieldFacts f size ++ agreementFacts f size) in
     let filled = all-append (fieldFacts f size) (agreementFacts f size) in
     let lay = layout-iff f size (omega arith) in

@@ -4,18 +4,14 @@ use Prim.Native.Nat.{ℕ, _+_, _-_, _*_}
 use mathlib.Core.Bool.{Bool, cond}
 use mathlib.Core.List.{List, [], _∷_, _++_, flatMap}
 use lib.Dec.{ltb}
-use lib.ListN.{length}
 use Rattle.octets.specs.Octets.{numAt}
 use Rattle.octets.specs.declared.Width.the-variants.{One, Two}
 use Rattle.verdict.specs.Facts.{Fact}
 use Rattle.verdict.specs.Walk.{startsFrom}
 use Rattle.verdict.specs.declared.Reason.the-variants as reason
 use Rattle.rules.specs.Rules.{isNumber, between, fits, whole, endsAt}
+pub use Rattle.seal.specs.Seal.{endOf}
 use Rattle.tracks.specs.Places.{countAt, entriesAt, entrySize, firstPoint, lastPoint}
-
--- 'End': the length without the checksum
-abbrev pub endOf : List ℕ → ℕ
-endOf f = length f - 4
 
 -- the track count n
 abbrev pub countOf : List ℕ → ℕ

@@ -8,6 +8,7 @@ use lib.ListN.{length, take}
 use lib.IntN.{ℤ, natAbs}
 use Rattle.octets.specs.Octets.{numAt, signedAt}
 use Rattle.checksum.specs.Checksum.{checksumOf}
+use Rattle.seal.specs.Seal.{typeAt, structureAt}
 use Rattle.tracks.specs.Places as place
 use Rattle.geography.specs.Layout.{endOf, countOf, pointsAt, firstOf, lastOf}
 use Rattle.geography.specs.Agreement.{sumOf}
@@ -97,8 +98,8 @@ pub record Obeys (f : List ℕ) : Type 0 where
   pub least : place.leastLength ≤ length f
   pub most : length f ≤ place.mostLength
   pub checksum : numAt 4 f (endOf f) ≡ checksumOf (take (endOf f) f)
-  pub file-type : numAt 1 f place.typeAt ≡ 1
-  pub structure-version : numAt 2 f place.structureAt ≡ 1
+  pub file-type : numAt 1 f typeAt ≡ 1
+  pub structure-version : numAt 2 f structureAt ≡ 1
   pub layout : LayoutObeys f place.pointSize
   pub fields : FieldsObey f place.pointSize
   pub agreement : AgreementObeys f place.pointSize

@@ -2,13 +2,7 @@
 -- Assumes nothing.
 use Prim.Native.Nat.{ℕ}
 
--- ---- table 2, the header: a field's place in the file
-
-abbrev pub typeAt : ℕ
-typeAt = 0
-
-abbrev pub structureAt : ℕ
-structureAt = 1
+-- ---- table 2, the header: a field's place in the file; the type and the structure version stand with the seal of both files
 
 abbrev pub dataAt : ℕ
 dataAt = 3

@@ -120,10 +120,6 @@ impl Point {
 }
 
 // Where each field of the header stands.
-pub const TYPE: usize = 0;
-
-pub const STRUCTURE: usize = 1;
-
 pub const DATA: usize = 3;
 
 pub const STATION: usize = 5;

@@ -17,6 +17,8 @@ const X1: usize = 1;
 
 const X2: usize = 2;
 
+const PAIR: usize = 3;
+
 const TRACK: usize = 4;
 
 const POINT: usize = 5;
@@ -89,8 +91,8 @@ fn read_file(room: &mut [u8], n: usize) -> bool {
     passed_over(n - kept)
 }
 
-// Answers the question of a case about its first file. It answers whether there is such a question.
-fn answered(head: &[u8], first: &[u8]) -> bool {
+// Answers the question of a case. It answers whether there is such a question.
+fn answered(head: &[u8], first: &[u8], second: &[u8]) -> bool {
     let question = byte_at(head, 0);
     let a = u32_at(head, NUMBERS);
     let b = u32_at(head, NUMBERS + NUMBER);
@@ -100,6 +102,10 @@ fn answered(head: &[u8], first: &[u8]) -> bool {
     }
     if question == X2 {
         answers::x2(first);
+        return true;
+    }
+    if question == PAIR {
+        answers::pair(first, second);
         return true;
     }
     if question == TRACK {
@@ -129,7 +135,7 @@ fn case_in(head: &[u8], first: &mut [u8], n: usize, second: &mut [u8], m: usize)
     if !read_file(second, m) {
         return stop(b"yardbatch: the input ends inside a case\n");
     }
-    if !answered(head, first) {
+    if !answered(head, first, second) {
         return stop(b"yardbatch: unknown question\n");
     }
     io::write_all(STDOUT_FILENO, b"\n");

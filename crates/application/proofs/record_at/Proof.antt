@@ -2,7 +2,8 @@
 -- Assumes nothing.
 use mathlib.Core.Path.{_≡_, sym, _∙_}
 use native.Mathlib.Omega.{arith}
-use Rattle.application.proofs.Checks.{found-regions, found-layout, found-bounded}
+use Rattle.layout.proofs.Shapes.{found-regions, found-layout}
+use Rattle.application.proofs.Checks.{found-bounded}
 use Rattle.application.proofs.Questions.{verdict-obeys, not-true, not-false, own-fault, never-faulty, no-record, start-small, record-there}
 use borrow.Author.Needs.{needs}
 use Rattle.application.proofs.record_at.Statement.{statement}

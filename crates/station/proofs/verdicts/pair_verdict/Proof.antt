@@ -2,7 +2,8 @@
 -- Assumes nothing.
 use mathlib.Core.Path.{sym, _∙_}
 use Rattle.lookup.proofs.Lookup as lookup
-use Rattle.application.proofs.Checks.{found-layout, found-bounded}
+use Rattle.layout.proofs.Shapes.{found-layout}
+use Rattle.application.proofs.Checks.{found-bounded}
 use Rattle.application.proofs.Questions.{verdict-obeys, never-faulty}
 use Rattle.station.proofs.Checks.{first-fault, second-fault, pair-fault}
 use borrow.Author.Needs.{needs}

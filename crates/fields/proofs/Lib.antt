@@ -1,0 +1,4 @@
+pub mod Bounds
+pub mod Checks
+pub mod Values
+pub mod Obeys

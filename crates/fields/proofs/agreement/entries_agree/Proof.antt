@@ -1,0 +1,84 @@
+-- `fields::agreement::entries_agree` meets its contract. The invariant: the verdict so far, then the facts of the entries from i on, is the
+-- verdict before the loop and then the facts of all entries.
+-- Assumes nothing.
+use Prim.Native.Nat.{_-_}
+use mathlib.Core.Path.{_≡_, _∙_, refl, sym}
+use mathlib.Core.List.{flatMap}
+use native.Mathlib.Omega.{arith}
+use Rattle.verdict.specs.Facts.{judge}
+use Rattle.verdict.specs.Walk.{startsFrom}
+use Rattle.verdict.proofs.Checks.{judge-step, judge-stop}
+use Rattle.layout.specs.Facts.{indexes}
+use Rattle.fields.specs.Agreement.{entryAgrees, entriesAgree}
+use borrow.Author.Needs.{needs}
+use Rattle.fields.proofs.agreement.entries_agree.Statement.{statement}
+use Rattle.fields.proofs.agreement.entries_agree.Tie as tie
+
+abbrev Inv-loop : tie.InvT-loop
+Inv-loop f entries from count w₀ i₀ w i =
+    judge w (flatMap (entryAgrees f entries from) (startsFrom (λ _. 1) count i)) ≡ judge w₀ (flatMap (entryAgrees f entries from) (indexes count))
+
+abbrev μ-loop : tie.MeasureT-loop
+μ-loop f entries from count w₀ i₀ w i = count - i
+
+loop-holds : tie.Need-loop-holds Inv-loop μ-loop
+unfolding indexes
+loop-holds c = refl
+
+mul-here : tie.Need-mul-here Inv-loop μ-loop
+mul-here c = search needs
+
+add-here : tie.Need-add-here Inv-loop μ-loop
+add-here c = search needs
+
+add-here-2 : tie.Need-add-here-2 Inv-loop μ-loop
+add-here-2 c = search needs
+
+mul-own : tie.Need-mul-own Inv-loop μ-loop
+mul-own c = search needs
+
+add-own : tie.Need-add-own Inv-loop μ-loop
+add-own c = search needs
+
+add-own-2 : tie.Need-add-own-2 Inv-loop μ-loop
+add-own-2 c = search needs
+
+same-as-requires : tie.Need-same-as-requires Inv-loop μ-loop
+same-as-requires c κs = search needs
+
+add-i : tie.Need-add-i Inv-loop μ-loop
+add-i c = search needs
+
+loop-less : tie.Need-loop-less Inv-loop μ-loop
+loop-less c = search needs
+
+loop-again : tie.Need-loop-again Inv-loop μ-loop
+loop-again c =
+    let a = c .before .before .before .before .args in
+    let h = c .before .before .loop in
+    judge-step (λ _. 1) (a .count) (entryAgrees (a .f .now) (a .entries) (a .from)) (λ x. omega arith) (h .w) _ (h .i) _ (omega arith) (c .same-as .ensures) refl ∙ h .inv
+
+returns : tie.Need-returns Inv-loop μ-loop
+unfolding entriesAgree
+returns c =
+    let a = c .before .before .before .args in
+    sym (judge-stop (λ _. 1) (a .count) (entryAgrees (a .f .now) (a .entries) (a .from)) _ _ (omega arith)) ∙ c .before .loop .inv
+
+pub entries-agree-spec : {M : Type 1} → statement M
+entries-agree-spec =
+    tie.close
+    (tie.spec
+    Inv-loop
+    μ-loop
+    loop-holds
+    mul-here
+    add-here
+    add-here-2
+    mul-own
+    add-own
+    add-own-2
+    same-as-requires
+    add-i
+    loop-less
+    loop-again
+    returns)

@@ -1,0 +1,78 @@
+-- `fields::agreement::kind_agrees` meets its contract. Each arm is what its kind is asked for.
+-- Assumes nothing.
+use Rattle.fields.specs.Agreement.{kindAgrees}
+use borrow.Author.Needs.{needs}
+use Rattle.fields.proofs.agreement.kind_agrees.Statement.{statement}
+use Rattle.fields.proofs.agreement.kind_agrees.Tie as tie
+
+enum-told : tie.Need-enum-told
+enum-told c = search needs
+
+enum-told-2 : tie.Need-enum-told-2
+enum-told-2 c = search needs
+
+enum-told-3 : tie.Need-enum-told-3
+enum-told-3 c = search needs
+
+enum-told-4 : tie.Need-enum-told-4
+enum-told-4 c = search needs
+
+place-in-count-requires : tie.Need-place-in-count-requires
+place-in-count-requires c κs = search needs
+
+enum-told-5 : tie.Need-enum-told-5
+enum-told-5 c = search needs
+
+enum-told-6 : tie.Need-enum-told-6
+enum-told-6 c = search needs
+
+enum-told-7 : tie.Need-enum-told-7
+enum-told-7 c = search needs
+
+returns : tie.Need-returns
+unfolding kindAgrees
+returns c = rw (c .enum-told .given .1)
+
+returns-2 : tie.Need-returns-2
+unfolding kindAgrees
+returns-2 c = rw (c .enum-told2 .given .1)
+
+returns-3 : tie.Need-returns-3
+unfolding kindAgrees
+returns-3 c = rw (c .enum-told3 .given .1)
+
+returns-4 : tie.Need-returns-4
+unfolding kindAgrees
+returns-4 c = rw (c .before .enum-told4 .given .1) (c .place-in-count .ensures)
+
+returns-5 : tie.Need-returns-5
+unfolding kindAgrees
+returns-5 c = rw (c .enum-told5 .given .1)
+
+returns-6 : tie.Need-returns-6
+unfolding kindAgrees
+returns-6 c = rw (c .enum-told6 .given .1)
+
+returns-7 : tie.Need-returns-7
+unfolding kindAgrees
+returns-7 c = rw (c .enum-told7 .given .1)
+
+pub kind-agrees-spec : {M : Type 1} → statement M
+kind-agrees-spec =
+    tie.close
+    (tie.spec
+    enum-told
+    enum-told-2
+    enum-told-3
+    enum-told-4
+    place-in-count-requires
+    enum-told-5
+    enum-told-6
+    enum-told-7
+    returns
+    returns-2
+    returns-3
+    returns-4
+    returns-5
+    returns-6
+    returns-7)

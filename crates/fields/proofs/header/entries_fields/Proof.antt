@@ -1,0 +1,72 @@
+-- `fields::header::entries_fields` meets its contract. The invariant: the verdict so far, then the facts of the entries from i on, is the
+-- verdict before the loop and then the facts of all entries.
+-- Assumes nothing.
+use Prim.Native.Nat.{_-_}
+use mathlib.Core.Path.{_≡_, _∙_, refl, sym}
+use mathlib.Core.List.{flatMap}
+use native.Mathlib.Omega.{arith}
+use Rattle.verdict.specs.Facts.{judge}
+use Rattle.verdict.specs.Walk.{startsFrom}
+use Rattle.verdict.proofs.Checks.{judge-step, judge-stop}
+use Rattle.layout.specs.Facts.{indexes}
+use Rattle.fields.specs.Fields.{entryFields, entriesFields}
+use borrow.Author.Needs.{needs}
+use Rattle.fields.proofs.header.entries_fields.Statement.{statement}
+use Rattle.fields.proofs.header.entries_fields.Tie as tie
+
+abbrev Inv-loop : tie.InvT-loop
+Inv-loop f entries count w₀ i₀ w i =
+    judge w (flatMap (entryFields f entries) (startsFrom (λ _. 1) count i)) ≡ judge w₀ (flatMap (entryFields f entries) (indexes count))
+
+abbrev μ-loop : tie.MeasureT-loop
+μ-loop f entries count w₀ i₀ w i = count - i
+
+loop-holds : tie.Need-loop-holds Inv-loop μ-loop
+unfolding indexes
+loop-holds c = refl
+
+mul-track-at : tie.Need-mul-track-at Inv-loop μ-loop
+mul-track-at c = search needs
+
+add-track-at : tie.Need-add-track-at Inv-loop μ-loop
+add-track-at c = search needs
+
+add-track-at-2 : tie.Need-add-track-at-2 Inv-loop μ-loop
+add-track-at-2 c = search needs
+
+track-at-requires : tie.Need-track-at-requires Inv-loop μ-loop
+track-at-requires c κs = search needs
+
+add-i : tie.Need-add-i Inv-loop μ-loop
+add-i c = search needs
+
+loop-less : tie.Need-loop-less Inv-loop μ-loop
+loop-less c = search needs
+
+loop-again : tie.Need-loop-again Inv-loop μ-loop
+loop-again c =
+    let a = c .before .before .before .before .args in
+    let h = c .before .before .loop in
+    judge-step (λ _. 1) (a .count) (entryFields (a .f .now) (a .entries)) (λ x. omega arith) (h .w) _ (h .i) _ (omega arith) (c .track-at .ensures) refl ∙ h .inv
+
+returns : tie.Need-returns Inv-loop μ-loop
+unfolding entriesFields
+returns c =
+    let a = c .before .before .before .args in
+    sym (judge-stop (λ _. 1) (a .count) (entryFields (a .f .now) (a .entries)) _ _ (omega arith)) ∙ c .before .loop .inv
+
+pub entries-fields-spec : {M : Type 1} → statement M
+entries-fields-spec =
+    tie.close
+    (tie.spec
+    Inv-loop
+    μ-loop
+    loop-holds
+    mul-track-at
+    add-track-at
+    add-track-at-2
+    track-at-requires
+    add-i
+    loop-less
+    loop-again
+    returns)

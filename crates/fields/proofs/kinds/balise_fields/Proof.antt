@@ -1,0 +1,21 @@
+-- `fields::kinds::balise_fields` meets its contract. Its parts join by a law of Checks.
+-- Assumes nothing.
+use Rattle.fields.proofs.Checks.{balise-judged}
+use borrow.Author.Needs.{needs}
+use Rattle.fields.proofs.kinds.balise_fields.Statement.{statement}
+use Rattle.fields.proofs.kinds.balise_fields.Tie as tie
+
+fixed-fields-requires : tie.Need-fixed-fields-requires
+fixed-fields-requires c κs = search needs
+
+message-fields-requires : tie.Need-message-fields-requires
+message-fields-requires c κs = search needs
+
+returns : tie.Need-returns
+returns c =
+    let a = c .before .before .before .args in
+    let fixed = c .before .fixed-fields in
+    balise-judged (a .f .now) (a .v) (fixed .result) (c .message-fields .result) (a .at) (fixed .ensures) (c .message-fields .ensures)
+
+pub balise-fields-spec : {M : Type 1} → statement M
+balise-fields-spec = tie.close (tie.spec fixed-fields-requires message-fields-requires returns)

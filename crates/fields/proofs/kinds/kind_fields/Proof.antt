@@ -1,0 +1,102 @@
+-- `fields::kinds::kind_fields` meets its contract. Each arm is the function of its kind.
+-- Assumes nothing.
+use Rattle.fields.specs.Fields.{kindFields}
+use borrow.Author.Needs.{needs}
+use Rattle.fields.proofs.kinds.kind_fields.Statement.{statement}
+use Rattle.fields.proofs.kinds.kind_fields.Tie as tie
+
+enum-told : tie.Need-enum-told
+enum-told c = search needs
+
+boundary-fields-requires : tie.Need-boundary-fields-requires
+boundary-fields-requires c κs = search needs
+
+enum-told-2 : tie.Need-enum-told-2
+enum-told-2 c = search needs
+
+boundary-fields-requires-2 : tie.Need-boundary-fields-requires-2
+boundary-fields-requires-2 c κs = search needs
+
+enum-told-3 : tie.Need-enum-told-3
+enum-told-3 c = search needs
+
+turnout-fields-requires : tie.Need-turnout-fields-requires
+turnout-fields-requires c κs = search needs
+
+enum-told-4 : tie.Need-enum-told-4
+enum-told-4 c = search needs
+
+balise-fields-requires : tie.Need-balise-fields-requires
+balise-fields-requires c κs = search needs
+
+enum-told-5 : tie.Need-enum-told-5
+enum-told-5 c = search needs
+
+signal-fields-requires : tie.Need-signal-fields-requires
+signal-fields-requires c κs = search needs
+
+enum-told-6 : tie.Need-enum-told-6
+enum-told-6 c = search needs
+
+joint-fields-requires : tie.Need-joint-fields-requires
+joint-fields-requires c κs = search needs
+
+enum-told-7 : tie.Need-enum-told-7
+enum-told-7 c = search needs
+
+siding-fields-requires : tie.Need-siding-fields-requires
+siding-fields-requires c κs = search needs
+
+returns : tie.Need-returns
+unfolding kindFields
+returns c = rw (c .before .enum-told .given .1) (c .boundary-fields .ensures)
+
+returns-2 : tie.Need-returns-2
+unfolding kindFields
+returns-2 c = rw (c .before .enum-told2 .given .1) (c .boundary-fields2 .ensures)
+
+returns-3 : tie.Need-returns-3
+unfolding kindFields
+returns-3 c = rw (c .before .enum-told3 .given .1) (c .turnout-fields .ensures)
+
+returns-4 : tie.Need-returns-4
+unfolding kindFields
+returns-4 c = rw (c .before .enum-told4 .given .1) (c .balise-fields .ensures)
+
+returns-5 : tie.Need-returns-5
+unfolding kindFields
+returns-5 c = rw (c .before .enum-told5 .given .1) (c .signal-fields .ensures)
+
+returns-6 : tie.Need-returns-6
+unfolding kindFields
+returns-6 c = rw (c .before .enum-told6 .given .1) (c .joint-fields .ensures)
+
+returns-7 : tie.Need-returns-7
+unfolding kindFields
+returns-7 c = rw (c .before .enum-told7 .given .1) (c .siding-fields .ensures)
+
+pub kind-fields-spec : {M : Type 1} → statement M
+kind-fields-spec =
+    tie.close
+    (tie.spec
+    enum-told
+    boundary-fields-requires
+    enum-told-2
+    boundary-fields-requires-2
+    enum-told-3
+    turnout-fields-requires
+    enum-told-4
+    balise-fields-requires
+    enum-told-5
+    signal-fields-requires
+    enum-told-6
+    joint-fields-requires
+    enum-told-7
+    siding-fields-requires
+    returns
+    returns-2
+    returns-3
+    returns-4
+    returns-5
+    returns-6
+    returns-7)

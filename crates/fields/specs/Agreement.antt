@@ -1,0 +1,63 @@
+-- X.2's agreement (01, 'Agreement'), in byte order: a header boundary's track equals its record's, for the start boundaries and then for
+-- the end boundaries; a balise's place is at most its count.
+-- Assumes nothing.
+use Prim.Native.Nat.{ℕ, _+_, _*_}
+use mathlib.Core.List.{List, [], _∷_, _++_, flatMap}
+use Rattle.octets.specs.Octets.{numAt}
+use Rattle.octets.specs.declared.Width.the-variants.{One}
+use Rattle.verdict.specs.Facts.{Fact, fact, atMost}
+use Rattle.verdict.specs.declared.Reason.the-variants as reason
+use Rattle.verdict.specs.declared.Rule.the-variants as rule
+use Rattle.rules.specs.Rules.{sameAs}
+use Rattle.records.specs.declared.Kind.{Kind}
+use Rattle.records.specs.declared.Kind.the-variants as kind
+use Rattle.records.specs.Places as place
+use Rattle.records.specs.Tables.{placeOf, countOf}
+use Rattle.layout.specs.declared.Layout.{Layout}
+use Rattle.layout.specs.Places.{startEntriesAt, endEntriesAt}
+use Rattle.layout.specs.Facts.{indexes}
+use Rattle.layout.specs.Records.{kindAt, starts}
+use Rattle.fields.specs.Fields.{trackAt}
+
+-- ---- the boundaries
+
+-- where the track stands in the boundary with the index i, of those from `from` on
+abbrev pub ownTrackAt : ℕ → ℕ → ℕ
+ownTrackAt from i = from + place.boundarySize * i + place.boundaryTrack
+
+abbrev pub entryAgrees : List ℕ → ℕ → ℕ → ℕ → List Fact
+entryAgrees f entries from i = sameAs f 0 (trackAt entries i) One (trackAt entries i) (ownTrackAt from i) ∷ []
+
+unfoldable pub entriesAgree : List ℕ → ℕ → ℕ → ℕ → List Fact
+entriesAgree f entries from count = flatMap (entryAgrees f entries from) (indexes count)
+
+-- ---- the balises
+
+-- the group byte of a balise
+abbrev pub groupByteOf : List ℕ → ℕ → ℕ
+groupByteOf f at = numAt 1 f (at + place.baliseGroup)
+
+-- a balise's place is at most its count
+abbrev pub placeInCount : List ℕ → ℕ → Fact
+placeInCount f at =
+    fact (atMost (placeOf (groupByteOf f at)) (countOf (groupByteOf f at))) (record { reason = reason.Agreement; start = at; place = at + place.baliseGroup; width = 1; rule = rule.PlaceInCount })
+
+-- only a balise has such a rule
+unfoldable pub kindAgrees : List ℕ → Kind → ℕ → List Fact
+kindAgrees f kind.StartBoundary at = []
+kindAgrees f kind.EndBoundary at = []
+kindAgrees f kind.Turnout at = []
+kindAgrees f kind.Balise at = placeInCount f at ∷ []
+kindAgrees f kind.Signal at = []
+kindAgrees f kind.Joint at = []
+kindAgrees f kind.Siding at = []
+
+abbrev pub recordAgrees : List ℕ → Layout → ℕ → List Fact
+recordAgrees f l at = kindAgrees f (kindAt l at) at
+
+-- ---- all of them
+
+unfoldable pub agreementFacts : List ℕ → Layout → List Fact
+agreementFacts f l =
+    entriesAgree f startEntriesAt (l .header) (l .starts)
+    ++ (entriesAgree f (endEntriesAt (l .starts)) (l .middle) (l .ends) ++ flatMap (recordAgrees f l) (starts f l))

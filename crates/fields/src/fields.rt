@@ -1,0 +1,43 @@
+// The fields of X.2: 5 in 01's table.
+ghost use mathlib.Core.Path.{_≡_};
+ghost use mathlib.Core.List.{flatMap};
+ghost use Rattle.verdict.specs.Facts.{judge};
+ghost use Rattle.layout.specs.Records.{starts};
+ghost use Rattle.fields.specs.Fields.{recordFields, fieldFacts, Bounded};
+use crate::header::entries_fields;
+use crate::header::header_fields;
+use crate::kinds::kind_fields;
+use layout::ENTRY_SIZE;
+use layout::Layout;
+use layout::START_ENTRIES;
+use layout::kind_at;
+use layout::size_of;
+use verdict::Judged;
+
+// The fields of every record.
+fn records_fields(f: &[u8], l: Layout, v: Judged) -> Judged
+    requires { ⌜ Bounded l ⌝ }
+    ensures { λ r. ⌜ r ≡ judge v (flatMap (recordFields (now (f .entry)) l) (starts (now (f .entry)) l)) ⌝ }
+{
+    let stop = l.stop;
+    let mut w = v;
+    let mut at = l.header;
+    while at < stop {
+        let k = kind_at(l, at);
+        w = kind_fields(f, k, at, w);
+        at = at + size_of(f, k, at);
+    }
+    w
+}
+
+// The verdict so far, then the fields.
+pub fn check_fields(f: &[u8], l: Layout, v: Judged) -> Judged
+    requires { ⌜ Bounded l ⌝ }
+    ensures { λ r. ⌜ r ≡ judge v (fieldFacts (now (f .entry)) l) ⌝ }
+{
+    let entries = START_ENTRIES + ENTRY_SIZE * l.starts + 1;
+    let mut w = header_fields(f, v);
+    w = entries_fields(f, START_ENTRIES, l.starts, w);
+    w = entries_fields(f, entries, l.ends, w);
+    records_fields(f, l, w)
+}

@@ -1,0 +1,29 @@
+-- `layout::faults::find_layout` meets its contract.
+-- Assumes nothing.
+use Rattle.layout.proofs.Checks.{is-found, is-faulty}
+use borrow.Author.Needs.{needs}
+use Rattle.layout.proofs.faults.find_layout.Statement.{statement}
+use Rattle.layout.proofs.faults.find_layout.Tie as tie
+
+layout-of-requires : tie.Need-layout-of-requires
+layout-of-requires c κs = search needs
+
+check-layout-requires : tie.Need-check-layout-requires
+check-layout-requires c κs = search needs
+
+enum-told : tie.Need-enum-told
+enum-told c = search needs
+
+enum-known-mark : tie.Need-enum-known-mark
+enum-known-mark c = search needs
+
+returns : tie.Need-returns
+returns c = is-found _ _ _ (c .before .before .before .layout-of .ensures .0) (c .before .before .check-layout .ensures) (c .enum-told .given .1)
+
+returns-2 : tie.Need-returns-2
+returns-2 c = is-faulty _ _ _ (c .before .before .before .before .layout-of .ensures .0) (c .before .before .before .check-layout .ensures) _ (c .before .mark .given .1)
+
+pub find-layout-spec : {M : Type 1} → statement M
+find-layout-spec =
+    tie.close
+    (tie.spec layout-of-requires check-layout-requires enum-told enum-known-mark returns returns-2)

@@ -1,0 +1,66 @@
+-- `layout::faults::offsets_layout` meets its contract. The invariant: the verdict so far, then the facts of the entries from i on, is the
+-- verdict before the loop and then the facts of all entries.
+-- Assumes nothing.
+use Prim.Native.Nat.{_≤_, _-_}
+use mathlib.Core.Path.{_≡_, _∙_, refl, sym}
+use mathlib.Core.List.{flatMap}
+use native.Mathlib.Omega.{arith}
+use borrow.Author.Needs.{needs}
+use Rattle.verdict.specs.Facts.{judge}
+use Rattle.verdict.specs.Walk.{startsFrom}
+use Rattle.verdict.proofs.Checks.{judge-step, judge-stop}
+use Rattle.layout.specs.Facts.{indexes, offsetLayout, offsetsLayout}
+use Rattle.layout.proofs.faults.offsets_layout.Statement.{statement}
+use Rattle.layout.proofs.faults.offsets_layout.Tie as tie
+
+abbrev Inv-loop : tie.InvT-loop
+Inv-loop f entries due count w₀ i₀ w i =
+    (i ≤ count) × (judge w (flatMap (offsetLayout f entries due) (startsFrom (λ _. 1) count i)) ≡ judge w₀ (offsetsLayout f entries due count))
+
+abbrev μ-loop : tie.MeasureT-loop
+μ-loop f entries due count w₀ i₀ w i = count - i
+
+loop-holds : tie.Need-loop-holds Inv-loop μ-loop
+unfolding offsetsLayout indexes
+loop-holds c = (omega arith, refl)
+
+mul-field : tie.Need-mul-field Inv-loop μ-loop
+mul-field c = search needs
+
+add-field : tie.Need-add-field Inv-loop μ-loop
+add-field c = search needs
+
+add-field-2 : tie.Need-add-field-2 Inv-loop μ-loop
+add-field-2 c = search needs
+
+mul-is-number : tie.Need-mul-is-number Inv-loop μ-loop
+mul-is-number c = search needs
+
+add-is-number : tie.Need-add-is-number Inv-loop μ-loop
+add-is-number c = search needs
+
+is-number-requires : tie.Need-is-number-requires Inv-loop μ-loop
+is-number-requires c κs = search needs
+
+add-i : tie.Need-add-i Inv-loop μ-loop
+add-i c = search needs
+
+loop-less : tie.Need-loop-less Inv-loop μ-loop
+loop-less c = search needs
+
+loop-again : tie.Need-loop-again Inv-loop μ-loop
+loop-again c =
+    let a = c .before .before .before .before .args in
+    let h = c .before .before .loop in (
+      omega arith,
+      judge-step (λ _. 1) (a .count) (offsetLayout (a .f .now) (a .entries) (a .due)) (λ x. omega arith) (h .w) _ (h .i) _ (omega arith) (c .is-number .ensures) refl ∙ h .inv .1,
+    )
+
+returns : tie.Need-returns Inv-loop μ-loop
+returns c =
+    let a = c .before .before .before .args in
+    sym (judge-stop (λ _. 1) (a .count) (offsetLayout (a .f .now) (a .entries) (a .due)) _ _ (omega arith)) ∙ c .before .loop .inv .1
+
+pub offsets-layout-spec : {M : Type 1} → statement M
+offsets-layout-spec =
+    tie.close (tie.spec Inv-loop μ-loop loop-holds mul-field add-field add-field-2 mul-is-number add-is-number is-number-requires add-i loop-less loop-again returns)

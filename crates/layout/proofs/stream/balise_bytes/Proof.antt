@@ -1,0 +1,21 @@
+-- `layout::stream::balise_bytes` meets its contract.
+-- Assumes nothing.
+use Rattle.layout.specs.Facts.{baliseBytes}
+use native.Mathlib.Omega.{arith}
+use borrow.Author.Needs.{needs}
+use Rattle.layout.proofs.stream.balise_bytes.Statement.{statement}
+use Rattle.layout.proofs.stream.balise_bytes.Tie as tie
+
+byte-behind-requires : tie.Need-byte-behind-requires
+byte-behind-requires c κs = search needs
+
+returns : tie.Need-returns
+unfolding baliseBytes
+returns c = omega (arith, c .before .byte-behind .ensures .is, c .before .byte-behind .ensures .below)
+
+returns-2 : tie.Need-returns-2
+unfolding baliseBytes
+returns-2 c = omega (arith, c .before .byte-behind .ensures .is)
+
+pub balise-bytes-spec : {M : Type 1} → statement M
+balise-bytes-spec = tie.close (tie.spec byte-behind-requires returns returns-2)

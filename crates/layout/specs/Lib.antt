@@ -1,0 +1,6 @@
+pub mod Places
+pub mod Layout
+pub mod Facts
+pub mod Records
+pub mod Obeys
+pub mod Regions

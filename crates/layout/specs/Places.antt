@@ -1,0 +1,83 @@
+-- Table 5 of the standard (01, 'X.2, fixed application'): where each field of the header stands. n is the start boundary count and k the
+-- end boundary count.
+-- Assumes nothing.
+use Prim.Native.Nat.{ℕ, _+_, _*_}
+
+abbrev pub typeAt : ℕ
+typeAt = 0
+
+abbrev pub structureAt : ℕ
+structureAt = 1
+
+abbrev pub dataAt : ℕ
+dataAt = 3
+
+abbrev pub stationAt : ℕ
+stationAt = 5
+
+abbrev pub nameAt : ℕ
+nameAt = 7
+
+abbrev pub startCountAt : ℕ
+startCountAt = 23
+
+-- ---- the entry of a boundary: a field's place in the entry, and the entry's size
+
+abbrev pub entryTrack : ℕ
+entryTrack = 0
+
+abbrev pub entryOffset : ℕ
+entryOffset = 1
+
+abbrev pub entrySize : ℕ
+entrySize = 3
+
+-- ---- the start boundaries' entries, k, and the end boundaries' entries
+
+abbrev pub startEntriesAt : ℕ
+startEntriesAt = 24
+
+abbrev pub endCountAt : ℕ → ℕ
+endCountAt n = startEntriesAt + entrySize * n
+
+abbrev pub endEntriesAt : ℕ → ℕ
+endEntriesAt n = endCountAt n + 1
+
+-- ---- the five group offsets: a field's place among them, and their size
+
+abbrev pub groupsAt : ℕ → ℕ → ℕ
+groupsAt n k = endEntriesAt n + entrySize * k
+
+abbrev pub turnoutsField : ℕ
+turnoutsField = 0
+
+abbrev pub balisesField : ℕ
+balisesField = 2
+
+abbrev pub signalsField : ℕ
+signalsField = 4
+
+abbrev pub jointsField : ℕ
+jointsField = 6
+
+abbrev pub sidingsField : ℕ
+sidingsField = 8
+
+abbrev pub groupsSize : ℕ
+groupsSize = 10
+
+-- the header's length, where the records start: 35 + 3 n + 3 k
+abbrev pub headerLength : ℕ → ℕ → ℕ
+headerLength n k = groupsAt n k + groupsSize
+
+-- ---- the checksum, which stands behind End, and limits
+
+abbrev pub checksumSize : ℕ
+checksumSize = 4
+
+-- a balise's size byte, where the balise has a message: 16 and a message of 2 to 104 bytes
+abbrev pub sizeLeast : ℕ
+sizeLeast = 18
+
+abbrev pub sizeMost : ℕ
+sizeMost = 120

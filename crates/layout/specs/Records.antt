@@ -1,0 +1,56 @@
+-- The records of an X.2 file in stored order: the region that a start lies in gives the kind, the kind (or a balise's size byte) the size,
+-- and the size the next start.
+-- Assumes nothing.
+use Prim.Native.Nat.{ℕ, _+_, _≤_, _<_}
+use mathlib.Core.Path.{_≡_}
+use mathlib.Core.Bool.{cond}
+use mathlib.Core.List.{List}
+use lib.Dec.{ltb}
+use Rattle.verdict.specs.Facts.{Claim, same, some}
+use Rattle.verdict.specs.Walk.{startsFrom}
+use Rattle.records.specs.declared.Kind.{Kind}
+use Rattle.records.specs.declared.Kind.the-variants.{StartBoundary, EndBoundary, Turnout, Balise, Signal, Joint, Siding}
+use Rattle.records.specs.Places.{boundarySize, turnoutSize, signalSize, jointSize, sidingSize}
+use Rattle.layout.specs.declared.Layout.{Layout}
+use Rattle.layout.specs.Facts.{baliseBytes}
+
+-- the kind of a record, by the region that its start lies in
+unfoldable pub kindAt : Layout → ℕ → Kind
+kindAt l at =
+    cond (ltb at (l .middle)) StartBoundary
+    (cond (ltb at (l .bounds)) EndBoundary
+    (cond (ltb at (l .turnouts)) Turnout
+    (cond (ltb at (l .balises)) Balise
+    (cond (ltb at (l .signals)) Signal
+    (cond (ltb at (l .joints)) Joint Siding)))))
+
+-- how many bytes the record of a kind at a place has
+unfoldable pub sizeOf : List ℕ → Kind → ℕ → ℕ
+sizeOf f StartBoundary at = boundarySize
+sizeOf f EndBoundary at = boundarySize
+sizeOf f Turnout at = turnoutSize
+sizeOf f Balise at = baliseBytes f at
+sizeOf f Signal at = signalSize
+sizeOf f Joint at = jointSize
+sizeOf f Siding at = sidingSize
+
+-- r is that, and small
+pub record IsSize (f : List ℕ) (k : Kind) (at r : ℕ) : Type 0 where
+  pub is : r ≡ sizeOf f k at
+  pub least : 12 ≤ r
+  pub most : r < 256
+
+abbrev pub sizeAt : List ℕ → Layout → ℕ → ℕ
+sizeAt f l at = sizeOf f (kindAt l at) at
+
+-- the starts of all records
+abbrev pub starts : List ℕ → Layout → List ℕ
+starts f l = startsFrom (sizeAt f l) (l .stop) (l .header)
+
+-- a balise starts at x, of those that stand without gaps from a place on
+unfoldable pub baliseStarts : List ℕ → ℕ → ℕ → Claim
+baliseStarts f from x = some (startsFrom (baliseBytes f) (x + 1) from) (λ s. same s x)
+
+-- a record starts at x
+unfoldable pub isStart : List ℕ → Layout → ℕ → Claim
+isStart f l x = some (starts f l) (λ s. same s x)

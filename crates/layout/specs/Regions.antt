@@ -1,0 +1,37 @@
+-- What follows from a right layout, and makes records quick to find: the regions follow each other without gaps from the header's end to
+-- End, and each is whole records of its kind.
+-- Assumes nothing.
+use Prim.Native.Nat.{ℕ, _+_, _-_, _*_, _%_, _≤_}
+use mathlib.Core.Path.{_≡_}
+use mathlib.Core.List.{List, List·Memᴰ}
+use lib.ListN.{length}
+use Rattle.verdict.specs.Walk.{startsFrom}
+use Rattle.records.specs.Places.{boundarySize, turnoutSize, signalSize, jointSize, sidingSize}
+use Rattle.layout.specs.declared.Layout.{Layout}
+use Rattle.layout.specs.Places.{headerLength}
+use Rattle.layout.specs.Facts.{baliseBytes}
+
+-- whole records of a size stand from a to b
+pub record Whole (size a b : ℕ) : Type 0 where
+  pub order : a ≤ b
+  pub whole : (b - a) % size ≡ 0
+
+-- whole balises stand from a to b
+pub record WholeBalises (f : List ℕ) (a b : ℕ) : Type 0 where
+  pub order : a ≤ b
+  pub ends : (at : ℕ) → List·Memᴰ at (startsFrom (baliseBytes f) b a) → at + baliseBytes f at ≤ b
+
+pub record Regions (f : List ℕ) (l : Layout) : Type 0 where
+  pub some-start : 1 ≤ l .starts
+  pub few-starts : l .starts ≤ 255
+  pub some-end : 1 ≤ l .ends
+  pub few-ends : l .ends ≤ 255
+  pub header : l .header ≡ headerLength (l .starts) (l .ends)
+  pub start-boundaries : l .middle ≡ l .header + boundarySize * l .starts
+  pub end-boundaries : l .bounds ≡ l .middle + boundarySize * l .ends
+  pub turnouts : Whole turnoutSize (l .bounds) (l .turnouts)
+  pub balises : WholeBalises f (l .turnouts) (l .balises)
+  pub signals : Whole signalSize (l .balises) (l .signals)
+  pub joints : Whole jointSize (l .signals) (l .joints)
+  pub sidings : Whole sidingSize (l .joints) (l .stop)
+  pub inside : l .stop ≤ length f

@@ -1,0 +1,106 @@
+// The records of a file, one after the other.
+ghost use mathlib.Core.Path.{_≡_};
+ghost use Prim.Native.Nat.{_^_, _≤_, _<_};
+ghost use Rattle.verdict.specs.Facts.{test};
+ghost use Rattle.layout.specs.Facts.{baliseBytes};
+ghost use Rattle.layout.specs.Records.{kindAt, IsSize, isStart, baliseStarts};
+ghost use Rattle.layout.specs.Regions.{Regions};
+use crate::Layout;
+use octets::byte_behind;
+use records::Balise;
+use records::Boundary;
+use records::Joint;
+use records::Kind;
+use records::Siding;
+use records::Signal;
+use records::Turnout;
+
+// The kind of the record that starts at a place, by the region that the place lies in.
+pub fn kind_at(l: Layout, at: usize) -> Kind
+    ensures { λ r. ⌜ r ≡ kindAt l at ⌝ }
+{
+    if at < l.middle {
+        return Kind::StartBoundary;
+    }
+    if at < l.bounds {
+        return Kind::EndBoundary;
+    }
+    if at < l.turnouts {
+        return Kind::Turnout;
+    }
+    if at < l.balises {
+        return Kind::Balise;
+    }
+    if at < l.signals {
+        return Kind::Signal;
+    }
+    if at < l.joints {
+        return Kind::Joint;
+    }
+    Kind::Siding
+}
+
+// How many bytes the balise at a place has: its size byte, and never under 16.
+pub fn balise_bytes(f: &[u8], at: usize) -> usize
+    ensures { λ r. ⌜ r ≡ baliseBytes (now (f .entry)) at ⌝ }
+    ensures { λ r. ⌜ (16 ≤ r) × (r < 256) ⌝ }
+{
+    let n = byte_behind(f, at, Balise::SIZE_BYTE);
+    if Balise::SIZE < n { n } else { Balise::SIZE }
+}
+
+// How many bytes the record of a kind at a place has.
+pub fn size_of(f: &[u8], k: Kind, at: usize) -> usize
+    ensures { λ r. ⌜ IsSize (now (f .entry)) k at r ⌝ }
+{
+    match k {
+        Kind::StartBoundary => Boundary::SIZE,
+        Kind::EndBoundary => Boundary::SIZE,
+        Kind::Turnout => Turnout::SIZE,
+        Kind::Balise => balise_bytes(f, at),
+        Kind::Signal => Signal::SIZE,
+        Kind::Joint => Joint::SIZE,
+        Kind::Siding => Siding::SIZE,
+    }
+}
+
+// Whether a balise starts at x, of those that stand without gaps from a place on: by the walk up to x.
+fn starts_balise(f: &[u8], from: usize, x: usize) -> bool
+    requires { ⌜ x < 2 ^ 63 ⌝ }
+    ensures { λ r. ⌜ r ≡ test (baliseStarts (now (f .entry)) from x) ⌝ }
+{
+    let mut at = from;
+    while at < x {
+        at = at + balise_bytes(f, at);
+    }
+    at == x
+}
+
+// Whether a record starts at a place, in a file whose layout is right.
+pub fn starts_record(f: &[u8], l: Layout, x: usize) -> bool
+    requires { ⌜ Regions (now f) l ⌝ }
+    ensures { λ r. ⌜ r ≡ test (isStart (now (f .entry)) l x) ⌝ }
+{
+    if x < l.header {
+        return false;
+    }
+    if x < l.bounds {
+        return (x - l.header) % Boundary::SIZE == 0;
+    }
+    if x < l.turnouts {
+        return (x - l.bounds) % Turnout::SIZE == 0;
+    }
+    if x < l.balises {
+        return starts_balise(f, l.turnouts, x);
+    }
+    if x < l.signals {
+        return (x - l.balises) % Signal::SIZE == 0;
+    }
+    if x < l.joints {
+        return (x - l.signals) % Joint::SIZE == 0;
+    }
+    if x < l.stop {
+        return (x - l.joints) % Siding::SIZE == 0;
+    }
+    false
+}
