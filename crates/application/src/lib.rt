@@ -4,7 +4,6 @@ ghost use Prim.Native.Nat.{_≤_, _<_};
 ghost use Rattle.verdict.specs.Facts.{firstFault};
 ghost use Rattle.fields.specs.Fields.{Bounded};
 ghost use Rattle.application.specs.Facts.{recordFacts, judgedOf, verdictOf};
-
 ghost use Rattle.application.specs.Questions.{outOfRange, refusedAs, recordOf};
 ghost use Rattle.application.specs.Shapes.{judgedAs};
 use fields::check_agreement;

@@ -46,7 +46,15 @@ fn target_fact(f: &[u8], l: Layout, marks: &[u8; PLACES], at: usize, p: usize, v
 }
 
 // The targets of two links.
-fn two_targets(f: &[u8], l: Layout, marks: &[u8; PLACES], at: usize, p: usize, q: usize, v: Judged) -> Judged
+fn two_targets(
+    f: &[u8],
+    l: Layout,
+    marks: &[u8; PLACES],
+    at: usize,
+    p: usize,
+    q: usize,
+    v: Judged,
+) -> Judged
     requires { ⌜ Targets (now f) l (now marks) ⌝ }
     ensures { λ r. ⌜ r ≡ judge v (targets (now (f .entry)) l at (p ∷ q ∷ [])) ⌝ }
 {
@@ -59,7 +67,16 @@ fn boundary_targets(f: &[u8], l: Layout, marks: &[u8; PLACES], at: usize, v: Jud
     requires { ⌜ Targets (now f) l (now marks) × (at < 66000) ⌝ }
     ensures { λ r. ⌜ r ≡ judge v (recordTargets (now (f .entry)) l Kind.StartBoundary at) ⌝ }
 {
-    let w = between(v, f, Reason::Target, at, at + Boundary::LINK, Width::Two, 1, 65535);
+    let w = between(
+        v,
+        f,
+        Reason::Target,
+        at,
+        at + Boundary::LINK,
+        Width::Two,
+        1,
+        65535,
+    );
     target_fact(f, l, marks, at, at + Boundary::LINK, w)
 }
 
@@ -68,12 +85,27 @@ fn turnout_targets(f: &[u8], l: Layout, marks: &[u8; PLACES], at: usize, v: Judg
     requires { ⌜ Targets (now f) l (now marks) × (at < 66000) ⌝ }
     ensures { λ r. ⌜ r ≡ judge v (recordTargets (now (f .entry)) l Kind.Turnout at) ⌝ }
 {
-    let w = two_targets(f, l, marks, at, at + Turnout::FRONT, at + Turnout::NORMAL, v);
+    let w = two_targets(
+        f,
+        l,
+        marks,
+        at,
+        at + Turnout::FRONT,
+        at + Turnout::NORMAL,
+        v,
+    );
     target_fact(f, l, marks, at, at + Turnout::REVERSE, w)
 }
 
 // The targets of one record's links.
-fn record_targets(f: &[u8], l: Layout, marks: &[u8; PLACES], k: Kind, at: usize, v: Judged) -> Judged
+fn record_targets(
+    f: &[u8],
+    l: Layout,
+    marks: &[u8; PLACES],
+    k: Kind,
+    at: usize,
+    v: Judged,
+) -> Judged
     requires { ⌜ Targets (now f) l (now marks) × (at < 66000) ⌝ }
     ensures { λ r. ⌜ r ≡ judge v (recordTargets (now (f .entry)) l k at) ⌝ }
 {

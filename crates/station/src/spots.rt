@@ -98,9 +98,30 @@ fn turnout_pair(f: &[u8], g: &[u8], at: usize, v: Judged) -> Judged
     requires { ⌜ Obeys (now f) × (at < 66000) ⌝ }
     ensures { λ r. ⌜ r ≡ judge v (spotsFacts (now (f .entry)) (now (g .entry)) at (spots Kind.Turnout at)) ⌝ }
 {
-    let v1 = lies_on(f, g, at, at + Turnout::FRONT_TRACK, at + Turnout::TIP_POSITION, v);
-    let v2 = lies_on(f, g, at, at + Turnout::NORMAL_TRACK, at + Turnout::NORMAL_POSITION, v1);
-    lies_on(f, g, at, at + Turnout::REVERSE_TRACK, at + Turnout::REVERSE_POSITION, v2)
+    let v1 = lies_on(
+        f,
+        g,
+        at,
+        at + Turnout::FRONT_TRACK,
+        at + Turnout::TIP_POSITION,
+        v,
+    );
+    let v2 = lies_on(
+        f,
+        g,
+        at,
+        at + Turnout::NORMAL_TRACK,
+        at + Turnout::NORMAL_POSITION,
+        v1,
+    );
+    lies_on(
+        f,
+        g,
+        at,
+        at + Turnout::REVERSE_TRACK,
+        at + Turnout::REVERSE_POSITION,
+        v2,
+    )
 }
 
 // The tracks and positions of one record.

@@ -52,7 +52,7 @@ kind-at-requires : tie.Need-kind-at-requires
 kind-at-requires c κs = search needs
 
 cast-read : tie.Need-cast-read
-cast-read c = 
+cast-read c =
     let f = c .before .before .before .before .before .before .before .before .before .before .before .args .f .now in
     let v = c .before .before .before .before .before .before .before .before .before .verdict-of .ensures in
     let e = c .before .before .before .before .before .before .before .enum-told .given .1 in

@@ -53,7 +53,7 @@ returns-3 : tie.Need-returns-3
 returns-3 c = absurd (never-faulty (c .before .before .before .before .before .before .before .before .before .before .before .args .second .now) 0 _ (c .before .before .before .before .before .verdict-of2 .ensures) (c .before .before .before .enum-told3 .given .1) _ (c .before .before .find-layout .ensures) _ (c .enum-told5 .given .1))
 
 check-pair-requires : tie.Need-check-pair-requires
-check-pair-requires c κs = 
+check-pair-requires c κs =
     let f = c .before .before .before .before .before .before .before .before .before .before .before .before .args .first .now in
     let g = c .before .before .before .before .before .before .before .before .before .before .before .before .args .second .now in
     let o = (lookup.verdict-obeys f) .0 (sym (c .before .before .before .before .before .before .before .before .before .verdict-of .ensures) ∙ c .before .before .before .before .before .before .before .enum-told .given .1) in

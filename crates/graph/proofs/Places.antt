@@ -1,0 +1,113 @@
+-- What stands at a place has the links that stand at the link places of its kind, and `boundaryAt` tells where a boundary's record starts.
+-- Assumes nothing.
+use Prim.Native.Nat.{ℕ, _-_, _%_, _≤_, _<_}
+use native.Mathlib.Omega.{arith}
+use mathlib.Core.Path.{_≡_, refl, sym, _∙_}
+use mathlib.Core.Bool.{Bool, true, false, cond, _&&_, true≢false}
+use mathlib.Core.Logic.{_↔_}
+use mathlib.Core.List.{List, map, List·Memᴰ}
+use lib.Dec.{leb, ltb}
+use borrow.Author.Tests.{leb-true, ltb-true, ltb-false, eqb-true, le-leb, lt-ltb, eq-eqb}
+use Rattle.verdict.specs.Facts.{Claim, test, Holds}
+use Rattle.verdict.proofs.Facts.{Agrees, agrees}
+use Rattle.octets.specs.Octets.{numAt}
+use Rattle.records.specs.declared.Kind.{Kind}
+use Rattle.records.specs.declared.Kind.the-variants as kind
+use Rattle.records.specs.Records.{linkPlaces}
+use Rattle.records.specs.Places.{boundarySize}
+use Rattle.layout.specs.declared.Layout.{Layout}
+use Rattle.layout.specs.Records.{kindAt, starts, isStart}
+use Rattle.layout.specs.Regions.{Regions}
+use Rattle.layout.proofs.Starts.{start-iff, found-boundary, start-least, start-below}
+use Rattle.graph.specs.Objects.{viewAt, objectAt, linksOf, isBoundary, offsetMost, boundaryAt}
+
+view-links : (f : List ℕ) (k : Kind) (at : ℕ) → linksOf (viewAt f k at) ≡ map (numAt 2 f) (linkPlaces k at)
+unfolding viewAt
+view-links f kind.StartBoundary at = refl
+view-links f kind.EndBoundary at = refl
+view-links f kind.Turnout at = refl
+view-links f kind.Balise at = refl
+view-links f kind.Signal at = refl
+view-links f kind.Joint at = refl
+view-links f kind.Siding at = refl
+
+-- THEOREM: the links of an object are the numbers at the link places of its kind, in their order
+pub links-are : (f : List ℕ) (l : Layout) (at : ℕ) → linksOf (objectAt f l at) ≡ map (numAt 2 f) (linkPlaces (kindAt l at) at)
+unfolding objectAt
+links-are f l at = view-links f (kindAt l at) at
+
+and-true : (a b : Bool) → (a && b) ≡ true → (a ≡ true) × (b ≡ true)
+and-true true true e = (refl, refl)
+and-true true false e = absurd (true≢false (sym e))
+and-true false b e = absurd (true≢false (sym e))
+
+pub record BoundaryAt (l : Layout) (x : ℕ) : Type 0 where
+  pub small : x ≤ offsetMost
+  pub after-header : l .header ≤ x
+  pub before-end : x < l .bounds
+  pub whole : (x - l .header) % boundarySize ≡ 0
+
+-- what `boundaryAt` tests
+pub boundary-facts : (l : Layout) (x : ℕ) → boundaryAt l x ≡ true → BoundaryAt l x
+unfolding boundaryAt
+boundary-facts l x e =
+    let a = and-true (leb x offsetMost) _ e in
+    let b = and-true (leb (l .header) x) _ (a .1) in
+    let c = and-true (ltb x (l .bounds)) _ (b .1) in
+    record { small = leb-true x offsetMost (a .0); after-header = leb-true (l .header) x (b .0); before-end = ltb-true x (l .bounds) (c .0); whole = eqb-true ((x - l .header) % boundarySize) 0 (c .1) }
+
+-- the facts pass the test
+pub boundary-tested : (l : Layout) (x : ℕ) → BoundaryAt l x → boundaryAt l x ≡ true
+unfolding boundaryAt
+boundary-tested l x b =
+    rw (le-leb x offsetMost (b .small), le-leb (l .header) x (b .after-header), lt-ltb x (l .bounds) (b .before-end), eq-eqb ((x - l .header) % boundarySize) 0 (b .whole), boundaryAt) refl
+
+-- the kinds by region, as far as the boundaries go
+kind-boundary : (f : List ℕ) (l : Layout) (x : ℕ) → l .middle ≤ l .bounds → isBoundary (objectAt f l x) ≡ ltb x (l .bounds)
+unfolding objectAt viewAt kindAt
+kind-boundary f l x h = go (ltb x (l .middle)) (ltb x (l .bounds)) refl refl
+  where
+    other : Bool → Bool → Bool → Bool → Kind
+    other c d e g = cond c kind.Turnout (cond d kind.Balise (cond e kind.Signal (cond g kind.Joint kind.Siding)))
+
+    beyond : (c d e g : Bool) → isBoundary (viewAt f (other c d e g) x) ≡ false
+    beyond true d e g = refl
+    beyond false true e g = refl
+    beyond false false true g = refl
+    beyond false false false true = refl
+    beyond false false false false = refl
+
+    go : (a b : Bool) → ltb x (l .middle) ≡ a → ltb x (l .bounds) ≡ b
+        → isBoundary (viewAt f (cond a kind.StartBoundary (cond b kind.EndBoundary (other (ltb x (l .turnouts)) (ltb x (l .balises)) (ltb x (l .signals)) (ltb x (l .joints))))) x) ≡ b
+    go true true p q = refl
+    go true false p q = let m = ltb-true x (l .middle) p in let n = ltb-false x (l .bounds) q in absurd (omega arith)
+    go false true p q = refl
+    go false false p q = beyond (ltb x (l .turnouts)) (ltb x (l .balises)) (ltb x (l .signals)) (ltb x (l .joints))
+
+holds : (c : Claim) → test c ≡ true → Holds c
+holds c e = rw e at (agrees c)
+
+tested : (c : Claim) → Holds c → test c ≡ true
+tested c h = go (test c) (agrees c)
+  where
+    go : (b : Bool) → Agrees b (Holds c) → b ≡ true
+    go true a = refl
+    go false a = absurd (a h)
+
+-- THEOREM: of a file whose layout is right, `boundaryAt` tells where a boundary's record starts
+pub boundary-iff : (f : List ℕ) (l : Layout) (x : ℕ) → Regions f l → l .stop ≤ offsetMost
+    → (boundaryAt l x ≡ true) ↔ (List·Memᴰ x (starts f l) × (isBoundary (objectAt f l x) ≡ true))
+boundary-iff f l x r small = (there, back)
+  where
+    there : boundaryAt l x ≡ true → List·Memᴰ x (starts f l) × (isBoundary (objectAt f l x) ≡ true)
+    there e =
+        let b = boundary-facts l x e in
+        let t = sym (found-boundary f l r x (b .after-header) (b .before-end)) ∙ eq-eqb ((x - l .header) % boundarySize) 0 (b .whole) in
+        (start-iff f l x .0 (holds (isStart f l x) t), kind-boundary f l x (omega (arith, r .end-boundaries)) ∙ lt-ltb x (l .bounds) (b .before-end))
+
+    back : List·Memᴰ x (starts f l) × (isBoundary (objectAt f l x) ≡ true) → boundaryAt l x ≡ true
+    back h =
+        let below = ltb-true x (l .bounds) (sym (kind-boundary f l x (omega (arith, r .end-boundaries))) ∙ h .1) in
+        let least = start-least f l r x (h .0) in
+        let t = found-boundary f l r x least below ∙ tested (isStart f l x) (start-iff f l x .1 (h .0)) in
+        boundary-tested l x (record { small = omega (arith, start-below f l r x (h .0)); after-header = least; before-end = below; whole = eqb-true ((x - l .header) % boundarySize) 0 t })

@@ -1,0 +1,127 @@
+// What stands at a place of a fixed application file, as far as its links go (01, 'X.2, fixed application' and 'Routes'): the file as a
+// graph. The kind follows from the region that the place lies in, and a number past the end of the file counts as 0, so everything here
+// answers for every file, every layout and every place.
+ghost use mathlib.Core.Path.{_≡_};
+ghost use Prim.Native.Nat.{_+_, _<_};
+ghost use Rattle.octets.specs.Octets.{numAt};
+ghost use Rattle.graph.specs.Objects.{objectAt, boundaryAt, edgeLink};
+ghost use Rattle.graph.specs.Ways.{onwardOf};
+use layout::Layout;
+use layout::kind_at;
+use octets::u16_at;
+use records::Balise;
+use records::Boundary;
+use records::Joint;
+use records::Kind;
+use records::Signal;
+use records::Turnout;
+
+// The links of a balise, a signal or a joint, which are plain objects.
+pub struct PlainLinks {
+    pub previous: u16,
+    pub next: u16,
+}
+
+// The links of a turnout.
+pub struct TurnoutLinks {
+    pub front: u16,
+    pub normal: u16,
+    pub reverse: u16,
+}
+
+// What stands at a place. A link of 0 is none.
+pub enum Object {
+    // a boundary, with its link
+    Boundary(u16),
+    Plain(PlainLinks),
+    Turnout(TurnoutLinks),
+    // a siding, which has no links
+    Nothing,
+}
+
+// The highest offset in a file.
+pub const OFFSET_MOST: usize = 65535;
+
+impl PlainLinks {
+    // The link by which the object is left where it was entered from `from`.
+    pub fn onward(self, from: u16) -> u16
+        ensures { λ r. ⌜ r ≡ onwardOf self from ⌝ }
+    {
+        let previous = self.previous;
+        if previous == from {
+            self.next
+        } else {
+            previous
+        }
+    }
+}
+
+impl Object {
+    // The link by which a boundary is left; 0 for any other object.
+    pub fn edge_link(self) -> u16
+        ensures { λ r. ⌜ r ≡ edgeLink self ⌝ }
+    {
+        match self {
+            Object::Boundary(link) => link,
+            Object::Plain(_) => 0,
+            Object::Turnout(_) => 0,
+            Object::Nothing => 0,
+        }
+    }
+}
+
+// The link that stands k bytes behind a record's start.
+fn link_at(f: &[u8], at: u16, k: usize) -> u16
+    requires { ⌜ k < 256 ⌝ }
+    ensures { λ r. ⌜ r ≡ numAt 2 (now (f .entry)) (at + k) ⌝ }
+{
+    u16_at(f, at as usize + k) as u16
+}
+
+// The links of a plain object, which stand so many bytes behind its start.
+fn plain_at(f: &[u8], at: u16, previous: usize, next: usize) -> Object
+    requires { ⌜ (previous < 256) × (next < 256) ⌝ }
+    ensures { λ r. ⌜ r ≡ Object.Plain (record { previous = numAt 2 (now (f .entry)) (at + previous); next = numAt 2 (now (f .entry)) (at + next) }) ⌝ }
+{
+    Object::Plain(PlainLinks {
+        previous: link_at(f, at, previous),
+        next: link_at(f, at, next),
+    })
+}
+
+// The object that starts at a place.
+pub fn object_at(f: &[u8], l: Layout, at: u16) -> Object
+    ensures { λ r. ⌜ r ≡ objectAt (now (f .entry)) l at ⌝ }
+{
+    let k = kind_at(l, at as usize);
+    match k {
+        Kind::StartBoundary => Object::Boundary(link_at(f, at, Boundary::LINK)),
+        Kind::EndBoundary => Object::Boundary(link_at(f, at, Boundary::LINK)),
+        Kind::Turnout => Object::Turnout(TurnoutLinks {
+            front: link_at(f, at, Turnout::FRONT),
+            normal: link_at(f, at, Turnout::NORMAL),
+            reverse: link_at(f, at, Turnout::REVERSE),
+        }),
+        Kind::Balise => plain_at(f, at, Balise::PREVIOUS, Balise::NEXT),
+        Kind::Signal => plain_at(f, at, Signal::PREVIOUS, Signal::NEXT),
+        Kind::Joint => plain_at(f, at, Joint::PREVIOUS, Joint::NEXT),
+        Kind::Siding => Object::Nothing,
+    }
+}
+
+// Whether a boundary starts at a place.
+pub fn boundary_at(l: Layout, at: usize) -> bool
+    ensures { λ r. ⌜ r ≡ boundaryAt l at ⌝ }
+{
+    let header = l.header;
+    if OFFSET_MOST < at {
+        return false;
+    }
+    if at < header {
+        return false;
+    }
+    if l.bounds <= at {
+        return false;
+    }
+    (at - header) % Boundary::SIZE == 0
+}

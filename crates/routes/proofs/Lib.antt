@@ -1,0 +1,3 @@
+pub mod Turn
+pub mod Whole
+pub mod Listing

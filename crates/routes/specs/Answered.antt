@@ -1,0 +1,101 @@
+-- What the lister answers and what it leaves in the words lent, for every input (01, 'Routes'): 13, then 14, then 15, else the listing.
+-- `v` says what stands at a place, and `asked` whether a boundary starts at `start`.
+-- Assumes nothing.
+use Prim.Native.Nat.{ℕ}
+use mathlib.Core.Bool.{Bool, true, false, cond, _&&_}
+use mathlib.Core.List.{List, _++_}
+use lib.ListN.{length, drop}
+use lib.Dec.{eqb, leb, ltb}
+use Rattle.verdict.specs.declared.Reason.{Reason}
+use Rattle.verdict.specs.declared.Reason.the-variants.{Question, Steps, Room}
+use Rattle.verdict.specs.Reasons.{numberOf}
+use Rattle.layout.specs.declared.Layout.{Layout}
+use Rattle.graph.specs.declared.Object.{Object}
+use Rattle.graph.specs.Objects.{objectAt, boundaryAt}
+use Rattle.walks.specs.declared.Tally.{Tally}
+use Rattle.walks.specs.Walks.{allWalks, allRoutes, wordsOf}
+use Rattle.walks.specs.Grown.{limitLeast, limitMost, budgetLeast, budgetMost}
+use Rattle.routes.specs.declared.RoutesAnswer.{RoutesAnswer}
+use Rattle.routes.specs.declared.RoutesAnswer.the-variants.{Listed, Refused}
+
+-- ---- the range
+
+-- a limit of 0 means this one
+abbrev pub defaultLimit : ℕ
+defaultLimit = 64
+
+unfoldable pub limitOf : ℕ → ℕ
+limitOf limit = cond (eqb limit 0) defaultLimit limit
+
+-- of the limit that is meant
+abbrev pub inRange : Bool → ℕ → ℕ → Bool
+inRange asked limit budget = asked && (leb limitLeast limit && (leb limit limitMost && (leb budgetLeast budget && leb budget budgetMost)))
+
+-- ---- the answer
+
+-- the number of all partial walks, the number of routes, and the words that these take
+unfoldable pub tallyOf : (ℕ → Object) → ℕ → ℕ → Tally
+tallyOf v start limit = record {
+  walks = length (allWalks v start limit);
+  routes = length (allRoutes v start limit);
+  words = length (wordsOf (allRoutes v start limit));
+}
+
+-- a refusal for a reason, at place 0
+abbrev pub refusedFor : Reason → RoutesAnswer
+refusedFor reason = Refused (record { reason = reason; place = 0 })
+
+-- the question is in range, the partial walks outnumber the budget, the list is longer than the room
+unfoldable pub judged : Bool → Bool → Bool → Tally → RoutesAnswer
+judged false steps room t = refusedFor Question
+judged true true room t = refusedFor Steps
+judged true false true t = refusedFor Room
+judged true false false t = Listed t
+
+-- the answer, of a limit that is meant
+unfoldable pub answerAt : (ℕ → Object) → Bool → ℕ → ℕ → ℕ → ℕ → RoutesAnswer
+answerAt v asked start limit budget room =
+    judged (inRange asked limit budget) (ltb budget (tallyOf v start limit .walks)) (ltb room (tallyOf v start limit .words)) (tallyOf v start limit)
+
+abbrev pub answerOf : (ℕ → Object) → Bool → ℕ → ℕ → ℕ → ℕ → RoutesAnswer
+answerOf v asked start limit budget room = answerAt v asked start (limitOf limit) budget room
+
+-- ---- the words lent
+
+-- a listing puts its words in front; a refusal leaves every word as it was
+unfoldable pub leaves : RoutesAnswer → List ℕ → List ℕ → List ℕ
+leaves (Listed t) ws out = ws ++ drop (length ws) out
+leaves (Refused t) ws out = out
+
+abbrev pub leftOf : (ℕ → Object) → Bool → ℕ → ℕ → ℕ → List ℕ → List ℕ
+leftOf v asked start limit budget out = leaves (answerOf v asked start limit budget (length out)) (wordsOf (allRoutes v start (limitOf limit))) out
+
+-- ---- the same of a file and its layout
+
+abbrev pub answerIn : List ℕ → Layout → ℕ → ℕ → ℕ → ℕ → RoutesAnswer
+answerIn f l start limit budget room = answerOf (objectAt f l) (boundaryAt l start) start limit budget room
+
+abbrev pub leftIn : List ℕ → Layout → ℕ → ℕ → ℕ → List ℕ → List ℕ
+leftIn f l start limit budget out = leftOf (objectAt f l) (boundaryAt l start) start limit budget out
+
+-- ---- the paper's numbers of an answer: of a refused one all but the number and the place are 0
+
+abbrev pub numberIn : RoutesAnswer → ℕ
+numberIn (Listed t) = 0
+numberIn (Refused t) = numberOf (t .reason)
+
+abbrev pub placeIn : RoutesAnswer → ℕ
+placeIn (Listed t) = 0
+placeIn (Refused t) = t .place
+
+abbrev pub routesIn : RoutesAnswer → ℕ
+routesIn (Listed t) = t .routes
+routesIn (Refused t) = 0
+
+abbrev pub wordsIn : RoutesAnswer → ℕ
+wordsIn (Listed t) = t .words
+wordsIn (Refused t) = 0
+
+abbrev pub walksIn : RoutesAnswer → ℕ
+walksIn (Listed t) = t .walks
+walksIn (Refused t) = 0

@@ -1,0 +1,9 @@
+pub mod Paths
+pub mod Listed
+pub mod Legal
+pub mod Sound
+pub mod Order
+pub mod Count
+pub mod Stores
+pub mod Grow
+pub mod Unfold

@@ -1,0 +1,34 @@
+-- What it is for a list to have them all: the routes in their order, and the partial walks as a number.
+-- Assumes nothing.
+use Prim.Native.Nat.{ℕ}
+use mathlib.Core.Path.{_≡_}
+use mathlib.Core.List.{List, [], _∷_, List·Memᴰ}
+use lib.ListN.{length}
+use Rattle.graph.specs.declared.Object.{Object}
+use Rattle.walks.specs.Legal.{Distinct, Route, Parts}
+
+-- R holds of each element and every later one
+unfoldable pub Ordered : {A : Type 0} → (A → A → Type 0) → List A → Type 0
+Ordered {A} R [] = Unit {0}
+Ordered {A} R (a ∷ l) = ((b : A) → List·Memᴰ b l → R a b) × Ordered R l
+
+-- the list has what P holds of, and nothing else, each once
+pub record Exactly (P : List ℕ → Type 0) (ws : List (List ℕ)) : Type 0 where
+  -- nothing else stands in it
+  pub sound : (w : List ℕ) → List·Memᴰ w ws → P w
+  -- none is missing
+  pub complete : (w : List ℕ) → P w → List·Memᴰ w ws
+  -- none stands twice
+  pub once : Distinct ws
+
+-- P holds of n lists
+pub record Number (P : List ℕ → Type 0) (n : ℕ) : Type 0 where
+  pub all : List (List ℕ)
+  pub exactly : Exactly P all
+  pub count : length all ≡ n
+
+-- the list has all routes, and nothing else, each once and in their order: of two, the one that leaves by normal the turnout where they
+-- part stands first
+pub record AllRoutes (v : ℕ → Object) (start limit : ℕ) (ws : List (List ℕ)) : Type 0 where
+  pub exactly : Exactly (Route v start limit) ws
+  pub ordered : Ordered (Parts v) ws

@@ -1,0 +1,63 @@
+-- What a partial walk and a route are (01, 'Routes'), with no word on how they are found. `v` says what stands at a place.
+-- Assumes nothing.
+use Prim.Native.Nat.{ℕ, _≤_}
+use mathlib.Core.Path.{_≡_}
+use mathlib.Core.Bool.{true}
+use mathlib.Core.List.{List, [], _∷_, _++_, List·Memᴰ}
+use lib.ListN.{length}
+use Rattle.graph.specs.declared.TurnoutLinks.{TurnoutLinks}
+use Rattle.graph.specs.declared.Object.{Object}
+use Rattle.graph.specs.declared.Object.the-variants.{Turnout}
+use Rattle.graph.specs.Objects.{edgeLink, isBoundary}
+use Rattle.graph.specs.Ways.{LeftBy}
+
+-- Each object after the first is named by a link by which the one before it is left, as that was entered; the first was entered from
+-- `from`. Link 0 ends the way.
+unfoldable pub Steps : (ℕ → Object) → ℕ → List ℕ → Type 0
+Steps v from [] = Unit {0}
+Steps v from (a ∷ []) = Unit {0}
+Steps v from (a ∷ b ∷ w) = LeftBy (v a) from b × (¬ (b ≡ 0)) × Steps v a (b ∷ w)
+
+-- what follows the boundary asked for, which is left by its link
+unfoldable pub FromStart : (ℕ → Object) → ℕ → List ℕ → Type 0
+FromStart v start [] = Unit {0}
+FromStart v start (b ∷ w) = (b ≡ edgeLink (v start)) × (¬ (b ≡ 0)) × Steps v start (b ∷ w)
+
+-- nothing stands twice
+unfoldable pub Distinct : {A : Type 0} → List A → Type 0
+Distinct [] = Unit {0}
+Distinct (a ∷ w) = (¬ List·Memᴰ a w) × Distinct w
+
+-- the last of a list
+unfoldable pub lastOf : List ℕ → ℕ
+lastOf [] = 0
+lastOf (x ∷ []) = x
+lastOf (x ∷ y ∷ l) = lastOf (y ∷ l)
+
+-- w is a partial walk from the boundary `start`
+pub record Walk (v : ℕ → Object) (start limit : ℕ) (w : List ℕ) : Type 0 where
+  -- it is a list of objects from the boundary asked for
+  pub rest : List ℕ
+  pub is : w ≡ start ∷ rest
+  pub led : FromStart v start rest
+  -- no object stands twice
+  pub once : Distinct w
+  -- the list has at most the limit of objects
+  pub short : length w ≤ limit
+
+-- w is a route: a partial walk of two or more objects that ends at a boundary
+pub record Route (v : ℕ → Object) (start limit : ℕ) (w : List ℕ) : Type 0 where
+  pub walk : Walk v start limit w
+  pub two : 2 ≤ length w
+  pub ends : isBoundary (v (lastOf w)) ≡ true
+
+-- a and b part at the turnout `at`: they are the same up to it, and a leaves it by normal and b by reverse
+pub record Parts (v : ℕ → Object) (a b : List ℕ) : Type 0 where
+  pub same : List ℕ
+  pub at : ℕ
+  pub links : TurnoutLinks
+  pub turnout : v at ≡ Turnout links
+  pub after : List ℕ
+  pub after′ : List ℕ
+  pub by-normal : a ≡ same ++ (at ∷ links .normal ∷ after)
+  pub by-reverse : b ≡ same ++ (at ∷ links .reverse ∷ after′)

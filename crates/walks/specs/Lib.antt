@@ -1,0 +1,4 @@
+pub mod Legal
+pub mod Walks
+pub mod All
+pub mod Grown
