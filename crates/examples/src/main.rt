@@ -1,5 +1,5 @@
 // The examples of 01 that are not marked P, run: yard Y and the X.1 file with one track and two points, each with some bytes changed and the
-// checksum repaired, and the verdict of each. The expected output is the paper's.
+// checksum repaired, and the verdict of each; and the routes of Y from 44 with some budgets and rooms. The expected output is the paper's.
 use libc::STDOUT_FILENO;
 use verdict::Verdict;
 
@@ -79,7 +79,7 @@ fn turnout(b: &mut [u8], reverse: u8) {
 }
 
 // Yard Y with a reverse link.
-fn yard(b: &mut [u8], reverse: u8) {
+fn lay_yard(b: &mut [u8], reverse: u8) {
     first_half(b);
     second_half(b);
     boundary(b, 44, 0x01);
@@ -102,18 +102,22 @@ fn track(b: &mut [u8], last: u8) {
     seal(b);
 }
 
-fn verdict_line(what: &[u8], v: Verdict) {
+fn line(what: &[u8], number: usize, place: usize) {
     io::write_all(STDOUT_FILENO, what);
     io::write_all(STDOUT_FILENO, b": ");
-    io::print_decimal(STDOUT_FILENO, v.number() as u64);
+    io::print_decimal(STDOUT_FILENO, number as u64);
     io::write_all(STDOUT_FILENO, b" at ");
-    io::print_decimal(STDOUT_FILENO, v.place() as u64);
+    io::print_decimal(STDOUT_FILENO, place as u64);
     io::write_all(STDOUT_FILENO, b"\n");
+}
+
+fn verdict_line(what: &[u8], v: Verdict) {
+    line(what, v.number(), v.place());
 }
 
 fn yard_line(what: &[u8], reverse: u8) {
     let mut b = [0u8; YARD];
-    yard(&mut b, reverse);
+    lay_yard(&mut b, reverse);
     verdict_line(what, application::verdict_of(&b));
 }
 
@@ -121,6 +125,24 @@ fn track_line(what: &[u8], last: u8) {
     let mut b = [0u8; TRACK];
     track(&mut b, last);
     verdict_line(what, geography::verdicts::verdict_of(&b));
+}
+
+// The routes of Y from 44 within a budget, in the words lent.
+fn routes_line(what: &[u8], budget: usize, words: &mut [u16]) {
+    let mut b = [0u8; YARD];
+    lay_yard(&mut b, 68);
+    let answer = yard::routes(&b, 44, 8, budget, words);
+    line(what, answer.number(), answer.place());
+}
+
+// The rooms: the words that Y's two routes take, and one less.
+fn routes_lines() {
+    let mut words = [0u16; 8];
+    let mut fewer = [0u16; 7];
+    routes_line(b"Y from 44, budget 3", 3, &mut words);
+    routes_line(b"Y from 44, budget 4", 4, &mut words);
+    routes_line(b"Y from 44, room 7", 4, &mut fewer);
+    routes_line(b"Y from 44, room 8", 4, &mut words);
 }
 
 fn main() {
@@ -132,4 +154,5 @@ fn main() {
     track_line(b"X.1, one track and two points", 51);
     track_line(b"X.1, last offset 50", 50);
     track_line(b"X.1, last offset 38", 38);
+    routes_lines();
 }
