@@ -21,6 +21,8 @@ const COORDINATE: usize = 6;
 
 const RECORD: usize = 7;
 
+const ROUTES: usize = 8;
+
 const NO_QUESTION: usize = 0;
 
 // Where the question stands among the words of the command line, the program's own name being the first of them; and what follows it.
@@ -34,6 +36,10 @@ const NUMBER: usize = 3;
 
 const NEXT_NUMBER: usize = 4;
 
+const THIRD_NUMBER: usize = 5;
+
+const FOURTH_NUMBER: usize = 6;
+
 // The longest word that may be a question, and that may be a number.
 const QUESTION_ROOM: usize = 16;
 
@@ -41,6 +47,9 @@ const NUMBER_ROOM: usize = 32;
 
 // A number has to be below this.
 const NO_NUMBER: usize = 0x1_0000_0000;
+
+// As many words are never lent for routes.
+const NO_WORDS: usize = 65536;
 
 // A byte more than the longest file: a file that fills the room is too long, whatever follows.
 const ROOM: usize = 65536;
@@ -72,7 +81,9 @@ fn wrong(why: &[u8], i: usize) {
     write(
         b"; usage: yardask x1 FILE | x2 FILE | pair FILE1 FILE2 | track FILE INDEX | point FILE TRACK POINT",
     );
-    write(b" | coordinate FILE TRACKNUMBER POSITION | record FILE OFFSET\n");
+    write(
+        b" | coordinate FILE TRACKNUMBER POSITION | record FILE OFFSET | routes FILE START LIMIT BUDGET ROOM\n",
+    );
 }
 
 // Whether two texts are the same.
@@ -111,6 +122,9 @@ fn question_in(text: &[u8]) -> usize {
     if same(text, b"record") {
         return RECORD;
     }
+    if same(text, b"routes") {
+        return ROUTES;
+    }
     NO_QUESTION
 }
 
@@ -134,6 +148,9 @@ fn words(question: usize) -> usize {
     }
     if question == TRACK || question == RECORD {
         return NUMBER + 1;
+    }
+    if question == ROUTES {
+        return FOURTH_NUMBER + 1;
     }
     NEXT_NUMBER + 1
 }
@@ -274,6 +291,41 @@ fn ask_with_numbers(question: usize) {
     ask(question, a, b);
 }
 
+// Answers the question routes about the file that the command line names.
+fn list_routes(start: usize, limit: usize, budget: usize, words: usize) {
+    let mut room = io::large_buffer();
+    let n = read_file(FIRST, &mut room);
+    if ROOM < n {
+        return;
+    }
+    listings::routes(&room[..n], start, limit, budget, words);
+}
+
+// The same, once its numbers are numbers.
+fn ask_routes() {
+    let start = number(NUMBER);
+    let limit = number(NEXT_NUMBER);
+    let budget = number(THIRD_NUMBER);
+    let words = number(FOURTH_NUMBER);
+    if NO_NUMBER <= start {
+        wrong(b"no number below 4294967296:", NUMBER);
+        return;
+    }
+    if NO_NUMBER <= limit {
+        wrong(b"no number below 4294967296:", NEXT_NUMBER);
+        return;
+    }
+    if NO_NUMBER <= budget {
+        wrong(b"no number below 4294967296:", THIRD_NUMBER);
+        return;
+    }
+    if NO_WORDS <= words {
+        wrong(b"no number below 65536:", FOURTH_NUMBER);
+        return;
+    }
+    list_routes(start, limit, budget, words);
+}
+
 fn main() {
     let given = os::arg_count();
     if given <= QUESTION {
@@ -295,6 +347,10 @@ fn main() {
     }
     if asked == PAIR {
         ask_pair();
+        return;
+    }
+    if asked == ROUTES {
+        ask_routes();
         return;
     }
     ask_with_numbers(asked);

@@ -1,6 +1,7 @@
 // Many questions in one run. Standard input is a sequence of cases: the question in 1 byte, four numbers of 4 bytes each, two lengths of
 // 4 bytes each, and the bytes of the first and of the second file; all numbers are little-endian. Standard output is, for each case, what
-// yardask prints, and an empty line. Input that ends inside a case, or an unknown question, is a line on standard error and ends the run.
+// yardask prints, and an empty line. Input that ends inside a case, an unknown question, or a case that lends more than 65,535 words for
+// routes, is a line on standard error and ends the run.
 ghost use mathlib.Core.Path.{_≡_};
 ghost use Prim.Native.Nat.{_≤_, min};
 use libc::STDERR_FILENO;
@@ -26,6 +27,11 @@ const POINT: usize = 5;
 const COORDINATE: usize = 6;
 
 const RECORD: usize = 7;
+
+const ROUTES: usize = 8;
+
+// The most words that a case may lend for routes.
+const MOST_WORDS: usize = 65535;
 
 // Where the four numbers stand, and the bytes of each.
 const NUMBERS: usize = 1;
@@ -91,6 +97,27 @@ fn read_file(room: &mut [u8], n: usize) -> bool {
     passed_over(n - kept)
 }
 
+// How many words a case lends.
+fn words_lent(head: &[u8]) -> usize {
+    u32_at(head, NUMBERS + 3 * NUMBER)
+}
+
+// Whether a case lends more words than it may.
+fn lends_too_much(head: &[u8]) -> bool {
+    if byte_at(head, 0) != ROUTES {
+        return false;
+    }
+    MOST_WORDS < words_lent(head)
+}
+
+// Answers the question routes.
+fn answer_routes(head: &[u8], f: &[u8]) {
+    let start = u32_at(head, NUMBERS);
+    let limit = u32_at(head, NUMBERS + NUMBER);
+    let budget = u32_at(head, NUMBERS + 2 * NUMBER);
+    listings::routes(f, start, limit, budget, words_lent(head));
+}
+
 // Answers the question of a case. It answers whether there is such a question.
 fn answered(head: &[u8], first: &[u8], second: &[u8]) -> bool {
     let question = byte_at(head, 0);
@@ -124,6 +151,10 @@ fn answered(head: &[u8], first: &[u8], second: &[u8]) -> bool {
         answers::record(first, a);
         return true;
     }
+    if question == ROUTES {
+        answer_routes(head, first);
+        return true;
+    }
     false
 }
 
@@ -134,6 +165,9 @@ fn case_in(head: &[u8], first: &mut [u8], n: usize, second: &mut [u8], m: usize)
     }
     if !read_file(second, m) {
         return stop(b"yardbatch: the input ends inside a case\n");
+    }
+    if lends_too_much(head) {
+        return stop(b"yardbatch: a case lends more than 65535 words\n");
     }
     if !answered(head, first, second) {
         return stop(b"yardbatch: unknown question\n");
