@@ -15,6 +15,7 @@ int command_list(int count, char **words);
 int command_cases(int count, char **words);
 int command_kinds(int count, char **words);
 int command_places(int count, char **words);
+int command_each(int count, char **words);
 int command_exact(int count, char **words);
 int command_self(int count, char **words);
 

@@ -23,6 +23,8 @@ static const struct {
       "kinds SEED COUNT ..   count those cases by question and number" },
     { "places", command_places,
       "places SEED COUNT ..  the same by kind of place too" },
+    { "each", command_each,
+      "each SEED COUNT ..    write the first of them for each kind of place" },
     { "exact", command_exact,
       "exact SEED COUNT ..   answer them from blocks of exactly their size" },
     { "self", command_self,

@@ -146,7 +146,9 @@ typedef struct {
     unsigned long count;
 } named_count;
 
-static void count_name(named_count *names, uint32_t *used, const char *name)
+/* Counts a name once more, and returns its count. */
+static unsigned long count_name(named_count *names, uint32_t *used,
+                                const char *name)
 {
     uint32_t i = 0;
     while (i < *used && strcmp(names[i].name, name) != 0)
@@ -155,8 +157,18 @@ static void count_name(named_count *names, uint32_t *used, const char *name)
         strcpy(names[i].name, name);
         names[(*used)++].count = 0;
     }
-    if (i < NAMES_LARGEST)
-        names[i].count++;
+    return i < NAMES_LARGEST ? ++names[i].count : NAMES_LARGEST;
+}
+
+/* The question of a case, its answer's number and kind of place. */
+static void name_case(const asked *ask, char *name)
+{
+    char place[NAME_ROOM];
+    posed given = pose(ask);
+    ind_answer answer = answer_case(&given);
+    name_place(ask, answer, place);
+    sprintf(name, "%s %lu %s", question_name(ask->question),
+            (unsigned long)answer.number, place);
 }
 
 int command_places(int count, char **words)
@@ -168,18 +180,30 @@ int command_places(int count, char **words)
     if (!read_generation(count, words, &run))
         return RUN_BAD;
     for (uint64_t i = 0; i < run.count; i++) {
-        char place[NAME_ROOM], name[2 * NAME_ROOM];
-        ind_answer answer;
-        posed given;
+        char name[2 * NAME_ROOM];
         build_case(&run, i, &ask);
-        given = pose(&ask);
-        answer = answer_case(&given);
-        name_place(&ask, answer, place);
-        sprintf(name, "%s %lu %s", question_name(ask.question),
-                (unsigned long)answer.number, place);
+        name_case(&ask, name);
         count_name(names, &used, name);
     }
     for (uint32_t i = 0; i < used; i++)
         printf("%s %lu\n", names[i].name, names[i].count);
     return RUN_WELL;
+}
+
+int command_each(int count, char **words)
+{
+    static asked ask;
+    static named_count names[NAMES_LARGEST];
+    uint32_t used = 0;
+    generation run;
+    if (!read_generation(count, words, &run))
+        return RUN_BAD;
+    for (uint64_t i = 0; i < run.count; i++) {
+        char name[2 * NAME_ROOM];
+        build_case(&run, i, &ask);
+        name_case(&ask, name);
+        if (count_name(names, &used, name) == 1)
+            write_case(stdout, &ask);
+    }
+    return fflush(stdout) == 0 ? RUN_WELL : RUN_BAD;
 }
