@@ -171,39 +171,51 @@ static void name_case(const asked *ask, char *name)
             (unsigned long)answer.number, place);
 }
 
-int command_places(int count, char **words)
+/* Builds each case of a run and counts its name; hands each one on that is
+ * the first of its name. */
+static void name_cases(const generation *run, named_count *names,
+                       uint32_t *used, void (*first)(const asked *ask))
 {
     static asked ask;
+    for (uint64_t i = 0; i < run->count; i++) {
+        char name[2 * NAME_ROOM];
+        build_case(run, i, &ask);
+        name_case(&ask, name);
+        if (count_name(names, used, name) == 1)
+            first(&ask);
+    }
+}
+
+static void pass_over(const asked *ask)
+{
+    (void)ask;
+}
+
+static void write_first(const asked *ask)
+{
+    write_case(stdout, ask);
+}
+
+int command_places(int count, char **words)
+{
     static named_count names[NAMES_LARGEST];
     uint32_t used = 0;
     generation run;
     if (!read_generation(count, words, &run))
         return RUN_BAD;
-    for (uint64_t i = 0; i < run.count; i++) {
-        char name[2 * NAME_ROOM];
-        build_case(&run, i, &ask);
-        name_case(&ask, name);
-        count_name(names, &used, name);
-    }
+    name_cases(&run, names, &used, pass_over);
     for (uint32_t i = 0; i < used; i++)
         printf("%s %lu\n", names[i].name, names[i].count);
-    return RUN_WELL;
+    return fflush(stdout) == 0 ? RUN_WELL : RUN_BAD;
 }
 
 int command_each(int count, char **words)
 {
-    static asked ask;
     static named_count names[NAMES_LARGEST];
     uint32_t used = 0;
     generation run;
     if (!read_generation(count, words, &run))
         return RUN_BAD;
-    for (uint64_t i = 0; i < run.count; i++) {
-        char name[2 * NAME_ROOM];
-        build_case(&run, i, &ask);
-        name_case(&ask, name);
-        if (count_name(names, &used, name) == 1)
-            write_case(stdout, &ask);
-    }
+    name_cases(&run, names, &used, write_first);
     return fflush(stdout) == 0 ? RUN_WELL : RUN_BAD;
 }
