@@ -4,13 +4,13 @@ ghost use Rattle.verdict.specs.Reasons.{numberOf, numberIn};
 ghost use Rattle.geography.specs.Facts.{verdictOf};
 ghost use Rattle.survey.specs.Questions.{trackOf, pointOf, coordinateAsked};
 ghost use Rattle.survey.specs.Answers.{trackNumberIn, pointNumberIn, coordinateNumberIn};
-use crate::text::head;
-use crate::text::line;
-use crate::text::signed_line;
 use survey::Coordinate;
 use survey::CoordinateAnswer;
 use survey::PointAnswer;
 use survey::TrackAnswer;
+use text::head;
+use text::line;
+use text::signed_line;
 use tracks::Point;
 use tracks::Track;
 use verdict::Fault;
@@ -21,7 +21,7 @@ pub fn refused(fault: Fault) -> usize
 {
     let reason = fault.reason;
     let n = reason.number();
-    head(n, fault.place);
+    head(b"answer", n, fault.place);
     n
 }
 
@@ -31,12 +31,12 @@ pub fn x1(f: &[u8]) -> usize
 {
     let v = geography::verdicts::verdict_of(f);
     let n = v.number();
-    head(n, v.place());
+    head(b"answer", n, v.place());
     n
 }
 
 fn track_lines(t: Track) {
-    head(0, 0);
+    head(b"answer", 0, 0);
     line(b"number", t.number);
     line(b"property", t.property);
     line(b"start_position", t.start_position);
@@ -62,7 +62,7 @@ pub fn track(f: &[u8], index: usize) -> usize
 }
 
 fn point_lines(p: Point) {
-    head(0, 0);
+    head(b"answer", 0, 0);
     line(b"position", p.position);
     signed_line(b"latitude_increment", p.latitude);
     signed_line(b"longitude_increment", p.longitude);
@@ -84,7 +84,7 @@ pub fn point(f: &[u8], track: usize, index: usize) -> usize
 }
 
 fn coordinate_lines(c: Coordinate) {
-    head(0, 0);
+    head(b"answer", 0, 0);
     signed_line(b"latitude", c.latitude);
     signed_line(b"longitude", c.longitude);
 }

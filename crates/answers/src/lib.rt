@@ -4,7 +4,6 @@
 mod geography_answers;
 mod pair_answers;
 mod record_answers;
-mod text;
 
 pub use geography_answers::coordinate;
 pub use geography_answers::point;

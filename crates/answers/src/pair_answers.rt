@@ -2,8 +2,8 @@
 ghost use mathlib.Core.Path.{_≡_};
 ghost use Rattle.verdict.specs.Reasons.{pairNumberIn};
 ghost use Rattle.station.specs.Pair.{pairOf};
-use crate::text::write;
-use crate::text::write_number;
+use text::write;
+use text::write_number;
 
 // The first line of an answer about a pair.
 fn pair_head(number: usize, place: usize, file: usize) {

@@ -5,11 +5,6 @@ ghost use Rattle.application.specs.Facts.{verdictOf};
 ghost use Rattle.application.specs.Questions.{recordOf};
 ghost use Rattle.application.specs.Questions as question;
 use crate::geography_answers::refused;
-use crate::text::head;
-use crate::text::line;
-use crate::text::message_line;
-use crate::text::name_line;
-use crate::text::text_line;
 use application::RecordAnswer;
 use records::Balise;
 use records::Boundary;
@@ -21,6 +16,11 @@ use records::Siding;
 use records::Signal;
 use records::Turnout;
 use records::Way;
+use text::head;
+use text::line;
+use text::message_line;
+use text::name_line;
+use text::text_line;
 
 // The question x2.
 pub fn x2(f: &[u8]) -> usize
@@ -28,7 +28,7 @@ pub fn x2(f: &[u8]) -> usize
 {
     let v = application::verdict_of(f);
     let n = v.number();
-    head(n, v.place());
+    head(b"answer", n, v.place());
     n
 }
 
@@ -143,7 +143,7 @@ fn siding_lines(f: &[u8], s: Siding) {
 }
 
 fn record_lines(f: &[u8], r: Record) {
-    head(0, 0);
+    head(b"answer", 0, 0);
     match r {
         Record::StartBoundary(b) => {
             text_line(b"kind", b"start_boundary");

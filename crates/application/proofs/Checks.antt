@@ -1,60 +1,64 @@
 -- How the verdict of a file comes from the verdicts of its checks: one law for each way out of the code.
 -- Assumes nothing.
-use Prim.Native.Nat.{ℕ, _≤_, _<_}
-use mathlib.Core.Path.{_≡_, _∙_, refl, sym, ap, subst}
+use Prim.Native.Nat.{ℕ, _≤_}
+use mathlib.Core.Path.{_≡_, _∙_, refl, sym, ap}
 use mathlib.Core.List.{List, [], _∷_, _++_}
 use lib.ListN.{length}
-use native.Mathlib.Omega.{arith}
 use Rattle.verdict.specs.declared.Mark.{Mark}
 use Rattle.verdict.specs.declared.Judged.{Judged}
 use Rattle.verdict.specs.declared.Judged.the-variants.{Accepted, Refused}
 use Rattle.verdict.specs.Facts.{Fact, judge, firstFault}
 use Rattle.verdict.proofs.Facts.{judge-first, stops, goes-on}
 use Rattle.rules.specs.Rules.{lengthBetween}
-use Rattle.seal.specs.Seal.{sealFacts}
+use Rattle.seal.specs.Seal.{mostLength, sealFacts}
 use Rattle.layout.specs.declared.Layout.{Layout}
 use Rattle.layout.specs.declared.Shape.{Shape}
 use Rattle.layout.specs.declared.Shape.the-variants.{Found, Faulty}
 use Rattle.layout.specs.Layout.{layoutOf}
 use Rattle.layout.specs.Facts.{layoutFacts, shapeOf}
+use Rattle.layout.specs.Bounds.{Bounded, ifBounded}
+use Rattle.layout.proofs.Bounds.{regions-bounded, all-asked}
 use Rattle.layout.proofs.Shapes.{faulty-judged, found-judged, found-layout, found-regions}
-use Rattle.fields.specs.Fields.{Bounded, fieldFacts}
-use Rattle.fields.proofs.Bounds.{bounded}
+use Rattle.fields.specs.Fields.{fieldFacts}
 use Rattle.fields.specs.Agreement.{agreementFacts}
 use Rattle.links.specs.Links.{targetFacts, returnFacts}
-use Rattle.application.specs.Facts.{leastLength, mostLength, fileType, recordFacts, checkFacts, facts, judgedOf}
+use Rattle.application.specs.Facts.{leastLength, fileType, recordFacts, checkFacts, facts, judgedOf}
 use Rattle.application.specs.Shapes.{judgedAs}
 
 -- ---- the numbers of a layout that was found
 
 pub found-bounded : (f : List ℕ) (s : Shape) → s ≡ shapeOf f → (l : Layout) → s ≡ Found l → length f ≤ mostLength → Bounded l
-found-bounded f s p l e h = bounded f l (found-regions f s p l e) (omega arith)
+found-bounded f s p l e h = regions-bounded f l (found-regions f s p l e) h
 
 -- ---- the records: d is the verdict of the fields, g of the agreement, t of the targets
 
-module _ (f : List ℕ) (l : Layout) where
-  module _ (d : Judged) (p : d ≡ judge Accepted (fieldFacts f l)) where
+module _ (f : List ℕ) (l : Layout) (b : Bounded l) where
+  asked : (v : Judged) (fs : List Fact) → v ≡ judge Accepted (ifBounded l fs) → v ≡ judge Accepted fs
+  asked v fs e = e ∙ all-asked l Accepted fs b
+
+  module _ (d : Judged) (p : d ≡ judge Accepted (ifBounded l (fieldFacts f l))) where
     pub fields-refused : (m : Mark) → d ≡ Refused m → d ≡ firstFault (recordFacts f l)
     unfolding recordFacts
-    fields-refused m e = stops d m (fieldFacts f l) (agreementFacts f l ++ (targetFacts f l ++ returnFacts f l)) p e
+    fields-refused m e = stops d m (fieldFacts f l) (agreementFacts f l ++ (targetFacts f l ++ returnFacts f l)) (asked d (fieldFacts f l) p) e
 
-    module _ (e : d ≡ Accepted) (g : Judged) (q : g ≡ judge Accepted (agreementFacts f l)) where
-      pub agreement-refused : (m : Mark) → g ≡ Refused m → g ≡ firstFault (recordFacts f l)
+    module _ (e : d ≡ Accepted) (g : Judged) (q : g ≡ judge Accepted (ifBounded l (agreementFacts f l))) where
+      after-fields : (r : Judged) → r ≡ firstFault (agreementFacts f l ++ (targetFacts f l ++ returnFacts f l)) → r ≡ firstFault (recordFacts f l)
       unfolding recordFacts
-      agreement-refused m h =
-          goes-on d g (fieldFacts f l) (agreementFacts f l ++ (targetFacts f l ++ returnFacts f l)) p e (stops g m (agreementFacts f l) (targetFacts f l ++ returnFacts f l) q h)
+      after-fields r k = goes-on d r (fieldFacts f l) (agreementFacts f l ++ (targetFacts f l ++ returnFacts f l)) (asked d (fieldFacts f l) p) e k
 
-      module _ (h : g ≡ Accepted) (t : Judged) (s : t ≡ judge Accepted (targetFacts f l)) where
-        after : (r : Judged) → r ≡ firstFault (targetFacts f l ++ returnFacts f l) → r ≡ firstFault (recordFacts f l)
-        unfolding recordFacts
-        after r k =
-            goes-on d r (fieldFacts f l) (agreementFacts f l ++ (targetFacts f l ++ returnFacts f l)) p e (goes-on g r (agreementFacts f l) (targetFacts f l ++ returnFacts f l) q h k)
+      pub agreement-refused : (m : Mark) → g ≡ Refused m → g ≡ firstFault (recordFacts f l)
+      agreement-refused m h = after-fields g (stops g m (agreementFacts f l) (targetFacts f l ++ returnFacts f l) (asked g (agreementFacts f l) q) h)
+
+      module _ (h : g ≡ Accepted) (t : Judged) (s : t ≡ judge Accepted (ifBounded l (targetFacts f l))) where
+        after-agreement : (r : Judged) → r ≡ firstFault (targetFacts f l ++ returnFacts f l) → r ≡ firstFault (recordFacts f l)
+        after-agreement r k = after-fields r (goes-on g r (agreementFacts f l) (targetFacts f l ++ returnFacts f l) (asked g (agreementFacts f l) q) h k)
 
         pub targets-refused : (m : Mark) → t ≡ Refused m → t ≡ firstFault (recordFacts f l)
-        targets-refused m k = after t (stops t m (targetFacts f l) (returnFacts f l) s k)
+        targets-refused m k = after-agreement t (stops t m (targetFacts f l) (returnFacts f l) (asked t (targetFacts f l) s) k)
 
-        pub all-checked : t ≡ Accepted → (r : Judged) → r ≡ judge Accepted (returnFacts f l) → r ≡ firstFault (recordFacts f l)
-        all-checked k r n = after r (goes-on t r (targetFacts f l) (returnFacts f l) s k (n ∙ judge-first (returnFacts f l)))
+        pub all-checked : t ≡ Accepted → (r : Judged) → r ≡ judge Accepted (ifBounded l (returnFacts f l)) → r ≡ firstFault (recordFacts f l)
+        all-checked k r n =
+            after-agreement r (goes-on t r (targetFacts f l) (returnFacts f l) (asked t (targetFacts f l) s) k (asked r (returnFacts f l) n ∙ judge-first (returnFacts f l)))
 
 -- ---- the file: s is the verdict of the length, t of the checksum, the type and the version
 

@@ -1,10 +1,9 @@
 -- The ways out of the question 'record at an offset'.
 -- Assumes nothing.
-use Prim.Native.Nat.{ℕ, _≤_, _<_}
-use mathlib.Core.Path.{_≡_, _∙_, refl, sym, ap, subst}
-use mathlib.Core.Bool.{Bool, true, false, not, true≢false}
-use mathlib.Core.List.{List, List·Memᴰ}
-use lib.ListN.{length}
+use Prim.Native.Nat.{ℕ, _≤_}
+use mathlib.Core.Path.{_≡_, _∙_, refl, sym, ap}
+use mathlib.Core.Bool.{Bool, true, false}
+use mathlib.Core.List.{List}
 use native.Mathlib.Omega.{arith}
 use Rattle.verdict.specs.declared.Fault.{Fault}
 use Rattle.verdict.specs.declared.Mark.{Mark}
@@ -12,21 +11,22 @@ use Rattle.verdict.specs.declared.Judged.{Judged}
 use Rattle.verdict.specs.declared.Judged.the-variants as judged
 use Rattle.verdict.specs.declared.Verdict.{Verdict}
 use Rattle.verdict.specs.declared.Verdict.the-variants as verdict
-use Rattle.verdict.specs.Facts.{Claim, test, Holds, firstFault}
+use Rattle.verdict.specs.Facts.{test}
 use Rattle.verdict.specs.Reasons.{shownOf}
-use Rattle.verdict.proofs.Facts.{agrees, accepted-iff, judge-first, never}
+use Rattle.verdict.proofs.Facts.{accepted-iff, judge-first, never}
 use Rattle.records.specs.declared.Kind.{Kind}
 use Rattle.records.specs.declared.Record.{Record}
 use Rattle.records.specs.Records.{recordAt}
 use Rattle.layout.specs.declared.Layout.{Layout}
 use Rattle.layout.specs.declared.Shape.{Shape}
-use Rattle.layout.specs.declared.Shape.the-variants.{Found, Faulty}
+use Rattle.layout.specs.declared.Shape.the-variants.{Faulty}
 use Rattle.layout.specs.Layout.{layoutOf}
 use Rattle.layout.specs.Facts.{layoutFacts, shapeOf}
-use Rattle.layout.specs.Records.{kindAt, starts, isStart}
+use Rattle.layout.specs.Records.{kindAt, isStart}
+use Rattle.layout.specs.Bounds.{placeMost}
 use Rattle.layout.specs.Regions.{Regions}
 use Rattle.layout.proofs.Obeys.{layout-obeyed}
-use Rattle.layout.proofs.Starts.{start-iff, start-below}
+use Rattle.layout.proofs.Starts.{start-tested, start-below}
 use Rattle.application.specs.declared.RecordAnswer.{RecordAnswer}
 use Rattle.application.specs.declared.RecordAnswer.the-variants as answer
 use Rattle.application.specs.Facts.{judgedOf, verdictOf}
@@ -42,18 +42,6 @@ shown-accepted (judged.Refused m) e = let z : _≡_ {A = ℕ} 0 1 = cc in absurd
 -- an accepted file obeys
 pub verdict-obeys : (f : List ℕ) → verdictOf f ≡ verdict.Accepted → Obeys f
 verdict-obeys f e = (accepted-obeys f) .0 (shown-accepted (judgedOf f) e)
-
--- what a test of 'not b' says of b
-pub not-true : (b : Bool) → not b ≡ true → b ≡ false
-not-true true e = absurd (true≢false (sym e))
-not-true false e = refl
-
-pub not-false : (b : Bool) → not b ≡ false → b ≡ true
-not-false true e = refl
-not-false false e = absurd (true≢false e)
-
-holds-true : (c : Claim) → test c ≡ true → Holds c
-holds-true c e = rw e at (agrees c)
 
 module _ (f : List ℕ) (x : ℕ) (v : Verdict) (p : v ≡ verdictOf f) where
   pub own-fault : (t : Fault) → v ≡ verdict.Refused t → (r : RecordAnswer) → r ≡ refusedAs v → r ≡ recordOf f x
@@ -79,10 +67,9 @@ module _ (f : List ℕ) (x : ℕ) (v : Verdict) (p : v ≡ verdictOf f) where
       unfolding recordOf
       no-record h r n = n ∙ sym (answered ∙ ap (λ (c : Bool). recordIf c f x) h)
 
-      pub start-small : b ≡ true → Regions f l → l .stop < 65536 → x < 65536
+      pub start-small : b ≡ true → Regions f l → l .stop ≤ placeMost → x ≤ placeMost
       start-small h g s =
-          let m = (start-iff f l x) .0 (holds-true (isStart f l x) (sym q ∙ h)) in
-          let z = start-below f l g x m in
+          let z = start-below f l g x ((start-tested f l x) .0 (sym q ∙ h)) in
           omega arith
 
       pub record-there : b ≡ true → (k : Kind) → k ≡ kindAt l x → (r : Record) → r ≡ recordAt f k x → answer.Record r ≡ recordOf f x

@@ -1,13 +1,13 @@
 -- All facts of an X.2 file in 01's order, and the verdict: the first that fails.
 -- Assumes nothing.
 use Prim.Native.Nat.{ℕ}
-use mathlib.Core.List.{List, [], _∷_, _++_}
+use mathlib.Core.List.{List, _∷_, _++_}
 use Rattle.verdict.specs.Facts.{Fact, firstFault}
 use Rattle.verdict.specs.Reasons.{shownOf}
 use Rattle.verdict.specs.declared.Judged.{Judged}
 use Rattle.verdict.specs.declared.Verdict.{Verdict}
 use Rattle.rules.specs.Rules.{lengthBetween}
-use Rattle.seal.specs.Seal.{sealFacts}
+use Rattle.seal.specs.Seal.{mostLength, sealFacts}
 use Rattle.layout.specs.declared.Layout.{Layout}
 use Rattle.layout.specs.Layout.{layoutOf}
 use Rattle.layout.specs.Facts.{layoutFacts}
@@ -15,12 +15,9 @@ use Rattle.fields.specs.Fields.{fieldFacts}
 use Rattle.fields.specs.Agreement.{agreementFacts}
 use Rattle.links.specs.Links.{targetFacts, returnFacts}
 
--- how long an X.2 file is, and its type
+-- how long an X.2 file is at least, and its type
 abbrev pub leastLength : ℕ
 leastLength = 69
-
-abbrev pub mostLength : ℕ
-mostLength = 65535
 
 abbrev pub fileType : ℕ
 fileType = 2

@@ -7,12 +7,12 @@ use mathlib.Core.List.{List}
 use lib.ListN.{length, take}
 use Rattle.octets.specs.Octets.{numAt}
 use Rattle.checksum.specs.Checksum.{checksumOf}
-use Rattle.seal.specs.Seal.{endOf, typeAt, structureAt}
+use Rattle.seal.specs.Seal.{mostLength, endOf, typeAt, structureAt}
 use Rattle.layout.specs.Layout.{layoutOf}
 use Rattle.layout.specs.Obeys.{LayoutObeys}
 use Rattle.fields.specs.Obeys.{FieldsObey, AgreementObeys}
 use Rattle.links.specs.Obeys.{TargetsObey, ReturnsObey}
-use Rattle.application.specs.Facts.{leastLength, mostLength, fileType}
+use Rattle.application.specs.Facts.{leastLength, fileType}
 
 pub record Obeys (f : List ℕ) : Type 0 where
   pub least : leastLength ≤ length f

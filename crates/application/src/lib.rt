@@ -1,32 +1,32 @@
 // X.2, fixed application: the verdict of a file, the checks in 01's order, and the question 'record at an offset'.
 ghost use mathlib.Core.Path.{_≡_};
-ghost use Prim.Native.Nat.{_≤_, _<_};
 ghost use Rattle.verdict.specs.Facts.{firstFault};
-ghost use Rattle.fields.specs.Fields.{Bounded};
+ghost use Rattle.layout.specs.Bounds.{Bounded};
 ghost use Rattle.application.specs.Facts.{recordFacts, judgedOf, verdictOf};
 ghost use Rattle.application.specs.Questions.{outOfRange, refusedAs, recordOf};
 ghost use Rattle.application.specs.Shapes.{judgedAs};
+use crate::starts::starts_record;
 use fields::check_agreement;
 use fields::check_fields;
 use layout::Layout;
 use layout::Shape;
 use layout::find_layout;
 use layout::kind_at;
-use layout::starts_record;
 use links::check_returns;
 use links::check_targets;
 use records::Record;
 use rules::length_between;
+use seal::MOST_LENGTH;
 use seal::check_seal;
 use verdict::Fault;
 use verdict::Judged;
 use verdict::Reason;
 use verdict::Verdict;
 
-// How long an X.2 file is, and its type.
-pub const LEAST_LENGTH: usize = 69;
+mod starts;
 
-pub const MOST_LENGTH: usize = 65535;
+// How long an X.2 file is at least, and its type.
+pub const LEAST_LENGTH: usize = 69;
 
 pub const FILE_TYPE: usize = 2;
 

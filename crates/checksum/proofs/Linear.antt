@@ -43,6 +43,11 @@ bit-xor r q d e hr hq hd he =
     ap step (ap (λ (x : ℕ). bitXor x (bitXor r q)) (sym (xor-shift (width - 1) d e)) ∙ xor-four (in-place d) (in-place e) r q)
     ∙ step-xor (bitXor (in-place d) r) (bitXor (in-place e) q) (enters-lt r d hr hd) (enters-lt q e hq he)
 
+pub bits-lt : (ks : List ℕ) (r b : ℕ) → r < 2 ^ width → bitSteps ks r b < 2 ^ width
+unfolding bitSteps
+bits-lt [] r b p = p
+bits-lt (k ∷ ks) r b p = bits-lt ks (bitStep r (b / 2 ^ k % 2)) b (bit-lt r (b / 2 ^ k % 2) p (omega arith))
+
 pub bits-xor : (ks : List ℕ) (r q a b : ℕ) → r < 2 ^ width → q < 2 ^ width
     → bitSteps ks (bitXor r q) (bitXor a b) ≡ bitXor (bitSteps ks r a) (bitSteps ks q b)
 unfolding bitSteps

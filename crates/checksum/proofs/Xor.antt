@@ -33,7 +33,7 @@ parity : (x y z : ℕ) → ((x % 2 + y % 2) % 2 + z % 2) % 2 ≡ (x % 2 + (y % 2
 parity x y z =
     drop-left (x % 2 + y % 2) (z % 2) ∙ ap (λ (n : ℕ). n % 2) (add-assoc (x % 2) (y % 2) (z % 2)) ∙ sym (drop-right (x % 2) (y % 2 + z % 2))
 
-xor-assoc : (a b c : ℕ) → bitXor (bitXor a b) c ≡ bitXor a (bitXor b c)
+pub xor-assoc : (a b c : ℕ) → bitXor (bitXor a b) c ≡ bitXor a (bitXor b c)
 xor-assoc =
     bin-ind (λ (n : ℕ). (b c : ℕ) → bitXor (bitXor n b) c ≡ bitXor n (bitXor b c)) (λ b c. refl)
     (λ n ih b c.

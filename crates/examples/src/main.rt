@@ -2,6 +2,7 @@
 // checksum repaired, and the verdict of each; and the routes of Y from 44 with some budgets and rooms. The expected output is the paper's.
 use libc::STDOUT_FILENO;
 use verdict::Verdict;
+use walks::WORD_SIZE;
 
 // The lengths of the two files.
 const YARD: usize = 108;
@@ -127,22 +128,22 @@ fn track_line(what: &[u8], last: u8) {
     verdict_line(what, geography::verdicts::verdict_of(&b));
 }
 
-// The routes of Y from 44 within a budget, in the words lent.
-fn routes_line(what: &[u8], budget: usize, words: &mut [u16]) {
+// The routes of Y from 44 within a budget, in the bytes lent.
+fn routes_line(what: &[u8], budget: usize, lent: &mut [u8]) {
     let mut b = [0u8; YARD];
     lay_yard(&mut b, 68);
-    let answer = yard::routes(&b, 44, 8, budget, words);
+    let answer = yard::routes(&b, 44, 8, budget, lent);
     line(what, answer.number(), answer.place());
 }
 
-// The rooms: the words that Y's two routes take, and one less.
+// The rooms: two bytes for each word that Y's two routes take, and a byte less, which is room for a word less.
 fn routes_lines() {
-    let mut words = [0u16; 8];
-    let mut fewer = [0u16; 7];
-    routes_line(b"Y from 44, budget 3", 3, &mut words);
-    routes_line(b"Y from 44, budget 4", 4, &mut words);
+    let mut lent = [0u8; WORD_SIZE * 8];
+    let mut fewer = [0u8; WORD_SIZE * 8 - 1];
+    routes_line(b"Y from 44, budget 3", 3, &mut lent);
+    routes_line(b"Y from 44, budget 4", 4, &mut lent);
     routes_line(b"Y from 44, room 7", 4, &mut fewer);
-    routes_line(b"Y from 44, room 8", 4, &mut words);
+    routes_line(b"Y from 44, room 8", 4, &mut lent);
 }
 
 fn main() {

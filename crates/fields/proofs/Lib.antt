@@ -1,4 +1,3 @@
-pub mod Bounds
 pub mod Checks
 pub mod Values
 pub mod Obeys

@@ -10,7 +10,8 @@ use Rattle.verdict.proofs.Facts.{all-each}
 use Rattle.verdict.proofs.Orders.{le-or-lt}
 use Rattle.layout.specs.Facts.{indexes}
 use Rattle.layout.proofs.Walks.{index-iff}
-use Rattle.fields.specs.Obeys.{Between, OneOfTwo, OneOfFour, OneOfFive}
+use Rattle.rules.specs.Rules.{Between}
+use Rattle.fields.specs.Obeys.{OneOfTwo, OneOfFour, OneOfFive}
 
 -- between a number and the next
 pub two-iff : (low x : ℕ) → Between low (low + 1) x ↔ OneOfTwo low (low + 1) x

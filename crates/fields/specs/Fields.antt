@@ -1,7 +1,7 @@
 -- X.2's fields (01, 'Fields'): the header's, then those of each record in stored order, so in byte order. A record's fields stand in the
 -- order of its table; links are judged later and sizes were judged before. f is the file and `at` the record's start.
 -- Assumes nothing.
-use Prim.Native.Nat.{ℕ, _+_, _-_, _*_, _<_}
+use Prim.Native.Nat.{ℕ, _+_, _-_, _*_}
 use mathlib.Core.Bool.{cond}
 use mathlib.Core.List.{List, [], _∷_, _++_, flatMap}
 use lib.Dec.{ltb}
@@ -15,17 +15,16 @@ use Rattle.names.specs.Names.{objectNameFact, stationNameFact}
 use Rattle.records.specs.declared.Kind.{Kind}
 use Rattle.records.specs.declared.Kind.the-variants as kind
 use Rattle.records.specs.Places as place
+use Rattle.tracks.specs.Places.{positionMost}
+use Rattle.seal.specs.Seal.{dataAt, stationAt}
 use Rattle.layout.specs.declared.Layout.{Layout}
-use Rattle.layout.specs.Places.{dataAt, stationAt, nameAt, entryTrack, entrySize, startEntriesAt, endEntriesAt}
+use Rattle.layout.specs.Places.{nameAt, entryTrack, entrySize, startEntriesAt, endEntriesAt}
 use Rattle.layout.specs.Facts.{indexes}
 use Rattle.layout.specs.Records.{kindAt, starts}
 
 -- ---- rules that several fields have
 
 -- positions as in X.1
-abbrev pub positionMost : ℕ
-positionMost = 2147483647
-
 abbrev pub position : List ℕ → ℕ → ℕ → Fact
 position f start place = between reason.Field f start place Four 0 positionMost
 
@@ -193,12 +192,3 @@ fieldFacts f l =
     headerFields f
     ++ (entriesFields f startEntriesAt (l .starts)
     ++ (entriesFields f (endEntriesAt (l .starts)) (l .ends) ++ flatMap (recordFields f l) (starts f l)))
-
--- ---- the numbers of a layout, as a file of at most 65,535 bytes has them: what the code asks of a layout, so that no place overflows
-
-pub record Bounded (l : Layout) : Type 0 where
-  pub starts : l .starts < 256
-  pub ends : l .ends < 256
-  pub header : l .header < 65536
-  pub middle : l .middle < 65536
-  pub stop : l .stop < 65536

@@ -6,20 +6,19 @@ use mathlib.Core.Path.{_≡_}
 use mathlib.Core.Logic.{_⊎_}
 use mathlib.Core.List.{List, List·Memᴰ}
 use Rattle.octets.specs.Octets.{numAt}
+use Rattle.rules.specs.Rules.{Between}
 use Rattle.names.specs.Names.{ObjectName, StationName}
 use Rattle.records.specs.declared.Kind.{Kind}
 use Rattle.records.specs.declared.Kind.the-variants as kind
 use Rattle.records.specs.Places as place
 use Rattle.records.specs.Tables.{facingBits, dutyBits, placeOf, countOf}
+use Rattle.tracks.specs.Places.{positionMost}
+use Rattle.seal.specs.Seal.{dataAt, stationAt}
 use Rattle.layout.specs.declared.Layout.{Layout}
-use Rattle.layout.specs.Places.{dataAt, stationAt, nameAt, startEntriesAt, endEntriesAt}
+use Rattle.layout.specs.Places.{nameAt, startEntriesAt, endEntriesAt}
 use Rattle.layout.specs.Records.{kindAt, starts}
-use Rattle.fields.specs.Fields.{positionMost, trackAt, sizeByteOf}
+use Rattle.fields.specs.Fields.{trackAt, sizeByteOf}
 use Rattle.fields.specs.Agreement.{ownTrackAt, groupByteOf}
-
--- x lies between two numbers, which it may equal
-abbrev pub Between : ℕ → ℕ → ℕ → Type 0
-Between low high x = (low ≤ x) × (x ≤ high)
 
 -- x is one of two numbers
 abbrev pub OneOfTwo : ℕ → ℕ → ℕ → Type 0

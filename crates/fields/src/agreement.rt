@@ -1,15 +1,16 @@
 // The agreement of X.2: 7 in 01's table.
 ghost use mathlib.Core.Path.{_≡_};
 ghost use mathlib.Core.List.{[], _∷_, flatMap};
-ghost use Prim.Native.Nat.{_<_};
+ghost use Prim.Native.Nat.{_≤_, _<_};
 ghost use Rattle.verdict.specs.Facts.{judge};
+ghost use Rattle.layout.specs.Bounds.{countMost, placeMost, Bounded, ifBounded};
 ghost use Rattle.layout.specs.Records.{starts};
-ghost use Rattle.fields.specs.Fields.{Bounded};
 ghost use Rattle.fields.specs.Agreement.{entriesAgree, placeInCount, kindAgrees, recordAgrees, agreementFacts};
 use layout::ENTRY_SIZE;
 use layout::ENTRY_TRACK;
 use layout::Layout;
 use layout::START_ENTRIES;
+use layout::is_bounded;
 use layout::kind_at;
 use layout::size_of;
 use octets::Width;
@@ -26,7 +27,7 @@ use verdict::also_fact;
 
 // The tracks in so many entries are those of the boundaries from a place on.
 fn entries_agree(f: &[u8], entries: usize, from: usize, count: usize, v: Judged) -> Judged
-    requires { ⌜ (entries < 1000) × (from < 65536) × (count < 256) ⌝ }
+    requires { ⌜ (entries < 1000) × (from ≤ placeMost) × (count ≤ countMost) ⌝ }
     ensures { λ r. ⌜ r ≡ judge v (entriesAgree (now (f .entry)) entries from count) ⌝ }
 {
     let mut w = v;
@@ -42,7 +43,7 @@ fn entries_agree(f: &[u8], entries: usize, from: usize, count: usize, v: Judged)
 
 // A balise's place is at most its count.
 fn place_in_count(v: Judged, f: &[u8], at: usize) -> Judged
-    requires { ⌜ at < 65536 ⌝ }
+    requires { ⌜ at ≤ placeMost ⌝ }
     ensures { λ r. ⌜ r ≡ judge v (placeInCount (now (f .entry)) at ∷ []) ⌝ }
 {
     let place = at + Balise::GROUP;
@@ -62,7 +63,7 @@ fn place_in_count(v: Judged, f: &[u8], at: usize) -> Judged
 
 // A record of a kind.
 fn kind_agrees(f: &[u8], k: Kind, at: usize, v: Judged) -> Judged
-    requires { ⌜ at < 65536 ⌝ }
+    requires { ⌜ at ≤ placeMost ⌝ }
     ensures { λ r. ⌜ r ≡ judge v (kindAgrees (now (f .entry)) k at) ⌝ }
 {
     match k {
@@ -92,8 +93,8 @@ fn records_agree(f: &[u8], l: Layout, v: Judged) -> Judged
     w
 }
 
-// The verdict so far, then the agreement.
-pub fn check_agreement(f: &[u8], l: Layout, v: Judged) -> Judged
+// The tracks of the header and every record.
+fn all_agree(f: &[u8], l: Layout, v: Judged) -> Judged
     requires { ⌜ Bounded l ⌝ }
     ensures { λ r. ⌜ r ≡ judge v (agreementFacts (now (f .entry)) l) ⌝ }
 {
@@ -101,4 +102,14 @@ pub fn check_agreement(f: &[u8], l: Layout, v: Judged) -> Judged
     let mut w = entries_agree(f, START_ENTRIES, l.header, l.starts, v);
     w = entries_agree(f, entries, l.middle, l.ends, w);
     records_agree(f, l, w)
+}
+
+// The verdict so far, then the agreement. A layout that no file has is not looked at.
+pub fn check_agreement(f: &[u8], l: Layout, v: Judged) -> Judged
+    ensures { λ r. ⌜ r ≡ judge v (ifBounded l (agreementFacts (now (f .entry)) l)) ⌝ }
+{
+    if !is_bounded(l) {
+        return v;
+    }
+    all_agree(f, l, v)
 }

@@ -2,14 +2,16 @@
 ghost use mathlib.Core.Path.{_≡_};
 ghost use mathlib.Core.List.{flatMap};
 ghost use Rattle.verdict.specs.Facts.{judge};
+ghost use Rattle.layout.specs.Bounds.{Bounded, ifBounded};
 ghost use Rattle.layout.specs.Records.{starts};
-ghost use Rattle.fields.specs.Fields.{recordFields, fieldFacts, Bounded};
+ghost use Rattle.fields.specs.Fields.{recordFields, fieldFacts};
 use crate::header::entries_fields;
 use crate::header::header_fields;
 use crate::kinds::kind_fields;
 use layout::ENTRY_SIZE;
 use layout::Layout;
 use layout::START_ENTRIES;
+use layout::is_bounded;
 use layout::kind_at;
 use layout::size_of;
 use verdict::Judged;
@@ -30,8 +32,8 @@ fn records_fields(f: &[u8], l: Layout, v: Judged) -> Judged
     w
 }
 
-// The verdict so far, then the fields.
-pub fn check_fields(f: &[u8], l: Layout, v: Judged) -> Judged
+// The fields of the header and of every record.
+fn all_fields(f: &[u8], l: Layout, v: Judged) -> Judged
     requires { ⌜ Bounded l ⌝ }
     ensures { λ r. ⌜ r ≡ judge v (fieldFacts (now (f .entry)) l) ⌝ }
 {
@@ -40,4 +42,14 @@ pub fn check_fields(f: &[u8], l: Layout, v: Judged) -> Judged
     w = entries_fields(f, START_ENTRIES, l.starts, w);
     w = entries_fields(f, entries, l.ends, w);
     records_fields(f, l, w)
+}
+
+// The verdict so far, then the fields. A layout that no file has is not looked at.
+pub fn check_fields(f: &[u8], l: Layout, v: Judged) -> Judged
+    ensures { λ r. ⌜ r ≡ judge v (ifBounded l (fieldFacts (now (f .entry)) l)) ⌝ }
+{
+    if !is_bounded(l) {
+        return v;
+    }
+    all_fields(f, l, v)
 }

@@ -1,17 +1,18 @@
 // The header's fields: table 5.
 ghost use mathlib.Core.Path.{_≡_};
-ghost use Prim.Native.Nat.{_<_};
+ghost use Prim.Native.Nat.{_≤_, _<_};
 ghost use Rattle.verdict.specs.Facts.{judge};
+ghost use Rattle.layout.specs.Bounds.{countMost};
 ghost use Rattle.fields.specs.Fields.{headerFields, entriesFields};
 use crate::kinds::track_at;
-use layout::DATA;
 use layout::ENTRY_SIZE;
 use layout::ENTRY_TRACK;
 use layout::NAME;
-use layout::STATION;
 use names::station_name;
 use octets::Width;
 use rules::between;
+use seal::DATA;
+use seal::STATION;
 use verdict::Judged;
 use verdict::Reason;
 
@@ -26,7 +27,7 @@ pub fn header_fields(f: &[u8], v: Judged) -> Judged
 
 // The tracks in so many entries from a place on.
 pub fn entries_fields(f: &[u8], entries: usize, count: usize, v: Judged) -> Judged
-    requires { ⌜ (entries < 1000) × (count < 256) ⌝ }
+    requires { ⌜ (entries < 1000) × (count ≤ countMost) ⌝ }
     ensures { λ r. ⌜ r ≡ judge v (entriesFields (now (f .entry)) entries count) ⌝ }
 {
     let mut w = v;

@@ -1,8 +1,9 @@
 // The fields of each kind of record: tables 6 to 12. A place is one of a file of at most 65,535 bytes.
 ghost use mathlib.Core.Path.{_≡_};
 ghost use mathlib.Core.List.{[], _∷_};
-ghost use Prim.Native.Nat.{_+_, _<_};
+ghost use Prim.Native.Nat.{_+_, _≤_, _<_};
 ghost use Rattle.verdict.specs.Facts.{judge};
+ghost use Rattle.layout.specs.Bounds.{placeMost};
 ghost use Rattle.fields.specs.Fields.{position, track, typeByte, boundaryFields, turnoutFields, lastByte, messageFields, fixedFields, baliseFields, signalFields, jointFields, sidingFields, kindFields};
 use crate::DUTY_LEAST;
 use crate::DUTY_MOST;
@@ -10,7 +11,6 @@ use crate::FACING_MOST;
 use crate::MESSAGE_END;
 use crate::OPPOSITE_PHYSICAL;
 use crate::OPPOSITE_VIRTUAL;
-use crate::POSITION_MOST;
 use crate::SAME_PHYSICAL;
 use crate::SAME_VIRTUAL;
 use names::object_name;
@@ -27,6 +27,7 @@ use rules::among;
 use rules::between;
 use rules::is_number;
 use rules::part;
+use tracks::POSITION_MOST;
 use verdict::Judged;
 use verdict::Mark;
 use verdict::Reason;
@@ -65,7 +66,7 @@ fn type_byte(v: Judged, f: &[u8], start: usize, place: usize, n: usize) -> Judge
 
 // A boundary, whose type byte is one of two.
 fn boundary_fields(f: &[u8], low: usize, high: usize, at: usize, v: Judged) -> Judged
-    requires { ⌜ at < 65536 ⌝ }
+    requires { ⌜ at ≤ placeMost ⌝ }
     ensures { λ r. ⌜ r ≡ judge v (boundaryFields (now (f .entry)) low high at) ⌝ }
 {
     let mut w = between(
@@ -95,7 +96,7 @@ fn boundary_fields(f: &[u8], low: usize, high: usize, at: usize, v: Judged) -> J
 
 // A turnout.
 fn turnout_fields(f: &[u8], at: usize, v: Judged) -> Judged
-    requires { ⌜ at < 65536 ⌝ }
+    requires { ⌜ at ≤ placeMost ⌝ }
     ensures { λ r. ⌜ r ≡ judge v (turnoutFields (now (f .entry)) at) ⌝ }
 {
     let mut w = type_byte(v, f, at, at + Turnout::ENTRY, Turnout::TYPE);
@@ -147,7 +148,7 @@ fn last_byte(v: Judged, f: &[u8], start: usize, place: usize, width: usize, n: u
 
 // The message of a balise, where it has one.
 fn message_fields(f: &[u8], at: usize, v: Judged) -> Judged
-    requires { ⌜ at < 65536 ⌝ }
+    requires { ⌜ at ≤ placeMost ⌝ }
     ensures { λ r. ⌜ r ≡ judge v (messageFields (now (f .entry)) at) ⌝ }
 {
     let size = byte_at(f, at + Balise::SIZE_BYTE);
@@ -166,7 +167,7 @@ fn message_fields(f: &[u8], at: usize, v: Judged) -> Judged
 
 // A balise without its message.
 fn fixed_fields(f: &[u8], at: usize, v: Judged) -> Judged
-    requires { ⌜ at < 65536 ⌝ }
+    requires { ⌜ at ≤ placeMost ⌝ }
     ensures { λ r. ⌜ r ≡ judge v (fixedFields (now (f .entry)) at) ⌝ }
 {
     let mut w = type_byte(v, f, at, at + Balise::ENTRY, Balise::TYPE);
@@ -207,7 +208,7 @@ fn fixed_fields(f: &[u8], at: usize, v: Judged) -> Judged
 
 // A balise.
 fn balise_fields(f: &[u8], at: usize, v: Judged) -> Judged
-    requires { ⌜ at < 65536 ⌝ }
+    requires { ⌜ at ≤ placeMost ⌝ }
     ensures { λ r. ⌜ r ≡ judge v (baliseFields (now (f .entry)) at) ⌝ }
 {
     let w = fixed_fields(f, at, v);
@@ -216,7 +217,7 @@ fn balise_fields(f: &[u8], at: usize, v: Judged) -> Judged
 
 // A signal.
 fn signal_fields(f: &[u8], at: usize, v: Judged) -> Judged
-    requires { ⌜ at < 65536 ⌝ }
+    requires { ⌜ at ≤ placeMost ⌝ }
     ensures { λ r. ⌜ r ≡ judge v (signalFields (now (f .entry)) at) ⌝ }
 {
     let byte = at + Signal::BYTE;
@@ -258,7 +259,7 @@ fn signal_fields(f: &[u8], at: usize, v: Judged) -> Judged
 
 // A joint.
 fn joint_fields(f: &[u8], at: usize, v: Judged) -> Judged
-    requires { ⌜ at < 65536 ⌝ }
+    requires { ⌜ at ≤ placeMost ⌝ }
     ensures { λ r. ⌜ r ≡ judge v (jointFields (now (f .entry)) at) ⌝ }
 {
     let mut w = type_byte(v, f, at, at + Joint::ENTRY, Joint::TYPE);
@@ -269,7 +270,7 @@ fn joint_fields(f: &[u8], at: usize, v: Judged) -> Judged
 
 // A siding.
 fn siding_fields(f: &[u8], at: usize, v: Judged) -> Judged
-    requires { ⌜ at < 65536 ⌝ }
+    requires { ⌜ at ≤ placeMost ⌝ }
     ensures { λ r. ⌜ r ≡ judge v (sidingFields (now (f .entry)) at) ⌝ }
 {
     let mut w = type_byte(v, f, at, at + Siding::ENTRY, Siding::TYPE);
@@ -281,7 +282,7 @@ fn siding_fields(f: &[u8], at: usize, v: Judged) -> Judged
 
 // A record of a kind.
 pub fn kind_fields(f: &[u8], k: Kind, at: usize, v: Judged) -> Judged
-    requires { ⌜ at < 65536 ⌝ }
+    requires { ⌜ at ≤ placeMost ⌝ }
     ensures { λ r. ⌜ r ≡ judge v (kindFields (now (f .entry)) k at) ⌝ }
 {
     match k {

@@ -8,9 +8,6 @@ mod kinds;
 pub use agreement::check_agreement;
 pub use fields::check_fields;
 
-// The greatest position, as in X.1.
-pub const POSITION_MOST: usize = 2147483647;
-
 // The attribute byte of a balise: the way of its group against rising positions, and its nature.
 pub const OPPOSITE_VIRTUAL: usize = 0x40;
 

@@ -12,8 +12,8 @@ use Rattle.verdict.specs.declared.Judged.the-variants.{Accepted, Refused}
 use Rattle.verdict.specs.Facts.{Fact, judge, firstFault}
 use Rattle.verdict.proofs.Facts.{judge-then, judge-first, stops, goes-on}
 use Rattle.rules.specs.Rules.{lengthBetween}
-use Rattle.seal.specs.Seal.{sealFacts}
-use Rattle.tracks.specs.Places.{leastLength, mostLength, pointSize}
+use Rattle.seal.specs.Seal.{mostLength, sealFacts}
+use Rattle.tracks.specs.Places.{leastLength, pointSize}
 use Rattle.geography.specs.Layout.{firstOf, lastOf, entries, entryLayout, countLayout, stopLayout, layoutFacts}
 use Rattle.geography.specs.Fields.{headerFields, entryFields, pointFields, allPoints, fieldFacts}
 use Rattle.geography.specs.Agreement.{numberAgrees, opens, rises, stays, closes, pointAgrees, pointsOf, trackAgrees, agreementFacts}

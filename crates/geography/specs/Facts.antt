@@ -7,8 +7,8 @@ use Rattle.verdict.specs.Reasons.{shownOf}
 use Rattle.verdict.specs.declared.Judged.{Judged}
 use Rattle.verdict.specs.declared.Verdict.{Verdict}
 use Rattle.rules.specs.Rules.{lengthBetween}
-use Rattle.seal.specs.Seal.{sealFacts}
-use Rattle.tracks.specs.Places.{leastLength, mostLength, pointSize}
+use Rattle.seal.specs.Seal.{mostLength, sealFacts}
+use Rattle.tracks.specs.Places.{leastLength, pointSize}
 use Rattle.geography.specs.Layout.{layoutFacts}
 use Rattle.geography.specs.Fields.{fieldFacts}
 use Rattle.geography.specs.Agreement.{agreementFacts}

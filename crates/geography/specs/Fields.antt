@@ -7,7 +7,8 @@ use Rattle.verdict.specs.Facts.{Fact}
 use Rattle.verdict.specs.Walk.{startsFrom}
 use Rattle.verdict.specs.declared.Reason.the-variants as reason
 use Rattle.rules.specs.Rules.{isNumber, between, within}
-use Rattle.tracks.specs.Places.{dataAt, stationAt, number, property, startPosition, startLatitude, startLongitude, endPosition, endLatitude, endLongitude, position, heading, near, latitudeMost, longitudeMost, positionMost, headingMost}
+use Rattle.seal.specs.Seal.{dataAt, stationAt}
+use Rattle.tracks.specs.Places.{number, property, startPosition, startLatitude, startLongitude, endPosition, endLatitude, endLongitude, position, heading, near, latitudeMost, longitudeMost, positionMost, headingMost}
 use Rattle.geography.specs.Layout.{endOf, pointsAt, entries}
 
 -- both versions and the station are at least 1 (the structure version has a number of its own)

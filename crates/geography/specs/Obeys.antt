@@ -8,14 +8,11 @@ use lib.ListN.{length, take}
 use lib.IntN.{ℤ, natAbs}
 use Rattle.octets.specs.Octets.{numAt, signedAt}
 use Rattle.checksum.specs.Checksum.{checksumOf}
-use Rattle.seal.specs.Seal.{typeAt, structureAt}
+pub use Rattle.rules.specs.Rules.{Between}
+use Rattle.seal.specs.Seal.{mostLength, typeAt, structureAt, dataAt, stationAt}
 use Rattle.tracks.specs.Places as place
 use Rattle.geography.specs.Layout.{endOf, countOf, pointsAt, firstOf, lastOf}
 use Rattle.geography.specs.Agreement.{sumOf}
-
--- x lies between two numbers, which it may equal
-abbrev pub Between : ℕ → ℕ → ℕ → Type 0
-Between low high x = (low ≤ x) × (x ≤ high)
 
 -- z lies within plus or minus a limit
 abbrev pub Within : ℕ → ℤ → Type 0
@@ -64,8 +61,8 @@ pub record PointObeys (f : List ℕ) (p : ℕ) : Type 0 where
   pub near : Between 0 1 (numAt 1 f (p + place.near))
 
 pub record FieldsObey (f : List ℕ) (size : ℕ) : Type 0 where
-  pub data-version : Between 1 65535 (numAt 2 f place.dataAt)
-  pub station : Between 1 65535 (numAt 2 f place.stationAt)
+  pub data-version : Between 1 65535 (numAt 2 f dataAt)
+  pub station : Between 1 65535 (numAt 2 f stationAt)
   pub each-entry : (i : ℕ) → i < countOf f → EntryObeys f (entryAt i)
   pub each-point : (j : ℕ) → pointsAt f + size * j < endOf f → PointObeys f (pointsAt f + size * j)
 
@@ -96,7 +93,7 @@ pub record AgreementObeys (f : List ℕ) (size : ℕ) : Type 0 where
 
 pub record Obeys (f : List ℕ) : Type 0 where
   pub least : place.leastLength ≤ length f
-  pub most : length f ≤ place.mostLength
+  pub most : length f ≤ mostLength
   pub checksum : numAt 4 f (endOf f) ≡ checksumOf (take (endOf f) f)
   pub file-type : numAt 1 f typeAt ≡ 1
   pub structure-version : numAt 2 f structureAt ≡ 1

@@ -8,17 +8,15 @@ use mathlib.Core.Logic.{_↔_}
 use mathlib.Core.List.{List, map, List·Memᴰ}
 use lib.Dec.{leb, ltb}
 use borrow.Author.Tests.{leb-true, ltb-true, ltb-false, eqb-true, le-leb, lt-ltb, eq-eqb}
-use Rattle.verdict.specs.Facts.{Claim, test, Holds}
-use Rattle.verdict.proofs.Facts.{Agrees, agrees}
 use Rattle.octets.specs.Octets.{numAt}
 use Rattle.records.specs.declared.Kind.{Kind}
 use Rattle.records.specs.declared.Kind.the-variants as kind
 use Rattle.records.specs.Records.{linkPlaces}
 use Rattle.records.specs.Places.{boundarySize}
 use Rattle.layout.specs.declared.Layout.{Layout}
-use Rattle.layout.specs.Records.{kindAt, starts, isStart}
+use Rattle.layout.specs.Records.{kindAt, starts}
 use Rattle.layout.specs.Regions.{Regions}
-use Rattle.layout.proofs.Starts.{start-iff, found-boundary, start-least, start-below}
+use Rattle.layout.proofs.Starts.{start-tested, found-boundary, start-least, start-below}
 use Rattle.graph.specs.Objects.{viewAt, objectAt, linksOf, isBoundary, offsetMost, boundaryAt}
 
 view-links : (f : List ℕ) (k : Kind) (at : ℕ) → linksOf (viewAt f k at) ≡ map (numAt 2 f) (linkPlaces k at)
@@ -84,16 +82,6 @@ kind-boundary f l x h = go (ltb x (l .middle)) (ltb x (l .bounds)) refl refl
     go false true p q = refl
     go false false p q = beyond (ltb x (l .turnouts)) (ltb x (l .balises)) (ltb x (l .signals)) (ltb x (l .joints))
 
-holds : (c : Claim) → test c ≡ true → Holds c
-holds c e = rw e at (agrees c)
-
-tested : (c : Claim) → Holds c → test c ≡ true
-tested c h = go (test c) (agrees c)
-  where
-    go : (b : Bool) → Agrees b (Holds c) → b ≡ true
-    go true a = refl
-    go false a = absurd (a h)
-
 -- THEOREM: of a file whose layout is right, `boundaryAt` tells where a boundary's record starts
 pub boundary-iff : (f : List ℕ) (l : Layout) (x : ℕ) → Regions f l → l .stop ≤ offsetMost
     → (boundaryAt l x ≡ true) ↔ (List·Memᴰ x (starts f l) × (isBoundary (objectAt f l x) ≡ true))
@@ -103,11 +91,11 @@ boundary-iff f l x r small = (there, back)
     there e =
         let b = boundary-facts l x e in
         let t = sym (found-boundary f l r x (b .after-header) (b .before-end)) ∙ eq-eqb ((x - l .header) % boundarySize) 0 (b .whole) in
-        (start-iff f l x .0 (holds (isStart f l x) t), kind-boundary f l x (omega (arith, r .end-boundaries)) ∙ lt-ltb x (l .bounds) (b .before-end))
+        (start-tested f l x .0 t, kind-boundary f l x (omega (arith, r .end-boundaries)) ∙ lt-ltb x (l .bounds) (b .before-end))
 
     back : List·Memᴰ x (starts f l) × (isBoundary (objectAt f l x) ≡ true) → boundaryAt l x ≡ true
     back h =
         let below = ltb-true x (l .bounds) (sym (kind-boundary f l x (omega (arith, r .end-boundaries))) ∙ h .1) in
         let least = start-least f l r x (h .0) in
-        let t = found-boundary f l r x least below ∙ tested (isStart f l x) (start-iff f l x .1 (h .0)) in
+        let t = found-boundary f l r x least below ∙ start-tested f l x .1 (h .0) in
         boundary-tested l x (record { small = omega (arith, start-below f l r x (h .0)); after-header = least; before-end = below; whole = eqb-true ((x - l .header) % boundarySize) 0 t })

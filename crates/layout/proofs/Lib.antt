@@ -4,5 +4,6 @@ pub mod Checks
 pub mod Walks
 pub mod Obeys
 pub mod Regions
+pub mod Bounds
 pub mod Starts
 pub mod Shapes

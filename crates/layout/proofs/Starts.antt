@@ -3,34 +3,25 @@
 -- Assumes nothing.
 use Prim.Native.Nat.{ℕ, _+_, _-_, _*_, _%_, _≤_, _<_}
 use mathlib.Core.Path.{_≡_, _∙_, refl, sym, subst}
-use mathlib.Core.Bool.{Bool, true, false, and-true}
-use mathlib.Core.Logic.{_⊎_, inl, inr, ⊎-elim, _↔_}
+use mathlib.Core.Bool.{true, and-true}
+use mathlib.Core.Logic.{⊎-elim, _↔_}
 use mathlib.Core.List.{List, List·Memᴰ}
 use lib.Dec.{eqb}
-use native.Mathlib.Nat.{le-refl}
 use native.Mathlib.Omega.{arith}
 use borrow.Author.Tests.{lt-ltb, le-ltb, eq-eqb, ne-eqb}
 use Rattle.records.specs.declared.Kind.the-variants.{StartBoundary, EndBoundary, Turnout, Balise, Signal, Joint, Siding}
 use Rattle.records.specs.Places.{boundarySize, turnoutSize, signalSize, jointSize, sidingSize}
-use Rattle.verdict.specs.Facts.{Claim, anyOf, Holds, test}
+use Rattle.verdict.specs.Facts.{Holds, test}
 use Rattle.verdict.specs.Walk.{startsFrom, Reach, here}
-use Rattle.verdict.proofs.Facts.{Agrees, agrees}
-use Rattle.verdict.proofs.Walk.{starts-step, reach-le, reach-join, reach-fixed, reach-region, reach-walk, find-none, find-skip, find-there, find-fixed}
+use Rattle.verdict.proofs.Facts.{tested}
+use Rattle.verdict.proofs.Walk.{reach-le, reach-join, reach-fixed, reach-region, reach-walk, find-fixed}
 use Rattle.verdict.proofs.Orders.{le-or-lt}
 use Rattle.layout.specs.declared.Layout.{Layout}
 use Rattle.layout.specs.Facts.{baliseBytes}
-use Rattle.layout.specs.Records.{kindAt, sizeOf, sizeAt, starts, isStart, baliseStarts}
+use Rattle.layout.specs.Records.{kindAt, sizeOf, sizeAt, starts, isStart}
 use Rattle.layout.specs.Regions.{Regions}
 use Rattle.layout.proofs.Records.{baliseBytes-pos, sizeAt-pos}
-use Rattle.layout.proofs.Walks.{starts-between, starts-reached, reach-rest, reach-alike, reach-ends, find-alike}
-
--- a claim's test says that it holds
-tested : (d : Claim) → (test d ≡ true) ↔ Holds d
-tested d = by-test (test d) (agrees d)
-  where
-    by-test : (t : Bool) → Agrees t (Holds d) → (t ≡ true) ↔ Holds d
-    by-test true a = (λ e. a, λ h. refl)
-    by-test false a = (λ e. let z : _≡_ {A = ℕ} 0 1 = cc in absurd (omega arith), λ h. absurd (a h))
+use Rattle.layout.proofs.Walks.{starts-between, starts-reached, reach-rest, reach-alike, reach-ends}
 
 -- a record starts at x: x is one of the starts
 pub start-iff : (f : List ℕ) (l : Layout) (x : ℕ) → Holds (isStart f l x) ↔ List·Memᴰ x (starts f l)
@@ -42,26 +33,6 @@ start-tested f l x =
     let t = tested (isStart f l x) in
     let s = start-iff f l x in
     (λ e. s .0 (t .0 e), λ m. t .1 (s .1 m))
-
--- ---- looking for x among the balises from a place on: one turn, and the end
-
-module _ (f : List ℕ) (x : ℕ) where
-  other : (y : ℕ) → (y ≡ x → ⊥) → eqb y x ≡ false
-  other y n = ne-eqb y x n
-
-  pub seek-step : (at next : ℕ) → at < x → next ≡ at + baliseBytes f at → test (baliseStarts f next x) ≡ test (baliseStarts f at x)
-  unfolding baliseStarts
-  seek-step at next h e = rw (e, starts-step (baliseBytes f) (x + 1) (baliseBytes-pos f) at (omega arith), other at (λ q. omega arith))
-
-  pub seek-stop : (at : ℕ) → x ≤ at → eqb at x ≡ test (baliseStarts f at x)
-  unfolding baliseStarts
-  seek-stop at h = ⊎-elim (λ (p : at ≤ x). met (omega arith)) (λ (p : x < at). passed p) (le-or-lt at x)
-    where
-      met : x ≡ at → eqb at x ≡ anyOf (λ s. eqb s x) (startsFrom (baliseBytes f) (x + 1) at)
-      met e = subst (λ (a : ℕ). eqb a x ≡ anyOf (λ s. eqb s x) (startsFrom (baliseBytes f) (x + 1) a)) e (sym (find-there (baliseBytes f) (x + 1) x (λ s. eqb s x) other (baliseBytes-pos f) x here (omega arith)))
-
-      passed : x < at → eqb at x ≡ anyOf (λ s. eqb s x) (startsFrom (baliseBytes f) (x + 1) at)
-      passed p = other at (λ q. omega arith) ∙ sym (find-none (baliseBytes f) (x + 1) x (λ s. eqb s x) other at (inl p))
 
 module _ (f : List ℕ) (l : Layout) (r : Regions f l) where
   pub header-least : 41 ≤ l .header
@@ -152,45 +123,19 @@ module _ (f : List ℕ) (l : Layout) (r : Regions f l) where
   reach-stop =
       reach-join reach-joints (reach-region (sizeAt f l) sidingSize (l .joints) (l .stop) (omega arith) (r .sidings .order) (r .sidings .whole) (λ y g h. size-siding y g))
 
-  -- ---- where a record starts: in a region of one size by arithmetic, among the balises by their walk
+  -- ---- where a record starts, in a region of one size
 
   module _ (x : ℕ) where
-    pub found-low : x < l .header → false ≡ test (isStart f l x)
-    unfolding isStart
-    found-low h = sym (find-none (sizeAt f l) (l .stop) x (λ s. eqb s x) (other f x) (l .header) (inl h))
-
-    pub found-high : l .stop ≤ x → false ≡ test (isStart f l x)
-    unfolding isStart
-    found-high h = sym (find-none (sizeAt f l) (l .stop) x (λ s. eqb s x) (other f x) (l .header) (inr h))
-
     -- from a to b all records have the size s
-    fixed :
+    pub found-fixed :
         (a b s : ℕ) → Reach (sizeAt f l) (l .header) a → 0 < s → ((y : ℕ) → a ≤ y → y < b → sizeAt f l y ≡ s) → a ≤ x → x < b → b ≤ l .stop
         → eqb ((x - a) % s) 0 ≡ test (isStart f l x)
     unfolding isStart
-    fixed a b s q z sz g h e =
-        sym (find-fixed (sizeAt f l) (l .stop) x (λ y. eqb y x) (other f x) (sizeAt-pos f l) (l .header) a b s q z sz g h e ∙ rw (eq-eqb x x refl) (and-true (eqb ((x - a) % s) 0)))
+    found-fixed a b s q z sz g h e =
+        sym (find-fixed (sizeAt f l) (l .stop) x (λ y. eqb y x) (λ y n. ne-eqb y x n) (sizeAt-pos f l) (l .header) a b s q z sz g h e ∙ rw (eq-eqb x x refl) (and-true (eqb ((x - a) % s) 0)))
 
     pub found-boundary : l .header ≤ x → x < l .bounds → eqb ((x - l .header) % boundarySize) 0 ≡ test (isStart f l x)
-    found-boundary g h = fixed (l .header) (l .bounds) boundarySize here (omega arith) (λ y p q. size-boundary y q) g h (omega arith)
-
-    pub found-turnout : l .bounds ≤ x → x < l .turnouts → eqb ((x - l .bounds) % turnoutSize) 0 ≡ test (isStart f l x)
-    found-turnout g h = fixed (l .bounds) (l .turnouts) turnoutSize reach-bounds (omega arith) size-turnout g h (omega arith)
-
-    pub found-balise : l .turnouts ≤ x → x < l .balises → test (baliseStarts f (l .turnouts) x) ≡ test (isStart f l x)
-    unfolding isStart baliseStarts
-    found-balise g h =
-        find-alike (sizeAt f l) (baliseBytes f) (sizeAt-pos f l) (baliseBytes-pos f) (l .turnouts) (l .stop) x (λ y p q. size-balise y p (omega arith)) (omega arith)
-        ∙ sym (find-skip (sizeAt f l) (l .stop) x (λ s. eqb s x) (other f x) (sizeAt-pos f l) reach-turnouts g (omega arith))
-
-    pub found-signal : l .balises ≤ x → x < l .signals → eqb ((x - l .balises) % signalSize) 0 ≡ test (isStart f l x)
-    found-signal g h = fixed (l .balises) (l .signals) signalSize reach-balises (omega arith) size-signal g h (omega arith)
-
-    pub found-joint : l .signals ≤ x → x < l .joints → eqb ((x - l .signals) % jointSize) 0 ≡ test (isStart f l x)
-    found-joint g h = fixed (l .signals) (l .joints) jointSize reach-signals (omega arith) size-joint g h (omega arith)
-
-    pub found-siding : l .joints ≤ x → x < l .stop → eqb ((x - l .joints) % sidingSize) 0 ≡ test (isStart f l x)
-    found-siding g h = fixed (l .joints) (l .stop) sidingSize reach-joints (omega arith) (λ y p q. size-siding y p) g h (le-refl (l .stop))
+    found-boundary g h = found-fixed (l .header) (l .bounds) boundarySize here (omega arith) (λ y p q. size-boundary y q) g h (omega arith)
 
     -- ---- where a record ends
 

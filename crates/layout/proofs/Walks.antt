@@ -1,19 +1,17 @@
 -- The starts of what stands without gaps, as members of their list: each lies between the first and the end, is reached from the first,
 -- and what is reached below the end is one of them.
 -- Assumes nothing.
-use Prim.Native.Nat.{ℕ, suc, zero, _+_, _-_, _*_, _≤_, _<_}
-use mathlib.Core.Path.{_≡_, _∙_, refl, sym, subst}
+use Prim.Native.Nat.{ℕ, suc, zero, _+_, _*_, _≤_, _<_}
+use mathlib.Core.Path.{_≡_, refl, sym, subst}
 use mathlib.Core.Bool.{Bool, true, false, cond}
-use mathlib.Core.Logic.{inl, ⊎-elim, _↔_}
+use mathlib.Core.Logic.{⊎-elim, _↔_}
 use mathlib.Core.List.{[], _∷_, List·Memᴰ, List·Memᴰ·head, List·Memᴰ·tail, List·Memᴰ·not-nil, List·Memᴰ·cases-cons}
-use lib.Dec.{ltb, eqb}
+use lib.Dec.{ltb}
 use native.Mathlib.Nat.{le-refl}
 use native.Mathlib.Omega.{arith}
-use borrow.Author.Tests.{ltb-true, ne-eqb}
+use borrow.Author.Tests.{ltb-true}
 use Rattle.verdict.specs.Walk.{walk, startsFrom, Reach, here, onward}
-use Rattle.verdict.specs.Facts.{anyOf}
-use Rattle.verdict.proofs.Walk.{starts-step, reach-le, reach-fixed, find-none, find-there}
-use Rattle.verdict.proofs.Orders.{le-or-lt}
+use Rattle.verdict.proofs.Walk.{starts-step, reach-le, reach-fixed}
 use Rattle.layout.specs.Facts.{indexes}
 
 -- what a walk of at most k says of each of its starts
@@ -61,39 +59,6 @@ module _ {size : ℕ → ℕ} (pos : (y : ℕ) → 0 < size y) where
 
   pub reach-ends : {a x b : ℕ} → Reach size a x → Reach size a b → x < b → x + size x ≤ b
   reach-ends r s h = next-le (reach-rest r s (omega arith)) h
-
--- x is found by a walk to just behind it, of sizes that are the same on the way
-module _ (size own : ℕ → ℕ) (pos : (y : ℕ) → 0 < size y) (pos′ : (y : ℕ) → 0 < own y) (a end x : ℕ) (alike : (y : ℕ) → a ≤ y → y < x → size y ≡ own y) (below : x < end) where
-  only : (y : ℕ) → (y ≡ x → ⊥) → eqb y x ≡ false
-  only y n = ne-eqb y x n
-
-  Alike : ℕ → Type 0
-  Alike at = anyOf (λ s. eqb s x) (startsFrom own (x + 1) at) ≡ anyOf (λ s. eqb s x) (startsFrom size end at)
-
-  passed : (at : ℕ) → x < at → Alike at
-  unfolding Alike
-  passed at h = find-none own (x + 1) x (λ s. eqb s x) only at (inl h) ∙ sym (find-none size end x (λ s. eqb s x) only at (inl h))
-
-  met : (at : ℕ) → x ≡ at → Alike at
-  unfolding Alike
-  met at e =
-      subst Alike e (find-there own (x + 1) x (λ s. eqb s x) only pos′ x here (omega arith) ∙ sym (find-there size end x (λ s. eqb s x) only pos x here below))
-
-  past : (at : ℕ) → x ≤ at → Alike at
-  past at h = ⊎-elim (λ (p : at ≤ x). met at (omega arith)) (λ (p : x < at). passed at p) (le-or-lt at x)
-
-  step : (at : ℕ) → a ≤ at → at < x → Alike (at + own at) → Alike at
-  unfolding Alike
-  step at g h ih = rw (starts-step own (x + 1) pos′ at (omega arith), starts-step size end pos at (omega arith), only at (λ q. omega arith), alike at g h) ih
-
-  from : (k at : ℕ) → x - at ≤ k → a ≤ at → Alike at
-  from zero at h g = past at (omega arith)
-  from (suc k) at h g =
-      ⊎-elim (λ (p : x ≤ at). past at p) (λ (p : at < x). step at g p (from k (at + own at) (omega (arith, pos′ at)) (omega arith))) (le-or-lt x at)
-
-  pub find-alike : anyOf (λ s. eqb s x) (startsFrom own (x + 1) a) ≡ anyOf (λ s. eqb s x) (startsFrom size end a)
-  unfolding Alike
-  find-alike = from x a (omega arith) (le-refl a)
 
 pub index-iff : (n i : ℕ) → List·Memᴰ i (indexes n) ↔ (i < n)
 unfolding indexes

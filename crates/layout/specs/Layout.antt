@@ -2,19 +2,15 @@
 -- start boundaries, end boundaries, then the five groups. These are the numbers of any file; the facts of the layout (Facts) say whether
 -- they are right.
 -- Assumes nothing.
-use Prim.Native.Nat.{ℕ, _+_, _-_, _*_, _^_, _<_, _≤_}
+use Prim.Native.Nat.{ℕ, _+_, _*_, _^_, _<_, _≤_}
 use mathlib.Core.Bool.{cond}
 use mathlib.Core.List.{List}
 use lib.Dec.{eqb}
-use lib.ListN.{length}
 use Rattle.octets.specs.Octets.{numAt}
+pub use Rattle.seal.specs.Seal.{endOf}
 use Rattle.records.specs.Places.{boundarySize}
 use Rattle.layout.specs.declared.Layout.{Layout}
-use Rattle.layout.specs.Places.{startCountAt, endCountAt, groupsAt, headerLength, turnoutsField, balisesField, signalsField, jointsField, sidingsField, checksumSize}
-
--- 'End': the length without the checksum
-abbrev pub endOf : List ℕ → ℕ
-endOf f = length f - checksumSize
+use Rattle.layout.specs.Places.{startCountAt, endCountAt, groupsAt, headerLength, turnoutsField, balisesField, signalsField, jointsField, sidingsField}
 
 -- ---- the boundaries
 

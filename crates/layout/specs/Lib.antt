@@ -4,3 +4,4 @@ pub mod Facts
 pub mod Records
 pub mod Obeys
 pub mod Regions
+pub mod Bounds

@@ -3,17 +3,7 @@
 -- Assumes nothing.
 use Prim.Native.Nat.{ℕ, _+_, _*_}
 
-abbrev pub typeAt : ℕ
-typeAt = 0
-
-abbrev pub structureAt : ℕ
-structureAt = 1
-
-abbrev pub dataAt : ℕ
-dataAt = 3
-
-abbrev pub stationAt : ℕ
-stationAt = 5
+-- ---- the type, the two versions and the station stand where they do in both files; then the station's name and n
 
 abbrev pub nameAt : ℕ
 nameAt = 7
@@ -70,10 +60,7 @@ groupsSize = 10
 abbrev pub headerLength : ℕ → ℕ → ℕ
 headerLength n k = groupsAt n k + groupsSize
 
--- ---- the checksum, which stands behind End, and limits
-
-abbrev pub checksumSize : ℕ
-checksumSize = 4
+-- ---- limits
 
 -- a balise's size byte, where the balise has a message: 16 and a message of 2 to 104 bytes
 abbrev pub sizeLeast : ℕ

@@ -1,7 +1,7 @@
 -- The records of an X.2 file in stored order: the region that a start lies in gives the kind, the kind (or a balise's size byte) the size,
 -- and the size the next start.
 -- Assumes nothing.
-use Prim.Native.Nat.{ℕ, _+_, _≤_, _<_}
+use Prim.Native.Nat.{ℕ, _≤_, _<_}
 use mathlib.Core.Path.{_≡_}
 use mathlib.Core.Bool.{cond}
 use mathlib.Core.List.{List}
@@ -37,7 +37,7 @@ sizeOf f Siding at = sidingSize
 -- r is that, and small
 pub record IsSize (f : List ℕ) (k : Kind) (at r : ℕ) : Type 0 where
   pub is : r ≡ sizeOf f k at
-  pub least : 12 ≤ r
+  pub least : boundarySize ≤ r
   pub most : r < 256
 
 abbrev pub sizeAt : List ℕ → Layout → ℕ → ℕ
@@ -46,10 +46,6 @@ sizeAt f l at = sizeOf f (kindAt l at) at
 -- the starts of all records
 abbrev pub starts : List ℕ → Layout → List ℕ
 starts f l = startsFrom (sizeAt f l) (l .stop) (l .header)
-
--- a balise starts at x, of those that stand without gaps from a place on
-unfoldable pub baliseStarts : List ℕ → ℕ → ℕ → Claim
-baliseStarts f from x = some (startsFrom (baliseBytes f) (x + 1) from) (λ s. same s x)
 
 -- a record starts at x
 unfoldable pub isStart : List ℕ → Layout → ℕ → Claim

@@ -1,5 +1,6 @@
 // X.2's layout (01, 'X.2, fixed application' and 'Layout faults'): where the records of a file stand, the first fault of that, and the
 // records one after the other.
+use seal::MOST_LENGTH;
 use verdict::Mark;
 
 mod faults;
@@ -7,9 +8,9 @@ mod numbers;
 mod stream;
 
 pub use faults::find_layout;
+pub use numbers::is_bounded;
 pub use stream::kind_at;
 pub use stream::size_of;
-pub use stream::starts_record;
 
 // The numbers of the header, and where the records stand that it speaks of: the header ends at `header`, the start boundaries at `middle`,
 // the end boundaries at `bounds`, then each of the groups at its own, and the sidings at `stop`, which is End. An empty group ends where
@@ -33,15 +34,7 @@ pub enum Shape {
     Faulty(Mark),
 }
 
-// Table 5: where each field of the header stands.
-pub const TYPE: usize = 0;
-
-pub const STRUCTURE: usize = 1;
-
-pub const DATA: usize = 3;
-
-pub const STATION: usize = 5;
-
+// Table 5: where each field of the header stands, behind those that both files have alike.
 pub const NAME: usize = 7;
 
 pub const START_COUNT: usize = 23;
@@ -68,8 +61,10 @@ pub const SIDINGS: usize = 8;
 
 pub const GROUPS_SIZE: usize = 10;
 
-// The checksum, which stands behind End.
-pub const CHECKSUM_SIZE: usize = 4;
+// The greatest count, which stands in one byte, and the greatest place of a file.
+pub const COUNT_MOST: usize = 255;
+
+pub const PLACE_MOST: usize = MOST_LENGTH;
 
 // A balise's size byte, where the balise has a message.
 pub const SIZE_LEAST: usize = 18;

@@ -2,13 +2,16 @@
 ghost use mathlib.Core.Path.{_≡_};
 ghost use Prim.Native.Nat.{_-_, _^_, _<_};
 ghost use Rattle.octets.specs.Octets.{numAt};
+ghost use Rattle.verdict.specs.Facts.{test};
+ghost use Rattle.layout.specs.Bounds.{bounded};
 ghost use Rattle.layout.specs.Layout.{orNext, groupEnd, layoutOf, Small};
 use crate::BALISES;
-use crate::CHECKSUM_SIZE;
+use crate::COUNT_MOST;
 use crate::ENTRY_SIZE;
 use crate::GROUPS_SIZE;
 use crate::JOINTS;
 use crate::Layout;
+use crate::PLACE_MOST;
 use crate::SIDINGS;
 use crate::SIGNALS;
 use crate::START_COUNT;
@@ -17,6 +20,16 @@ use crate::TURNOUTS;
 use octets::byte_at;
 use octets::u16_at;
 use records::Boundary;
+use seal::CHECKSUM_SIZE;
+
+// Whether the numbers of a layout are those of a file.
+pub fn is_bounded(l: Layout) -> bool
+    ensures { λ r. ⌜ r ≡ test (bounded l) ⌝ }
+{
+    (l.starts <= COUNT_MOST)
+        & ((l.ends <= COUNT_MOST)
+            & ((l.header <= PLACE_MOST) & ((l.middle <= PLACE_MOST) & (l.stop <= PLACE_MOST))))
+}
 
 // How many bytes lie between two places, and 0 where they are in the other order.
 pub fn apart(to: usize, from: usize) -> usize

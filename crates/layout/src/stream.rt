@@ -1,10 +1,8 @@
 // The records of a file, one after the other.
 ghost use mathlib.Core.Path.{_≡_};
-ghost use Prim.Native.Nat.{_^_, _≤_, _<_};
-ghost use Rattle.verdict.specs.Facts.{test};
+ghost use Prim.Native.Nat.{_≤_, _<_};
 ghost use Rattle.layout.specs.Facts.{baliseBytes};
-ghost use Rattle.layout.specs.Records.{kindAt, IsSize, isStart, baliseStarts};
-ghost use Rattle.layout.specs.Regions.{Regions};
+ghost use Rattle.layout.specs.Records.{kindAt, IsSize};
 use crate::Layout;
 use octets::byte_behind;
 use records::Balise;
@@ -62,45 +60,4 @@ pub fn size_of(f: &[u8], k: Kind, at: usize) -> usize
         Kind::Joint => Joint::SIZE,
         Kind::Siding => Siding::SIZE,
     }
-}
-
-// Whether a balise starts at x, of those that stand without gaps from a place on: by the walk up to x.
-fn starts_balise(f: &[u8], from: usize, x: usize) -> bool
-    requires { ⌜ x < 2 ^ 63 ⌝ }
-    ensures { λ r. ⌜ r ≡ test (baliseStarts (now (f .entry)) from x) ⌝ }
-{
-    let mut at = from;
-    while at < x {
-        at = at + balise_bytes(f, at);
-    }
-    at == x
-}
-
-// Whether a record starts at a place, in a file whose layout is right.
-pub fn starts_record(f: &[u8], l: Layout, x: usize) -> bool
-    requires { ⌜ Regions (now f) l ⌝ }
-    ensures { λ r. ⌜ r ≡ test (isStart (now (f .entry)) l x) ⌝ }
-{
-    if x < l.header {
-        return false;
-    }
-    if x < l.bounds {
-        return (x - l.header) % Boundary::SIZE == 0;
-    }
-    if x < l.turnouts {
-        return (x - l.bounds) % Turnout::SIZE == 0;
-    }
-    if x < l.balises {
-        return starts_balise(f, l.turnouts, x);
-    }
-    if x < l.signals {
-        return (x - l.balises) % Signal::SIZE == 0;
-    }
-    if x < l.joints {
-        return (x - l.signals) % Joint::SIZE == 0;
-    }
-    if x < l.stop {
-        return (x - l.joints) % Siding::SIZE == 0;
-    }
-    false
 }

@@ -1,6 +1,7 @@
--- A byte for each place of a file that says whether a link may name it.
+-- The places that a link may name, as marks: the places of a file in cells of eight, with a number for each cell. Every record has more
+-- than eight bytes, so at most one starts in a cell; the number says at which place of the cell, if that record may be linked to.
 -- Assumes nothing.
-use Prim.Native.Nat.{ℕ, _<_}
+use Prim.Native.Nat.{ℕ, _+_, _/_, _%_, _≤_}
 use mathlib.Core.Path.{_≡_}
 use mathlib.Core.Bool.{Bool, true, false}
 use mathlib.Core.List.{List}
@@ -8,21 +9,33 @@ use lib.Dec.{eqb}
 use lib.ListN.{getD}
 use Rattle.verdict.specs.Facts.{test}
 use Rattle.layout.specs.declared.Layout.{Layout}
+use Rattle.layout.specs.Bounds.{placeMost}
 use Rattle.links.specs.Links.{isTarget}
 
--- 1 for yes
-abbrev pub bitOf : Bool → ℕ
-bitOf true = 1
-bitOf false = 0
+-- how many places a cell has, and how many cells hold all places of a file
+abbrev pub cell : ℕ
+cell = 8
 
--- the mark at a place
+abbrev pub cells : ℕ
+cells = 8192
+
+-- the mark of a place: which one of its cell it is, counted from 1
+abbrev pub markOf : ℕ → ℕ
+markOf x = x % cell + 1
+
+-- the mark of a place where a link may name it, else 0
+abbrev pub markIf : Bool → ℕ → ℕ
+markIf true x = markOf x
+markIf false x = 0
+
+-- a place is marked: its cell holds its mark
 abbrev pub markAt : List ℕ → ℕ → Bool
-markAt marks x = eqb (getD marks x 0) 1
+markAt marks x = eqb (getD marks (x / cell) 0) (markOf x)
 
 -- no place is marked
 abbrev pub Blank : List ℕ → Type 0
-Blank marks = (x : ℕ) → getD marks x 0 ≡ 0
+Blank marks = (i : ℕ) → getD marks i 0 ≡ 0
 
 -- the marked places are those that a link may name
 abbrev pub Targets : List ℕ → Layout → List ℕ → Type 0
-Targets f l marks = (x : ℕ) → x < 65536 → markAt marks x ≡ test (isTarget f l x)
+Targets f l marks = (x : ℕ) → x ≤ placeMost → markAt marks x ≡ test (isTarget f l x)

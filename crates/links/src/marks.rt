@@ -1,11 +1,13 @@
-// Which places a link may name: a byte for each place of a file, filled once for the whole file, 1 where a record starts that may be linked
-// to. A link's target is then known at once, however many balises there are.
+// Which places a link may name, filled once for the whole file: the places of a file in cells of eight, a byte for each cell. Every record
+// has more than eight bytes, so at most one starts in a cell; the byte says at which place of the cell, if that record may be linked to. A
+// link's target is then known at once, however many balises there are.
 ghost use mathlib.Core.Path.{_≡_};
-ghost use Prim.Native.Nat.{_≤_, _<_};
-ghost use lib.ListN.{length, getD};
+ghost use Prim.Native.Nat.{_≤_};
+ghost use lib.ListN.{length};
 ghost use Rattle.verdict.specs.Facts.{test};
-ghost use Rattle.links.specs.Links.{linkable, isTarget};
-ghost use Rattle.links.specs.Marks.{bitOf, markAt, Blank, Targets};
+ghost use Rattle.layout.specs.Bounds.{placeMost, Bounded};
+ghost use Rattle.links.specs.Links.{linkable};
+ghost use Rattle.links.specs.Marks.{cells, markOf, markIf, markAt, Blank, Targets};
 use layout::Layout;
 use layout::kind_at;
 use layout::size_of;
@@ -13,8 +15,10 @@ use octets::byte_behind;
 use records::Balise;
 use records::Kind;
 
-// As many places as a file has at most, and one more.
-pub const PLACES: usize = 65536;
+// How many places a cell has, and how many cells hold all places of a file.
+pub const CELL: usize = 8;
+
+pub const CELLS: usize = 8192;
 
 // Of balises only place 1 is linked to.
 fn is_first(f: &[u8], at: usize) -> bool
@@ -38,32 +42,39 @@ fn may_link(f: &[u8], k: Kind, at: usize) -> bool
     }
 }
 
-// 1 for yes.
-fn bit(b: bool) -> u8
-    ensures { λ r. ⌜ r ≡ bitOf b ⌝ }
+// The mark of a place: which one of its cell it is, counted from 1.
+fn mark_of(x: usize) -> u8
+    ensures { λ r. ⌜ r ≡ markOf x ⌝ }
 {
-    if b { 1 } else { 0 }
+    (x % CELL + 1) as u8
+}
+
+// The mark of a place where a link may name it, else 0.
+fn mark_if(b: bool, x: usize) -> u8
+    ensures { λ r. ⌜ r ≡ markIf b x ⌝ }
+{
+    if b { mark_of(x) } else { 0 }
 }
 
 // Marks each place that a link may name.
-pub fn mark_targets(f: &[u8], l: Layout, marks: &mut [u8; PLACES])
-    requires { ⌜ (l .header < 65536) × (l .stop < 65536) × (length (now marks) ≡ 65536) × Blank (now marks) ⌝ }
+pub fn mark_targets(f: &[u8], l: Layout, marks: &mut [u8; CELLS])
+    requires { ⌜ Bounded l × (length (now marks) ≡ cells) × Blank (now marks) ⌝ }
     ensures { λ _. ⌜ Targets (now (f .entry)) l (now (marks .exit)) ⌝ }
 {
     let stop = l.stop;
     let mut at = l.header;
     while at < stop {
         let k = kind_at(l, at);
-        let may = bit(may_link(f, k, at));
-        marks[at] = may;
+        let mark = mark_if(may_link(f, k, at), at);
+        marks[at / CELL] = mark;
         at = at + size_of(f, k, at);
     }
 }
 
 // Whether a link may name x.
-pub fn is_target(marks: &[u8; PLACES], x: usize) -> bool
-    requires { ⌜ x < 65536 ⌝ }
+pub fn is_target(marks: &[u8; CELLS], x: usize) -> bool
+    requires { ⌜ x ≤ placeMost ⌝ }
     ensures { λ r. ⌜ r ≡ markAt (now (marks .entry)) x ⌝ }
 {
-    marks[x] == 1
+    marks[x / CELL] == mark_of(x)
 }

@@ -5,8 +5,10 @@ ghost use Prim.Native.Nat.{_+_, _≤_, _<_};
 ghost use mathlib.Core.Bool.{false, _||_};
 ghost use lib.Dec.{eqb};
 ghost use Rattle.verdict.specs.Facts.{judge, test};
+ghost use Rattle.layout.specs.Bounds.{placeMost, Bounded, ifBounded};
 ghost use Rattle.links.specs.Links.{linkAt, linksTo, back, apart, returns, recordReturns, returnFacts};
 use layout::Layout;
+use layout::is_bounded;
 use layout::kind_at;
 use layout::size_of;
 use octets::u16_at;
@@ -31,7 +33,7 @@ fn either_names(f: &[u8], p: usize, q: usize, at: usize) -> bool
 
 // Whether a record of a kind at x has a link that names a place.
 fn links_to(f: &[u8], k: Kind, x: usize, at: usize) -> bool
-    requires { ⌜ x < 65536 ⌝ }
+    requires { ⌜ x ≤ placeMost ⌝ }
     ensures { λ r. ⌜ r ≡ test (linksTo (now (f .entry)) k x at) ⌝ }
 {
     match k {
@@ -95,7 +97,7 @@ fn two_returns(f: &[u8], l: Layout, at: usize, p: usize, q: usize, v: Judged) ->
 
 // The returns of a turnout's links.
 fn turnout_returns(f: &[u8], l: Layout, at: usize, v: Judged) -> Judged
-    requires { ⌜ at < 66000 ⌝ }
+    requires { ⌜ at ≤ placeMost ⌝ }
     ensures { λ r. ⌜ r ≡ judge v (recordReturns (now (f .entry)) l Kind.Turnout at) ⌝ }
 {
     let front = at + Turnout::FRONT;
@@ -109,7 +111,7 @@ fn turnout_returns(f: &[u8], l: Layout, at: usize, v: Judged) -> Judged
 
 // The returns of one record's links.
 fn record_returns(f: &[u8], l: Layout, k: Kind, at: usize, v: Judged) -> Judged
-    requires { ⌜ at < 66000 ⌝ }
+    requires { ⌜ at ≤ placeMost ⌝ }
     ensures { λ r. ⌜ r ≡ judge v (recordReturns (now (f .entry)) l k at) ⌝ }
 {
     match k {
@@ -123,9 +125,9 @@ fn record_returns(f: &[u8], l: Layout, k: Kind, at: usize, v: Judged) -> Judged
     }
 }
 
-// The verdict so far, then the returns of all links.
-pub fn check_returns(f: &[u8], l: Layout, v: Judged) -> Judged
-    requires { ⌜ (l .header < 65536) × (l .stop < 65536) ⌝ }
+// The returns of every record's links.
+fn all_returns(f: &[u8], l: Layout, v: Judged) -> Judged
+    requires { ⌜ Bounded l ⌝ }
     ensures { λ r. ⌜ r ≡ judge v (returnFacts (now (f .entry)) l) ⌝ }
 {
     let stop = l.stop;
@@ -137,4 +139,14 @@ pub fn check_returns(f: &[u8], l: Layout, v: Judged) -> Judged
         at = at + size_of(f, k, at);
     }
     w
+}
+
+// The verdict so far, then the returns of all links. A layout that no file has is not looked at.
+pub fn check_returns(f: &[u8], l: Layout, v: Judged) -> Judged
+    ensures { λ r. ⌜ r ≡ judge v (ifBounded l (returnFacts (now (f .entry)) l)) ⌝ }
+{
+    if !is_bounded(l) {
+        return v;
+    }
+    all_returns(f, l, v)
 }

@@ -2,14 +2,15 @@
 ghost use mathlib.Core.Path.{_≡_};
 ghost use mathlib.Core.List.{[], _∷_};
 ghost use Prim.Native.Nat.{_+_, _≤_, _<_};
-ghost use lib.ListN.{length};
 ghost use Rattle.verdict.specs.Facts.{judge};
-ghost use Rattle.links.specs.Links.{target, targets, linked, recordTargets, targetFacts};
-ghost use Rattle.links.specs.Marks.{Blank, Targets};
-use crate::marks::PLACES;
+ghost use Rattle.layout.specs.Bounds.{placeMost, Bounded, ifBounded};
+ghost use Rattle.links.specs.Links.{target, targets, recordTargets, targetFacts};
+ghost use Rattle.links.specs.Marks.{Targets};
+use crate::marks::CELLS;
 use crate::marks::is_target;
 use crate::marks::mark_targets;
 use layout::Layout;
+use layout::is_bounded;
 use layout::kind_at;
 use layout::size_of;
 use octets::Width;
@@ -28,7 +29,7 @@ use verdict::Rule;
 use verdict::also_fact;
 
 // The target of the link at p, of the record at `at`.
-fn target_fact(f: &[u8], l: Layout, marks: &[u8; PLACES], at: usize, p: usize, v: Judged) -> Judged
+fn target_fact(f: &[u8], l: Layout, marks: &[u8; CELLS], at: usize, p: usize, v: Judged) -> Judged
     requires { ⌜ Targets (now f) l (now marks) ⌝ }
     ensures { λ r. ⌜ r ≡ judge v (target (now (f .entry)) l at p ∷ []) ⌝ }
 {
@@ -49,7 +50,7 @@ fn target_fact(f: &[u8], l: Layout, marks: &[u8; PLACES], at: usize, p: usize, v
 fn two_targets(
     f: &[u8],
     l: Layout,
-    marks: &[u8; PLACES],
+    marks: &[u8; CELLS],
     at: usize,
     p: usize,
     q: usize,
@@ -63,8 +64,8 @@ fn two_targets(
 }
 
 // The link of a boundary is not 0, and its target.
-fn boundary_targets(f: &[u8], l: Layout, marks: &[u8; PLACES], at: usize, v: Judged) -> Judged
-    requires { ⌜ Targets (now f) l (now marks) × (at < 66000) ⌝ }
+fn boundary_targets(f: &[u8], l: Layout, marks: &[u8; CELLS], at: usize, v: Judged) -> Judged
+    requires { ⌜ Targets (now f) l (now marks) × (at ≤ placeMost) ⌝ }
     ensures { λ r. ⌜ r ≡ judge v (recordTargets (now (f .entry)) l Kind.StartBoundary at) ⌝ }
 {
     let w = between(
@@ -81,8 +82,8 @@ fn boundary_targets(f: &[u8], l: Layout, marks: &[u8; PLACES], at: usize, v: Jud
 }
 
 // The targets of a turnout's links.
-fn turnout_targets(f: &[u8], l: Layout, marks: &[u8; PLACES], at: usize, v: Judged) -> Judged
-    requires { ⌜ Targets (now f) l (now marks) × (at < 66000) ⌝ }
+fn turnout_targets(f: &[u8], l: Layout, marks: &[u8; CELLS], at: usize, v: Judged) -> Judged
+    requires { ⌜ Targets (now f) l (now marks) × (at ≤ placeMost) ⌝ }
     ensures { λ r. ⌜ r ≡ judge v (recordTargets (now (f .entry)) l Kind.Turnout at) ⌝ }
 {
     let w = two_targets(
@@ -98,15 +99,8 @@ fn turnout_targets(f: &[u8], l: Layout, marks: &[u8; PLACES], at: usize, v: Judg
 }
 
 // The targets of one record's links.
-fn record_targets(
-    f: &[u8],
-    l: Layout,
-    marks: &[u8; PLACES],
-    k: Kind,
-    at: usize,
-    v: Judged,
-) -> Judged
-    requires { ⌜ Targets (now f) l (now marks) × (at < 66000) ⌝ }
+fn record_targets(f: &[u8], l: Layout, marks: &[u8; CELLS], k: Kind, at: usize, v: Judged) -> Judged
+    requires { ⌜ Targets (now f) l (now marks) × (at ≤ placeMost) ⌝ }
     ensures { λ r. ⌜ r ≡ judge v (recordTargets (now (f .entry)) l k at) ⌝ }
 {
     match k {
@@ -125,8 +119,8 @@ fn record_targets(
 }
 
 // The targets of every record's links.
-fn all_targets(f: &[u8], l: Layout, marks: &[u8; PLACES], v: Judged) -> Judged
-    requires { ⌜ Targets (now f) l (now marks) × (l .header < 65536) × (l .stop < 65536) ⌝ }
+fn all_targets(f: &[u8], l: Layout, marks: &[u8; CELLS], v: Judged) -> Judged
+    requires { ⌜ Targets (now f) l (now marks) × Bounded l ⌝ }
     ensures { λ r. ⌜ r ≡ judge v (targetFacts (now (f .entry)) l) ⌝ }
 {
     let stop = l.stop;
@@ -140,12 +134,14 @@ fn all_targets(f: &[u8], l: Layout, marks: &[u8; PLACES], v: Judged) -> Judged
     w
 }
 
-// The verdict so far, then the targets of all links.
+// The verdict so far, then the targets of all links. A layout that no file has is not looked at.
 pub fn check_targets(f: &[u8], l: Layout, v: Judged) -> Judged
-    requires { ⌜ (l .header < 65536) × (l .stop < 65536) ⌝ }
-    ensures { λ r. ⌜ r ≡ judge v (targetFacts (now (f .entry)) l) ⌝ }
+    ensures { λ r. ⌜ r ≡ judge v (ifBounded l (targetFacts (now (f .entry)) l)) ⌝ }
 {
-    let mut marks = [0u8; PLACES];
+    if !is_bounded(l) {
+        return v;
+    }
+    let mut marks = [0u8; CELLS];
     mark_targets(f, l, &mut marks);
     all_targets(f, l, &marks, v)
 }

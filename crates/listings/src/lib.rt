@@ -2,46 +2,45 @@
 // the offsets of its objects. The answers are those of crate yard; here they become text.
 ghost use mathlib.Core.Path.{_≡_};
 ghost use Prim.Native.Nat.{min};
-ghost use lib.ListN.{length};
+ghost use Rattle.verdict.specs.Reasons as reasons;
+ghost use Rattle.application.specs.Facts.{verdictOf};
+ghost use Rattle.walks.specs.Lent.{roomOf};
 ghost use Rattle.routes.specs.Answered.{numberIn};
 ghost use Rattle.yard.specs.Routes.{routesOf};
-use crate::text::head;
-use crate::text::line;
-use crate::text::write;
-use crate::text::write_number;
 use layout::ENTRY_OFFSET;
 use layout::ENTRY_SIZE;
 use layout::START_COUNT;
 use layout::START_ENTRIES;
 use octets::byte_at;
+use octets::least;
 use octets::u16_at;
 use routes::RoutesAnswer;
+use text::head;
+use text::line;
+use text::write;
+use text::write_number;
 use verdict::Verdict;
 use walks::Tally;
+use walks::WORD_SIZE;
 
-mod text;
-
-// As many words may be lent for one question.
+// As many words may be lent for one question, and these are their bytes.
 const MOST_ROOM: usize = 65535;
 
-// What the list of a station asks with: the limit, the budget, and as many words.
+const MOST_BYTES: usize = WORD_SIZE * MOST_ROOM;
+
+// What the list of a station asks with: the limit, the budget, and as many words, in these bytes.
 const LIST_LIMIT: usize = 0;
 
 const LIST_BUDGET: usize = 65535;
 
 const LIST_ROOM: usize = 4096;
 
-// The smaller of two numbers.
-fn least(a: usize, b: usize) -> usize
-    ensures { λ r. ⌜ r ≡ min a b ⌝ }
-{
-    if a < b { a } else { b }
-}
+const LIST_BYTES: usize = WORD_SIZE * LIST_ROOM;
 
-// The word at a place; 0 behind the last one.
-fn word_at(words: &[u16], at: usize) -> usize {
-    if at < words.len() {
-        words[at] as usize
+// The word at a place of a list; 0 behind the last one.
+fn word_at(lent: &[u8], at: usize) -> usize {
+    if at < lent.len() / WORD_SIZE {
+        u16_at(lent, WORD_SIZE * at)
     } else {
         0
     }
@@ -63,30 +62,30 @@ fn word_printed(left: usize, word: usize) -> usize {
 }
 
 // The routes in the first n words, each on a line.
-fn route_lines(words: &[u16], n: usize) {
+fn route_lines(lent: &[u8], n: usize) {
     let mut left = 0;
     for k in 0..n {
-        left = word_printed(left, word_at(words, k));
+        left = word_printed(left, word_at(lent, k));
     }
 }
 
 // The values of an answer, and its routes.
-fn tally_lines(t: Tally, words: &[u16]) {
+fn tally_lines(t: Tally, lent: &[u8]) {
     line(b"routes", t.routes);
     line(b"words", t.words);
     line(b"walks", t.walks);
-    route_lines(words, t.words);
+    route_lines(lent, t.words);
 }
 
-// The question routes, with the words that are lent. It answers the number of the answer.
-fn answer_lines(f: &[u8], start: usize, limit: usize, budget: usize, words: &mut [u16]) -> usize
-    ensures { λ r. ⌜ r ≡ numberIn (routesOf (now (f .entry)) start limit budget (length (now (words .entry)))) ⌝ }
+// The question routes, with the bytes that are lent. It answers the number of the answer.
+fn answer_lines(f: &[u8], start: usize, limit: usize, budget: usize, lent: &mut [u8]) -> usize
+    ensures { λ r. ⌜ r ≡ numberIn (routesOf (now (f .entry)) start limit budget (roomOf (now (lent .entry)))) ⌝ }
 {
-    let answer = yard::routes(f, start, limit, budget, words);
+    let answer = yard::routes(f, start, limit, budget, lent);
     let n = answer.number();
     head(b"answer", n, answer.place());
     match answer {
-        RoutesAnswer::Listed(t) => tally_lines(t, words),
+        RoutesAnswer::Listed(t) => tally_lines(t, lent),
         RoutesAnswer::Refused(_) => {}
     }
     n
@@ -96,23 +95,23 @@ fn answer_lines(f: &[u8], start: usize, limit: usize, budget: usize, words: &mut
 pub fn routes(f: &[u8], start: usize, limit: usize, budget: usize, room: usize) -> usize
     ensures { λ r. ⌜ r ≡ numberIn (routesOf (now (f .entry)) start limit budget (min room 65535)) ⌝ }
 {
-    let mut words = [0u16; MOST_ROOM];
-    let lent = least(room, MOST_ROOM);
-    answer_lines(f, start, limit, budget, &mut words[..lent])
+    let mut bytes = [0u8; MOST_BYTES];
+    let lent = WORD_SIZE * least(room, MOST_ROOM);
+    answer_lines(f, start, limit, budget, &mut bytes[..lent])
 }
 
 // The routes from a start boundary, or why they are refused.
 fn start_lines(f: &[u8], start: usize) {
     write(b"from ");
     write_number(start);
-    let mut words = [0u16; LIST_ROOM];
-    let answer = yard::routes(f, start, LIST_LIMIT, LIST_BUDGET, &mut words);
+    let mut bytes = [0u8; LIST_BYTES];
+    let answer = yard::routes(f, start, LIST_LIMIT, LIST_BUDGET, &mut bytes);
     match answer {
         RoutesAnswer::Listed(t) => {
             write(b" routes ");
             write_number(t.routes);
             line(b" walks", t.walks);
-            route_lines(&words, t.words);
+            route_lines(&bytes, t.words);
         }
         RoutesAnswer::Refused(fault) => {
             let reason = fault.reason;
@@ -122,14 +121,19 @@ fn start_lines(f: &[u8], start: usize) {
 }
 
 // The list of a station: the verdict of its X.2 file and, where that is accepted, the routes from each start boundary, in the header's order.
-pub fn list(f: &[u8]) {
+// It answers the number of the verdict.
+pub fn list(f: &[u8]) -> usize
+    ensures { λ r. ⌜ r ≡ reasons.numberIn (verdictOf (now (f .entry))) ⌝ }
+{
     let v = application::verdict_of(f);
-    head(b"verdict", v.number(), v.place());
+    let number = v.number();
+    head(b"verdict", number, v.place());
     let Verdict::Accepted = v else {
-        return;
+        return number;
     };
     let n = byte_at(f, START_COUNT);
     for i in 0..n {
         start_lines(f, u16_at(f, START_ENTRIES + ENTRY_SIZE * i + ENTRY_OFFSET));
     }
+    number
 }

@@ -17,7 +17,7 @@ between-iff : (f : List ℕ) (p from until low high : ℕ) → Holds (bytesBetwe
 unfolding bytesBetween
 between-iff f p from until low high = each-number (λ k. (low ≤ byteBehind f p k) × (byteBehind f p k ≤ high)) from until
 
-zeros-iff : (f : List ℕ) (p from until : ℕ) → Holds (zeros f p from until) ↔ ((k : ℕ) → from ≤ k → k < until → byteBehind f p k ≡ 0)
+pub zeros-iff : (f : List ℕ) (p from until : ℕ) → Holds (zeros f p from until) ↔ ((k : ℕ) → from ≤ k → k < until → byteBehind f p k ≡ 0)
 zeros-iff f p from until =
     let b = between-iff f p from until 0 0 in
     (λ h k l g. let z = b .0 h k l g .1 in omega arith, λ h. b .1 (λ k l g. let z = h k l g in (omega arith, omega arith)))

@@ -2,9 +2,11 @@
 // the name, `start` where its record starts. A byte past the end of the file counts as 0.
 ghost use mathlib.Core.Path.{_≡_};
 ghost use mathlib.Core.List.{[], _∷_};
-ghost use Prim.Native.Nat.{_*_, _≤_};
+ghost use Prim.Native.Nat.{_*_, _-_, min, _≤_};
+ghost use lib.ListN.{length};
 ghost use Rattle.verdict.specs.Facts.{judge, test};
-ghost use Rattle.names.specs.Names.{objectBytes, stationCodes, byteBehind, bytesBetween, lead, Counted, nameLength, codeCount, isCode, codes, objectNameFact, stationNameFact};
+ghost use Rattle.names.specs.Names.{objectBytes, stationCodes, byteBehind, zeros, lead, Counted, nameLength, codeCount, isCode, codes, objectNameFact, stationNameFact};
+ghost use Rattle.names.specs.Letters.{Letters};
 use octets::byte_behind;
 use verdict::Judged;
 use verdict::Mark;
@@ -15,9 +17,9 @@ use verdict::also_fact;
 // An object's name: how many bytes it has room for, and the least and the greatest of its bytes.
 const OBJECT_BYTES: usize = 8;
 
-const LEAST_BYTE: usize = 0x21;
+const LEAST_BYTE: u8 = 0x21;
 
-const GREATEST_BYTE: usize = 0x7E;
+const GREATEST_BYTE: u8 = 0x7E;
 
 // A station's name: how many bytes and how many codes it has room for.
 const STATION_BYTES: usize = 16;
@@ -68,18 +70,52 @@ fn code_count(f: &[u8], place: usize) -> usize
     steps(f, place, CODE_BYTES, STATION_CODES)
 }
 
-// Whether each byte at a place, from one up to another, lies between two numbers.
-fn bytes_between(f: &[u8], place: usize, from: usize, until: usize, low: usize, high: usize) -> bool
-    ensures { λ r. ⌜ r ≡ test (bytesBetween (now (f .entry)) place from until low high) ⌝ }
+// How many of so many bytes at a place lie inside the file.
+fn inside(f: &[u8], place: usize, bytes: usize) -> usize
+    ensures { λ r. ⌜ r ≡ min bytes (length (now (f .entry)) - place) ⌝ }
 {
-    let mut ok = true;
+    if f.len() <= place {
+        return 0;
+    }
+    let left = f.len() - place;
+    if left < bytes {
+        return left;
+    }
+    bytes
+}
+
+// How many of the first eight bytes at a place are 0x21 to 0x7E before the first that is not.
+fn letters(f: &[u8], place: usize) -> usize
+    ensures { λ r. ⌜ Letters (now (f .entry)) place r ⌝ }
+{
+    let top = inside(f, place, OBJECT_BYTES);
+    let mut n = 0;
+    while n < top {
+        let b = f[place + n];
+        if b < LEAST_BYTE {
+            return n;
+        }
+        if b > GREATEST_BYTE {
+            return n;
+        }
+        n = n + 1;
+    }
+    n
+}
+
+// Whether each byte at a place, from one up to another, is 0x00.
+fn zeros(f: &[u8], place: usize, from: usize, until: usize) -> bool
+    ensures { λ r. ⌜ r ≡ test (zeros (now (f .entry)) place from until) ⌝ }
+{
+    let top = inside(f, place, until);
     let mut k = from;
-    while k < until {
-        let b = byte_behind(f, place, k);
-        ok = ok & ((low <= b) & (b <= high));
+    while k < top {
+        if f[place + k] != 0 {
+            return false;
+        }
         k = k + 1;
     }
-    ok
+    true
 }
 
 // Whether two bytes are a code: the first 0x81 to 0xFE, the second 0x40 to 0x7E or 0x80 to 0xFE.
@@ -110,9 +146,8 @@ fn codes(f: &[u8], place: usize, n: usize) -> bool
 pub fn object_name(v: Judged, f: &[u8], start: usize, place: usize, least: usize) -> Judged
     ensures { λ r. ⌜ r ≡ judge v (objectNameFact (now (f .entry)) start place least ∷ []) ⌝ }
 {
-    let n = name_length(f, place);
-    let named = bytes_between(f, place, 0, n, LEAST_BYTE, GREATEST_BYTE);
-    let ended = bytes_between(f, place, n, OBJECT_BYTES, 0, 0);
+    let n = letters(f, place);
+    let ended = zeros(f, place, n, OBJECT_BYTES);
     let reason = Reason::Field;
     let rule = Rule::ObjectName(least);
     let mark = Mark {
@@ -122,7 +157,7 @@ pub fn object_name(v: Judged, f: &[u8], start: usize, place: usize, least: usize
         width: OBJECT_BYTES,
         rule,
     };
-    also_fact(v, (least <= n) & (named & ended), mark)
+    also_fact(v, (least <= n) & ended, mark)
 }
 
 // The 16 bytes at a place are a station's name: one to eight codes of two bytes, then zeros.
@@ -131,7 +166,7 @@ pub fn station_name(v: Judged, f: &[u8], start: usize, place: usize) -> Judged
 {
     let n = code_count(f, place);
     let coded = codes(f, place, n);
-    let ended = bytes_between(f, place, CODE_BYTES * n, STATION_BYTES, 0, 0);
+    let ended = zeros(f, place, CODE_BYTES * n, STATION_BYTES);
     let reason = Reason::Field;
     let rule = Rule::StationName;
     let mark = Mark {

@@ -1,7 +1,8 @@
 // Numbers from bytes, little-endian, at a place of a slice (01, 'Bytes and checksum'). A byte past the end counts as 0, so that every
 // function answers for every place and reads no byte outside the slice.
 ghost use mathlib.Core.Path.{_≡_};
-ghost use Prim.Native.Nat.{_+_, _≤_, _<_};
+ghost use Prim.Native.Nat.{_+_, _-_, min, _≤_, _<_};
+ghost use lib.ListN.{length};
 ghost use lib.IntN.{natAbs};
 ghost use Rattle.octets.specs.Octets.{bytesOf, halfOf, Is, IsSigned, signed, signedAt};
 
@@ -38,11 +39,56 @@ impl Width {
     }
 }
 
+// At how many places of the slice a byte stands that has so many bytes behind it inside the slice.
+fn places(s: &[u8], behind: usize) -> usize
+    ensures { λ r. ⌜ r ≡ length (now (s .entry)) - behind ⌝ }
+{
+    if s.len() < behind {
+        return 0;
+    }
+    s.len() - behind
+}
+
+// The byte at a place inside the slice.
+fn byte_inside(s: &[u8], at: usize) -> usize
+    requires { ⌜ at < length (now s) ⌝ }
+    ensures { λ r. ⌜ Is 1 (now (s .entry)) at r ⌝ }
+{
+    s[at] as usize
+}
+
+// The number of two bytes that lie inside the slice.
+fn two_inside(s: &[u8], at: usize) -> usize
+    requires { ⌜ at + 1 < length (now s) ⌝ }
+    ensures { λ r. ⌜ Is 2 (now (s .entry)) at r ⌝ }
+{
+    byte_inside(s, at) + 256 * byte_inside(s, at + 1)
+}
+
+// The number of three bytes that lie inside the slice.
+fn three_inside(s: &[u8], at: usize) -> usize
+    requires { ⌜ at + 2 < length (now s) ⌝ }
+    ensures { λ r. ⌜ Is 3 (now (s .entry)) at r ⌝ }
+{
+    byte_inside(s, at) + 256 * two_inside(s, at + 1)
+}
+
+// The number of four bytes that lie inside the slice.
+fn four_inside(s: &[u8], at: usize) -> usize
+    requires { ⌜ at + 3 < length (now s) ⌝ }
+    ensures { λ r. ⌜ Is 4 (now (s .entry)) at r ⌝ }
+{
+    byte_inside(s, at) + 256 * three_inside(s, at + 1)
+}
+
 // The byte at a place.
 pub fn byte_at(s: &[u8], at: usize) -> usize
     ensures { λ r. ⌜ Is 1 (now (s .entry)) at r ⌝ }
 {
-    if at < s.len() { s[at] as usize } else { 0 }
+    if at < s.len() {
+        return byte_inside(s, at);
+    }
+    0
 }
 
 // The byte that stands k bytes behind a place.
@@ -55,37 +101,37 @@ pub fn byte_behind(s: &[u8], at: usize, k: usize) -> usize
     if s.len() - at <= k {
         return 0;
     }
-    byte_at(s, at + k)
+    byte_inside(s, at + k)
 }
 
-// The number of two bytes.
+// The number of two bytes. Where the last byte lies past the end, the number is that of the bytes before it; so with more bytes.
 pub fn u16_at(s: &[u8], at: usize) -> usize
     ensures { λ r. ⌜ Is 2 (now (s .entry)) at r ⌝ }
 {
-    if s.len() <= at {
-        return 0;
+    if at < places(s, 1) {
+        return two_inside(s, at);
     }
-    byte_at(s, at) + 256 * byte_at(s, at + 1)
+    byte_at(s, at)
 }
 
 // The number of three bytes.
 pub fn u24_at(s: &[u8], at: usize) -> usize
     ensures { λ r. ⌜ Is 3 (now (s .entry)) at r ⌝ }
 {
-    if s.len() <= at {
-        return 0;
+    if at < places(s, 2) {
+        return three_inside(s, at);
     }
-    byte_at(s, at) + 256 * u16_at(s, at + 1)
+    u16_at(s, at)
 }
 
 // The number of four bytes.
 pub fn u32_at(s: &[u8], at: usize) -> usize
     ensures { λ r. ⌜ Is 4 (now (s .entry)) at r ⌝ }
 {
-    if s.len() <= at {
-        return 0;
+    if at < places(s, 3) {
+        return four_inside(s, at);
     }
-    byte_at(s, at) + 256 * u24_at(s, at + 1)
+    u24_at(s, at)
 }
 
 // The number of a width.
@@ -164,4 +210,11 @@ pub fn distance(z: i64) -> usize
     } else {
         (-1 - z) as usize + 1
     }
+}
+
+// The smaller of two numbers.
+pub fn least(a: usize, b: usize) -> usize
+    ensures { λ r. ⌜ r ≡ min a b ⌝ }
+{
+    if a < b { a } else { b }
 }

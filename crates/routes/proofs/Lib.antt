@@ -1,3 +1,4 @@
+pub mod Stores
 pub mod Turn
 pub mod Whole
 pub mod Listing

@@ -6,7 +6,7 @@ use mathlib.Core.Path.{_≡_, refl, ap, _∙_}
 use mathlib.Core.Bool.{false}
 use mathlib.Core.List.{List, [], _∷_, _++_}
 use lib.ListN.{length, take, set, length-append, length-set}
-use lib.Seq.{sets, length-take-le}
+use lib.Seq.{length-take-le}
 use Rattle.graph.specs.declared.PlainLinks.{PlainLinks}
 use Rattle.graph.specs.declared.TurnoutLinks.{TurnoutLinks}
 use Rattle.graph.specs.declared.Object.{Object}
@@ -15,9 +15,10 @@ use Rattle.graph.specs.Objects.{isBoundary}
 use Rattle.graph.specs.Ways.{onwardOf}
 use Rattle.walks.specs.Walks.{has, walks, branches}
 use Rattle.walks.specs.declared.Tally.{Tally}
+use Rattle.walks.specs.Lent.{lays}
 use Rattle.walks.specs.Grown.{Sane, Counted, Grown}
 use Rattle.routes.specs.Ready.{Ready}
-use Rattle.walks.proofs.Stores.{path-more}
+use Rattle.routes.proofs.Stores.{path-more}
 use Rattle.walks.proofs.Grow.{grown-none, grown-open, grown-route, grown-seq}
 use Rattle.walks.proofs.Unfold.{walks-boundary, walks-nothing, walks-turnout, walks-plain, turnout-legs, turnout-front, route-at}
 
@@ -44,7 +45,7 @@ module _ (v : ℕ → Object) (from to budget n left : ℕ) (path out : List ℕ
     one-longer : length (take n path ++ (to ∷ [])) ≡ n + 1
     one-longer = length-append (take n path) (to ∷ []) ∙ ap (λ (k : ℕ). k + 1) (length-take-le n path (omega arith))
 
-    pub arrives : (link : ℕ) (u : Tally) (out′ : List ℕ) → v to ≡ Boundary link → Counted 1 1 (n + 1 + 1) t u → out′ ≡ sets out (t .words) ((n + 1) ∷ take (n + 1) (set path n to))
+    pub arrives : (link : ℕ) (u : Tally) (out′ : List ℕ) → v to ≡ Boundary link → Counted 1 1 (n + 1 + 1) t u → out′ ≡ lays out (t .words) ((n + 1) ∷ take (n + 1) (set path n to))
         → Grown v (walks v left (take n path) from to) budget t u out out′
     arrives link u out′ e c q =
         rw (walks-boundary v (take n path) from to nonzero fresh left link more e)

@@ -1,17 +1,16 @@
 -- The pass from the start, and the answer.
 -- Assumes nothing.
-use Prim.Native.Nat.{ℕ, zero, suc, _+_, _-_, _≤_, _<_}
+use Prim.Native.Nat.{ℕ, zero, suc, _*_, _-_, _≤_, _<_}
 use native.Mathlib.Nat.{zero-add}
 use native.Mathlib.Numerals.{sub-one}
 use native.Mathlib.Omega.{arith}
 use mathlib.Core.Path.{_≡_, refl, sym, ap, _∙_}
 use mathlib.Core.Bool.{Bool, true, false, not, true≢false}
-use mathlib.Core.Logic.{⊎-elim}
+use mathlib.Core.Logic.{⊎-elim, _↔_}
 use mathlib.Core.List.{List, [], _∷_, _++_}
 use lib.ListN.{length}
-use lib.Seq.{sets, sets-eq}
 use lib.Dec.{leb}
-use borrow.Author.Tests.{leb-true, lt-ltb, le-ltb}
+use borrow.Author.Tests.{leb-true, le-leb, lt-ltb, le-ltb}
 use Rattle.verdict.specs.declared.Reason.the-variants.{Question, Steps, Room}
 use Rattle.verdict.proofs.Orders.{le-or-lt}
 use Rattle.layout.specs.declared.Layout.{Layout}
@@ -21,11 +20,13 @@ use Rattle.graph.proofs.Places.{boundary-facts}
 use Rattle.walks.specs.Walks.{walks, allWalks, isRoute, allRoutes, wordsOf}
 use Rattle.walks.proofs.Paths.{and-true}
 use Rattle.walks.specs.declared.Tally.{Tally}
+use Rattle.walks.specs.Lent.{roomOf, lays}
+use Rattle.walks.proofs.Lent.{lays-front}
 use Rattle.routes.specs.declared.RoutesAnswer.{RoutesAnswer}
 use Rattle.routes.specs.declared.RoutesAnswer.the-variants.{Listed}
 use Rattle.routes.specs.Answered.{inRange, limitOf, tallyOf, refusedFor, judged, answerAt, answerOf, leaves, leftOf}
 use Rattle.walks.specs.Grown.{limitLeast, limitMost, budgetLeast, budgetMost, nothing, Counted, Grown}
-use Rattle.routes.specs.Ready.{Bounds}
+use Rattle.routes.specs.Listing.{Within}
 use Rattle.walks.proofs.Grow.{grown-open, grown-seq}
 
 abbrev pub one-walk : Tally
@@ -52,14 +53,9 @@ fails : (asked ok : Bool) (limit budget : ℕ) → ok ≡ inRange asked limit bu
 fails asked false limit budget o e = sym o
 fails asked true limit budget o e = absurd (true≢false (sym e))
 
--- a question that is in range
-pub record Within (asked : Bool) (limit budget : ℕ) : Type 0 where
-  pub boundary : asked ≡ true
-  pub bounds : Bounds limit budget
-
-pub within : (asked ok : Bool) (limit budget : ℕ) → ok ≡ inRange asked limit budget → not ok ≡ false → Within asked limit budget
-within asked ok limit budget o e =
-    let a = and-true asked _ (passes asked ok limit budget o e) in
+tested : (asked : Bool) (limit budget : ℕ) → inRange asked limit budget ≡ true → Within asked limit budget
+tested asked limit budget e =
+    let a = and-true asked _ e in
     let b = and-true (leb limitLeast limit) _ (a .1) in
     let c = and-true (leb limit limitMost) _ (b .1) in
     let d = and-true (leb budgetLeast budget) _ (c .1) in
@@ -68,15 +64,27 @@ within asked ok limit budget o e =
       bounds = record { least = leb-true limitLeast limit (b .0); most = leb-true limit limitMost (c .0); some = leb-true budgetLeast budget (d .0); few = leb-true budget budgetMost (d .1) };
     }
 
--- an answer that is right, and the words that it leaves
+met : (asked : Bool) (limit budget : ℕ) → Within asked limit budget → inRange asked limit budget ≡ true
+met asked limit budget w =
+    let b = w .bounds in
+    rw (w .boundary, le-leb limitLeast limit (b .least), le-leb limit limitMost (b .most), le-leb budgetLeast budget (b .some), le-leb budget budgetMost (b .few)) refl
+
+-- THEOREM: what is tested is that the question is in range
+pub in-range-iff : (asked : Bool) (limit budget : ℕ) → (inRange asked limit budget ≡ true) ↔ Within asked limit budget
+in-range-iff asked limit budget = (tested asked limit budget, met asked limit budget)
+
+pub within : (asked ok : Bool) (limit budget : ℕ) → ok ≡ inRange asked limit budget → not ok ≡ false → Within asked limit budget
+within asked ok limit budget o e = tested asked limit budget (passes asked ok limit budget o e)
+
+-- an answer that is right, and the bytes that it leaves
 pub record Right (v : ℕ → Object) (asked : Bool) (start limit budget : ℕ) (out : List ℕ) (r : RoutesAnswer) (out′ : List ℕ) : Type 0 where
-  pub answer : r ≡ answerAt v asked start limit budget (length out)
-  pub words : out′ ≡ leaves (answerAt v asked start limit budget (length out)) (wordsOf (allRoutes v start limit)) out
+  pub answer : r ≡ answerAt v asked start limit budget (roomOf out)
+  pub bytes : out′ ≡ leaves (answerAt v asked start limit budget (roomOf out)) (wordsOf (allRoutes v start limit)) out
 
 module _ (v : ℕ → Object) (asked ok : Bool) (start limit budget : ℕ) (out : List ℕ) (ok-is : ok ≡ inRange asked limit budget) where
   pub refuses : not ok ≡ true → Right v asked start limit budget out (refusedFor Question) out
   unfolding answerAt judged leaves
-  refuses n = let e = fails asked ok limit budget ok-is n in record { answer = rw (e, answerAt, judged) refl; words = rw (e, answerAt, leaves, judged) refl }
+  refuses n = let e = fails asked ok limit budget ok-is n in record { answer = rw (e, answerAt, judged) refl; bytes = rw (e, answerAt, leaves, judged) refl }
 
   module _ (granted : not ok ≡ false) (c : Tally) (x x′ : List ℕ) (g : Grown v (allWalks v start limit) budget nothing c x x′) where
     pub too-many : budget < c .walks → Right v asked start limit budget out (refusedFor Steps) out
@@ -85,7 +93,7 @@ module _ (v : ℕ → Object) (asked ok : Bool) (start limit budget : ℕ) (out 
         let e = passes asked ok limit budget ok-is granted in
         let l : budget < length (allWalks v start limit) = ⊎-elim (λ q. let k = g .counted (omega arith) in omega arith) (λ q. q) (le-or-lt (length (allWalks v start limit)) budget) in
         let t = lt-ltb budget (length (allWalks v start limit)) l in
-        record { answer = rw (e, t, answerAt, judged) refl; words = rw (e, t, answerAt, leaves, judged) refl }
+        record { answer = rw (e, t, answerAt, judged) refl; bytes = rw (e, t, answerAt, leaves, judged) refl }
 
     fits-in : c .walks ≤ budget → length (allWalks v start limit) ≤ budget
     fits-in h = ⊎-elim (λ q. q) (λ q. let k = g .beyond (omega arith) in omega arith) (le-or-lt (length (allWalks v start limit)) budget)
@@ -93,17 +101,17 @@ module _ (v : ℕ → Object) (asked ok : Bool) (start limit budget : ℕ) (out 
     counts : c .walks ≤ budget → Counted (length (allWalks v start limit)) (length (allRoutes v start limit)) (length (wordsOf (allRoutes v start limit))) nothing c
     counts h = let q = fits-in h in g .counted (omega arith)
 
-    pub no-room : (lent : List ℕ) → lent ≡ out → c .walks ≤ budget → length lent < c .words → Right v asked start limit budget out (refusedFor Room) out
+    pub no-room : (lent : List ℕ) → lent ≡ out → c .walks ≤ budget → roomOf lent < c .words → Right v asked start limit budget out (refusedFor Room) out
     unfolding answerAt judged leaves tallyOf
     no-room lent same h q =
         let z = ap length same in
         let e = passes asked ok limit budget ok-is granted in
         let t = le-ltb budget (length (allWalks v start limit)) (fits-in h) in
         let k = counts h in
-        let m = lt-ltb (length out) (length (wordsOf (allRoutes v start limit))) (omega arith) in
-        record { answer = rw (e, t, m, answerAt, judged) refl; words = rw (e, t, m, answerAt, leaves, judged) refl }
+        let m = lt-ltb (roomOf out) (length (wordsOf (allRoutes v start limit))) (omega arith) in
+        record { answer = rw (e, t, m, answerAt, judged) refl; bytes = rw (e, t, m, answerAt, leaves, judged) refl }
 
-    pub all-listed : (lent : List ℕ) → lent ≡ out → (r : Tally) (out′ : List ℕ) → c .walks ≤ budget → c .words ≤ length lent → Grown v (allWalks v start limit) budget nothing r lent out′ → Right v asked start limit budget out (Listed r) out′
+    pub all-listed : (lent : List ℕ) → lent ≡ out → (r : Tally) (out′ : List ℕ) → c .walks ≤ budget → c .words ≤ roomOf lent → Grown v (allWalks v start limit) budget nothing r lent out′ → Right v asked start limit budget out (Listed r) out′
     unfolding answerAt judged leaves tallyOf
     all-listed lent same r out′ h q f =
         let z = ap length same in
@@ -111,13 +119,13 @@ module _ (v : ℕ → Object) (asked ok : Bool) (start limit budget : ℕ) (out 
         let fit = fits-in h in
         let t = le-ltb budget (length (allWalks v start limit)) fit in
         let k = counts h in
-        let m = le-ltb (length out) (length (wordsOf (allRoutes v start limit))) (omega arith) in
+        let m = le-ltb (roomOf out) (length (wordsOf (allRoutes v start limit))) (omega arith) in
         let y = f .counted (omega arith) in
         let counted : r ≡ tallyOf v start limit = λ i. record { walks = (y .walks-are ∙ zero-add _) i; routes = (y .routes-are ∙ zero-add _) i; words = (y .words-are ∙ zero-add _) i } in
-        let room : 0 + length (wordsOf (allRoutes v start limit)) ≤ length out = omega arith in
+        let room : 2 * length (wordsOf (allRoutes v start limit)) ≤ length out = omega arith in
         record {
           answer = rw (e, t, m, answerAt, judged) (ap Listed counted);
-          words = f .out-is (omega arith) ∙ ap (λ (o : List ℕ). sets o 0 (wordsOf (allRoutes v start limit))) same ∙ sets-eq (wordsOf (allRoutes v start limit)) out 0 room ∙ rw (e, t, m, answerAt, leaves, judged) (rw zero-add refl);
+          bytes = f .out-is (omega arith) ∙ ap (λ (o : List ℕ). lays o 0 (wordsOf (allRoutes v start limit))) same ∙ lays-front (wordsOf (allRoutes v start limit)) out room ∙ rw (e, t, m, answerAt, leaves, judged) refl;
         }
 
 -- nothing is lent, and nothing changes
@@ -127,8 +135,8 @@ lent-none (x ∷ part) out e = absurd (omega arith)
 
 -- the answer to the question as it was put
 pub settled : (v : ℕ → Object) (asked asked′ : Bool) (start limit limit′ budget : ℕ) (out : List ℕ) (r : RoutesAnswer) (out′ : List ℕ) → asked ≡ asked′ → limit ≡ limitOf limit′ → Right v asked start limit budget out r out′
-    → (r ≡ answerOf v asked′ start limit′ budget (length out)) × (out′ ≡ leftOf v asked′ start limit′ budget out)
-settled v asked asked′ start limit limit′ budget out r out′ a m h = (rw (a, m) at (h .answer), rw (a, m) at (h .words))
+    → (r ≡ answerOf v asked′ start limit′ budget (roomOf out)) × (out′ ≡ leftOf v asked′ start limit′ budget out)
+settled v asked asked′ start limit limit′ budget out r out′ a m h = (rw (a, m) at (h .answer), rw (a, m) at (h .bytes))
 
 -- 'in range' is told of the start
 pub start-fits : (l : Layout) (start limit budget : ℕ) (asked ok : Bool) → asked ≡ boundaryAt l start → ok ≡ inRange asked limit budget → not ok ≡ false → start ≤ offsetMost

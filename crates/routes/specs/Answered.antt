@@ -1,7 +1,7 @@
--- What the lister answers and what it leaves in the words lent, for every input (01, 'Routes'): 13, then 14, then 15, else the listing.
+-- What the lister answers and what it leaves in the bytes lent, for every input (01, 'Routes'): 13, then 14, then 15, else the listing.
 -- `v` says what stands at a place, and `asked` whether a boundary starts at `start`.
 -- Assumes nothing.
-use Prim.Native.Nat.{ℕ}
+use Prim.Native.Nat.{ℕ, _*_}
 use mathlib.Core.Bool.{Bool, true, false, cond, _&&_}
 use mathlib.Core.List.{List, _++_}
 use lib.ListN.{length, drop}
@@ -14,6 +14,7 @@ use Rattle.graph.specs.declared.Object.{Object}
 use Rattle.graph.specs.Objects.{objectAt, boundaryAt}
 use Rattle.walks.specs.declared.Tally.{Tally}
 use Rattle.walks.specs.Walks.{allWalks, allRoutes, wordsOf}
+use Rattle.walks.specs.Lent.{wordSize, roomOf, octetsOf}
 use Rattle.walks.specs.Grown.{limitLeast, limitMost, budgetLeast, budgetMost}
 use Rattle.routes.specs.declared.RoutesAnswer.{RoutesAnswer}
 use Rattle.routes.specs.declared.RoutesAnswer.the-variants.{Listed, Refused}
@@ -60,15 +61,16 @@ answerAt v asked start limit budget room =
 abbrev pub answerOf : (ℕ → Object) → Bool → ℕ → ℕ → ℕ → ℕ → RoutesAnswer
 answerOf v asked start limit budget room = answerAt v asked start (limitOf limit) budget room
 
--- ---- the words lent
+-- ---- the bytes lent
 
--- a listing puts its words in front; a refusal leaves every word as it was
+-- a listing puts its words in front, each as two bytes, low byte first, and leaves what stands after them; a refusal leaves every byte as it
+-- was
 unfoldable pub leaves : RoutesAnswer → List ℕ → List ℕ → List ℕ
-leaves (Listed t) ws out = ws ++ drop (length ws) out
+leaves (Listed t) ws out = octetsOf ws ++ drop (wordSize * length ws) out
 leaves (Refused t) ws out = out
 
 abbrev pub leftOf : (ℕ → Object) → Bool → ℕ → ℕ → ℕ → List ℕ → List ℕ
-leftOf v asked start limit budget out = leaves (answerOf v asked start limit budget (length out)) (wordsOf (allRoutes v start (limitOf limit))) out
+leftOf v asked start limit budget out = leaves (answerOf v asked start limit budget (roomOf out)) (wordsOf (allRoutes v start (limitOf limit))) out
 
 -- ---- the same of a file and its layout
 

@@ -1,15 +1,25 @@
 -- What a listing promises, in 01's words: the routes are all routes, each once and in their order; the number of walks is that of all
--- partial walks; the words lent hold, per route, its object count and then the offsets, and words after the list are untouched.
+-- partial walks; the bytes lent hold, per route, its object count and then the offsets, as 16-bit words with the low byte first, and what
+-- stands after the list is untouched. `before` and `after` are the bytes lent.
 -- Assumes nothing.
-use Prim.Native.Nat.{ℕ, _≤_}
+use Prim.Native.Nat.{ℕ, _*_, _≤_, _<_}
 use mathlib.Core.Path.{_≡_}
-use mathlib.Core.List.{List, _++_}
-use lib.ListN.{length, drop}
+use mathlib.Core.Bool.{Bool, true}
+use mathlib.Core.List.{List}
+use lib.ListN.{length, getD, drop}
+use Rattle.octets.specs.Octets.{numAt}
 use Rattle.graph.specs.declared.Object.{Object}
 use Rattle.walks.specs.declared.Tally.{Tally}
 use Rattle.walks.specs.Legal.{Walk}
 use Rattle.walks.specs.Walks.{wordsOf}
+use Rattle.walks.specs.Lent.{wordSize, roomOf}
 use Rattle.walks.specs.All.{Number, AllRoutes}
+use Rattle.routes.specs.Ready.{Bounds}
+
+-- the question is in range: a boundary starts where it starts, and the limit that is meant and the budget are ones that may be asked with
+pub record Within (asked : Bool) (limit budget : ℕ) : Type 0 where
+  pub boundary : asked ≡ true
+  pub bounds : Bounds limit budget
 
 pub record Listing (v : ℕ → Object) (start limit budget : ℕ) (t : Tally) (before after : List ℕ) : Type 0 where
   pub routes : List (List ℕ)
@@ -18,5 +28,9 @@ pub record Listing (v : ℕ → Object) (start limit budget : ℕ) (t : Tally) (
   pub words-are : t .words ≡ length (wordsOf routes)
   pub walks-are : Number (Walk v start limit) (t .walks)
   pub within : t .walks ≤ budget
-  pub room : t .words ≤ length before
-  pub written : after ≡ wordsOf routes ++ drop (t .words) before
+  pub room : t .words ≤ roomOf before
+  -- each word of the list, read from its two bytes
+  pub held : (i : ℕ) → i < t .words → numAt wordSize after (wordSize * i) ≡ getD (wordsOf routes) i 0
+  -- as many bytes as before, and those after the list as they were
+  pub whole : length after ≡ length before
+  pub untouched : drop (wordSize * t .words) after ≡ drop (wordSize * t .words) before

@@ -6,6 +6,7 @@ use verdict::Fault;
 use walks::Tally;
 
 mod lister;
+mod steps;
 
 pub use lister::list;
 

@@ -1,11 +1,15 @@
 // The lister. Following one link and branching at a turnout call each other; the objects still allowed by the limit fall.
 ghost use mathlib.Core.Path.{_≡_};
-ghost use lib.ListN.{length, take};
+ghost use lib.ListN.{take};
 ghost use Rattle.graph.specs.Objects.{objectAt, edgeLink};
+ghost use Rattle.walks.specs.Lent.{roomOf};
 ghost use Rattle.routes.specs.Ready.{Ready, Followed, Branched, Bounds, PassedOver};
 ghost use Rattle.routes.specs.Answered.{limitOf, inRange, refusedFor, answerIn, leftIn};
 use crate::DEFAULT_LIMIT;
 use crate::RoutesAnswer;
+use crate::steps::arrived;
+use crate::steps::opened;
+use crate::steps::passed;
 use graph::Object;
 use graph::TurnoutLinks;
 use graph::boundary_at;
@@ -18,9 +22,7 @@ use walks::BUDGET_MOST;
 use walks::LIMIT_LEAST;
 use walks::LIMIT_MOST;
 use walks::Tally;
-use walks::arrived;
-use walks::opened;
-use walks::passed;
+use walks::WORD_SIZE;
 
 // Follows the link `to` of the object `from`, which is the last of the n in path: opens each partial walk that goes on by it with at most
 // `left` objects more. Stops once the walks outnumber the budget.
@@ -33,7 +35,7 @@ fn follow(
     n: usize,
     left: usize,
     budget: usize,
-    out: &mut [u16],
+    out: &mut [u8],
     t: Tally,
 ) -> Tally
     requires { ⌜ Ready budget (now path) n left t ⌝ }
@@ -81,7 +83,7 @@ fn branch(
     n: usize,
     left: usize,
     budget: usize,
-    out: &mut [u16],
+    out: &mut [u8],
     t: Tally,
 ) -> Tally
     requires { ⌜ Ready budget (now path) n left t ⌝ }
@@ -107,7 +109,7 @@ fn pass(
     first: u16,
     limit: usize,
     budget: usize,
-    out: &mut [u16],
+    out: &mut [u8],
 ) -> Tally
     requires { ⌜ Bounds limit budget × (first ≡ edgeLink (objectAt (now f) l start)) ⌝ }
     ensures { λ r. ⌜ PassedOver (now (f .entry)) l start limit budget r (now (out .entry)) (now (out .exit)) ⌝ }
@@ -145,17 +147,17 @@ fn refused(reason: Reason) -> RoutesAnswer
     RoutesAnswer::Refused(Fault { reason, place: 0 })
 }
 
-// Every route from the boundary `start`, in order, with the numbers of the listing. The words go to the front of `out`; a refusal leaves
-// every word of it as it was. The first pass is lent no word and counts.
+// Every route from the boundary `start`, in order, with the numbers of the listing. The words go to the front of `out`, two bytes each, low
+// byte first; a refusal leaves every byte of it as it was. The first pass is lent no byte and counts.
 pub fn list(
     f: &[u8],
     l: Layout,
     start: usize,
     limit: usize,
     budget: usize,
-    out: &mut [u16],
+    out: &mut [u8],
 ) -> RoutesAnswer
-    ensures answered { λ r. ⌜ r ≡ answerIn (now (f .entry)) l start limit budget (length (now (out .entry))) ⌝ }
+    ensures answered { λ r. ⌜ r ≡ answerIn (now (f .entry)) l start limit budget (roomOf (now (out .entry))) ⌝ }
     ensures written { λ _. ⌜ now (out .exit) ≡ leftIn (now (f .entry)) l start limit budget (now (out .entry)) ⌝ }
 {
     let most = limit_of(limit);
@@ -170,7 +172,7 @@ pub fn list(
     if budget < counted.walks {
         return refused(Reason::Steps);
     }
-    if out.len() < counted.words {
+    if out.len() / WORD_SIZE < counted.words {
         return refused(Reason::Room);
     }
     RoutesAnswer::Listed(pass(f, l, at, first, most, budget, out))

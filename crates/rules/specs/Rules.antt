@@ -1,7 +1,7 @@
 -- The constructors of facts that both files have: one for each shape of rule, one relation each. `start` is where the record starts and
 -- `place` the byte place that a refusal reports. The claim of each is what its mark says (`says`).
 -- Assumes nothing.
-use Prim.Native.Nat.{ℕ, suc, _+_, _/_, _%_}
+use Prim.Native.Nat.{ℕ, suc, _+_, _/_, _%_, _≤_}
 use mathlib.Core.List.{List}
 use lib.ListN.{length}
 use lib.IntN.{natAbs}
@@ -18,6 +18,10 @@ use Rattle.verdict.specs.Facts.{Claim, same, atMost, both, either, Fact, fact}
 
 abbrev pub liesBetween : ℕ → ℕ → ℕ → Claim
 liesBetween low high x = both (atMost low x) (atMost x high)
+
+-- the same as a statement: x lies between two numbers, which it may equal
+abbrev pub Between : ℕ → ℕ → ℕ → Type 0
+Between low high x = (low ≤ x) × (x ≤ high)
 
 abbrev pub isAmong : ℕ → ℕ → ℕ → ℕ → ℕ → ℕ → Claim
 isAmong a b c d e x = either (same x a) (either (same x b) (either (same x c) (either (same x d) (same x e))))

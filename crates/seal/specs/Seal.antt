@@ -1,4 +1,5 @@
--- What both files have alike (01, 'Verdicts and their order', 2 to 4): the checksum, the file type and the structure version.
+-- What both files have alike: how long they are at most, End, where the first fields of the header stand, and checks 2 to 4 of 01's table:
+-- the checksum, the file type and the structure version.
 -- Assumes nothing.
 use Prim.Native.Nat.{ℕ, _-_}
 use mathlib.Core.List.{List, [], _∷_}
@@ -9,16 +10,30 @@ use Rattle.verdict.specs.Facts.{Fact}
 use Rattle.verdict.specs.declared.Reason.the-variants as reason
 use Rattle.rules.specs.Rules.{isNumber}
 
--- 'End': the length without the checksum, which stands in the last four bytes
-abbrev pub endOf : List ℕ → ℕ
-endOf f = length f - 4
+-- a file is at most 65,535 bytes
+abbrev pub mostLength : ℕ
+mostLength = 65535
 
--- where the file type and the structure version stand
+-- the checksum stands in the last four bytes
+abbrev pub checksumSize : ℕ
+checksumSize = 4
+
+-- 'End': the length without the checksum
+abbrev pub endOf : List ℕ → ℕ
+endOf f = length f - checksumSize
+
+-- where the file type, the two versions and the station stand
 abbrev pub typeAt : ℕ
 typeAt = 0
 
 abbrev pub structureAt : ℕ
 structureAt = 1
+
+abbrev pub dataAt : ℕ
+dataAt = 3
+
+abbrev pub stationAt : ℕ
+stationAt = 5
 
 -- the checksum covers all before it; the file type is the one that is due; the structure version is 1
 abbrev pub sealFacts : List ℕ → ℕ → List Fact

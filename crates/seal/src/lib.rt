@@ -1,4 +1,5 @@
-// What both files have alike: the checksum, the file type and the structure version, 2 to 4 in 01's table.
+// What both files have alike: how long they are at most, End, where the first fields of the header stand, and the checks of the checksum,
+// the file type and the structure version, 2 to 4 in 01's table.
 ghost use mathlib.Core.Path.{_≡_};
 ghost use Rattle.verdict.specs.Facts.{judge};
 ghost use Rattle.seal.specs.Seal.{endOf, sealFacts};
@@ -7,22 +8,29 @@ use rules::is_number;
 use verdict::Judged;
 use verdict::Reason;
 
-// Where the file type and the structure version stand.
+// The most bytes of a file.
+pub const MOST_LENGTH: usize = 65535;
+
+// Where the file type, the two versions and the station stand.
 pub const TYPE: usize = 0;
 
 pub const STRUCTURE: usize = 1;
 
-// The bytes of the checksum.
-pub const CHECKSUM: usize = 4;
+pub const DATA: usize = 3;
+
+pub const STATION: usize = 5;
+
+// The bytes of the checksum, which stands behind End.
+pub const CHECKSUM_SIZE: usize = 4;
 
 // 'End': the length without the checksum; 0 where there is no room for it.
 pub fn end_of(f: &[u8]) -> usize
     ensures { λ r. ⌜ r ≡ endOf (now (f .entry)) ⌝ }
 {
-    if f.len() < CHECKSUM {
+    if f.len() < CHECKSUM_SIZE {
         return 0;
     }
-    f.len() - CHECKSUM
+    f.len() - CHECKSUM_SIZE
 }
 
 // The verdict so far, then the checksum, the file type and the structure version.

@@ -16,6 +16,7 @@ use Rattle.verdict.specs.declared.PairVerdict.{PairVerdict}
 use Rattle.verdict.specs.declared.PairVerdict.the-variants as pair
 use Rattle.verdict.specs.Reasons.{shownOf}
 use Rattle.verdict.proofs.Facts.{accepted-iff, all-append, all-each}
+use Rattle.seal.specs.Seal.{stationAt}
 use Rattle.tracks.specs.Places as track
 use Rattle.geography.specs.Facts as geography
 use Rattle.geography.specs.Layout.{countOf}
@@ -80,7 +81,7 @@ module _ (f : List ℕ) (o : Obeys f) where
 
     -- the pair's own facts
     pair-iff : (l : Layout) → AllHold (pairFacts f g l)
-        ↔ ((numAt 2 g track.stationAt ≡ numAt 2 f track.stationAt) × ((at : ℕ) → List·Memᴰ at (starts g l) → (s : Spot) → List·Memᴰ s (spots (kindAt l at) at) → SpotObeys f g s))
+        ↔ ((numAt 2 g stationAt ≡ numAt 2 f stationAt) × ((at : ℕ) → List·Memᴰ at (starts g l) → (s : Spot) → List·Memᴰ s (spots (kindAt l at) at) → SpotObeys f g s))
     unfolding pairFacts recordsPair AllHold
     pair-iff l =
         let each = all-each (recordPair f g l) (starts g l) in (

@@ -4,6 +4,7 @@ use Prim.Native.Nat.{ℕ, _+_, _≤_, _<_}
 use mathlib.Core.Path.{_≡_}
 use mathlib.Core.List.{List, List·Memᴰ}
 use Rattle.octets.specs.Octets.{numAt}
+use Rattle.seal.specs.Seal.{stationAt}
 use Rattle.tracks.specs.Places as track
 use Rattle.geography.specs.Layout.{countOf}
 use Rattle.geography.specs.Obeys.{entryAt}
@@ -26,5 +27,5 @@ SpotObeys f g (stands t) = (i : ℕ) × TrackIn f (numAt 1 g t) i
 pub record PairObeys (f g : List ℕ) : Type 0 where
   pub first : geography.Obeys f
   pub second : application.Obeys g
-  pub station : numAt 2 g track.stationAt ≡ numAt 2 f track.stationAt
+  pub station : numAt 2 g stationAt ≡ numAt 2 f stationAt
   pub on-track : (at : ℕ) → List·Memᴰ at (starts g (layoutOf g)) → (s : Spot) → List·Memᴰ s (spots (kindAt (layoutOf g) at) at) → SpotObeys f g s

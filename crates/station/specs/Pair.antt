@@ -15,6 +15,7 @@ use Rattle.verdict.specs.declared.Verdict.{Verdict}
 use Rattle.verdict.specs.declared.Verdict.the-variants as verdict
 use Rattle.verdict.specs.declared.PairVerdict.{PairVerdict}
 use Rattle.verdict.specs.declared.PairVerdict.the-variants as pair
+use Rattle.seal.specs.Seal.{stationAt}
 use Rattle.tracks.specs.Places as track
 use Rattle.geography.specs.Facts as geography
 use Rattle.lookup.specs.declared.Found.{Found}
@@ -64,7 +65,7 @@ reach f Absent = 0
 -- 10: the stations are the same
 abbrev pub sameStation : List ℕ → List ℕ → Fact
 sameStation f g =
-    fact (same (numAt 2 g track.stationAt) (numAt 2 f track.stationAt)) (record { reason = reason.Station; start = 0; place = track.stationAt; width = 2; rule = rule.SameStation })
+    fact (same (numAt 2 g stationAt) (numAt 2 f stationAt)) (record { reason = reason.Station; start = 0; place = stationAt; width = 2; rule = rule.SameStation })
 
 -- 11: the track at t, of the record at `at`, is in X.1
 abbrev pub inFirst : List ℕ → List ℕ → ℕ → ℕ → Fact

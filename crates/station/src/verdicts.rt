@@ -10,7 +10,7 @@ use layout::Layout;
 use layout::Shape;
 use layout::find_layout;
 use octets::u16_at;
-use tracks::STATION;
+use seal::STATION;
 use verdict::Fault;
 use verdict::File;
 use verdict::Judged;

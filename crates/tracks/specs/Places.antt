@@ -2,13 +2,7 @@
 -- Assumes nothing.
 use Prim.Native.Nat.{ℕ}
 
--- ---- table 2, the header: a field's place in the file; the type and the structure version stand with the seal of both files
-
-abbrev pub dataAt : ℕ
-dataAt = 3
-
-abbrev pub stationAt : ℕ
-stationAt = 5
+-- ---- table 2, the header: a field's place in the file; those before it stand with the seal of both files
 
 abbrev pub countAt : ℕ
 countAt = 7
@@ -76,9 +70,6 @@ pointSize = 13
 
 abbrev pub leastLength : ℕ
 leastLength = 68
-
-abbrev pub mostLength : ℕ
-mostLength = 65535
 
 abbrev pub latitudeMost : ℕ
 latitudeMost = 324000000

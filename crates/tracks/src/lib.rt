@@ -120,18 +120,12 @@ impl Point {
 }
 
 // Where each field of the header stands.
-pub const DATA: usize = 3;
-
-pub const STATION: usize = 5;
-
 pub const COUNT: usize = 7;
 
 pub const ENTRIES: usize = 8;
 
 // The limits of the fields.
 pub const LEAST_LENGTH: usize = 68;
-
-pub const MOST_LENGTH: usize = 65535;
 
 pub const LATITUDE_MOST: usize = 324000000;
 

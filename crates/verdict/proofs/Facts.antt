@@ -3,7 +3,7 @@
 -- Assumes nothing.
 use Prim.Native.Nat.{ℕ, _≤_}
 use mathlib.Core.Path.{_≡_, refl, ap, sym, subst, _∙_}
-use mathlib.Core.Bool.{Bool, true, false, cond, not, _&&_, _||_}
+use mathlib.Core.Bool.{Bool, true, false, cond, not, _&&_, _||_, true≢false}
 use mathlib.Core.List.{List, [], _∷_, _++_, flatMap, List·Memᴰ, List·Memᴰ·head, List·Memᴰ·tail, List·Memᴰ·not-nil, List·Memᴰ·cases-cons}
 use mathlib.Core.Logic.{_⊎_, inl, inr, ⊎-elim, _↔_}
 use lib.Dec.{eqb, leb}
@@ -79,6 +79,13 @@ agrees (either c d) = either-agrees (Holds c) (Holds d) (test c) (test d) (agree
 agrees (denied c) = denied-agrees (Holds c) (test c) (agrees c)
 agrees (some xs c) = some-agrees c (λ x. agrees (c x)) xs
 agrees (every xs c) = every-agrees c (λ x. agrees (c x)) xs
+
+pub tested : (c : Claim) → (test c ≡ true) ↔ Holds c
+tested c = by-test (test c) (agrees c)
+  where
+    by-test : (t : Bool) → Agrees t (Holds c) → (t ≡ true) ↔ Holds c
+    by-test true a = (λ e. a, λ h. refl)
+    by-test false a = (λ e. absurd (true≢false (sym e)), λ h. absurd (a h))
 
 -- ---- judging a list part by part
 

@@ -1,4 +1,4 @@
--- How a tally and the words grow, walk by walk.
+-- How a tally and the bytes lent grow, walk by walk.
 -- Assumes nothing.
 use Prim.Native.Nat.{ℕ, _+_, _≤_, _<_}
 use native.Mathlib.Numerals.{add-one}
@@ -8,13 +8,13 @@ use mathlib.Core.Bool.{Bool, true, false, cond}
 use mathlib.Core.Logic.{⊎-elim}
 use mathlib.Core.List.{List, [], _∷_, _++_, append-assoc, append-nil}
 use lib.ListN.{length, length-append}
-use lib.Seq.{sets}
 use Rattle.verdict.proofs.Orders.{le-or-lt}
 use Rattle.graph.specs.declared.Object.{Object}
 use Rattle.walks.specs.Walks.{isRoute, routesOf, wordsOf}
 use Rattle.walks.specs.declared.Tally.{Tally}
+use Rattle.walks.specs.Lent.{lays}
 use Rattle.walks.specs.Grown.{Sane, Counted, Grown}
-use Rattle.walks.proofs.Stores.{sets-append}
+use Rattle.walks.proofs.Lent.{lays-append}
 
 routes-append : (v : ℕ → Object) (a b : List (List ℕ)) → routesOf v (a ++ b) ≡ routesOf v a ++ routesOf v b
 unfolding routesOf
@@ -34,7 +34,7 @@ words-append (w ∷ a) b = ap (λ (l : List ℕ). length w ∷ (w ++ l)) (words-
 module _ (v : ℕ → Object) (budget : ℕ) where
   -- no walk
   pub grown-none : (t : Tally) (out : List ℕ) → Sane budget t → Grown v [] budget t t out out
-  unfolding routesOf wordsOf
+  unfolding routesOf wordsOf lays
   grown-none t out h = record { sane = h; grows = omega arith; beyond = λ p. omega arith; counted = λ p. record { walks-are = omega arith; routes-are = omega arith; words-are = omega arith }; out-is = λ p. refl }
 
   -- beyond the budget already
@@ -43,7 +43,7 @@ module _ (v : ℕ → Object) (budget : ℕ) where
 
   -- a walk that is no route
   pub grown-open : (w : List ℕ) (t u : Tally) (out : List ℕ) → Sane budget t → t .walks ≤ budget → isRoute v w ≡ false → Counted 1 0 0 t u → Grown v (w ∷ []) budget t u out out
-  unfolding routesOf wordsOf
+  unfolding routesOf wordsOf lays
   grown-open w t u out h q e k = record {
     sane = record { capped = omega arith; fewer = omega arith; short = omega arith };
     grows = omega arith;
@@ -54,7 +54,7 @@ module _ (v : ℕ → Object) (budget : ℕ) where
 
   -- a route
   pub grown-route : (w : List ℕ) (t u : Tally) (out out′ : List ℕ) → Sane budget t → t .walks ≤ budget → isRoute v w ≡ true → length w ≤ 512 → Counted 1 1 (length w + 1) t u
-      → out′ ≡ sets out (t .words) (length w ∷ w) → Grown v (w ∷ []) budget t u out out′
+      → out′ ≡ lays out (t .words) (length w ∷ w) → Grown v (w ∷ []) budget t u out out′
   unfolding routesOf wordsOf
   grown-route w t u out out′ h q e l k x = record {
     sane = record { capped = omega arith; fewer = omega arith; short = omega arith };
@@ -82,6 +82,6 @@ module _ (v : ℕ → Object) (budget : ℕ) where
             };
         out-is = λ p.
             let k = a .counted (omega arith) in
-            rw (routes-append v ws ws′, words-append (routesOf v ws) (routesOf v ws′), sets-append out (t .words) (wordsOf (routesOf v ws)) (wordsOf (routesOf v ws′)), ← a .out-is (omega arith), ← k .words-are)
+            rw (routes-append v ws ws′, words-append (routesOf v ws) (routesOf v ws′), lays-append out (t .words) (wordsOf (routesOf v ws)) (wordsOf (routesOf v ws′)), ← a .out-is (omega arith), ← k .words-are)
             (b .out-is (omega arith));
       }

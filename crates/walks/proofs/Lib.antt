@@ -4,6 +4,6 @@ pub mod Legal
 pub mod Sound
 pub mod Order
 pub mod Count
-pub mod Stores
+pub mod Lent
 pub mod Grow
 pub mod Unfold

@@ -1,14 +1,12 @@
 -- Membership in a path, tested and stated.
 -- Assumes nothing.
-use Prim.Native.Nat.{ℕ, zero, suc, _<_}
-use native.Mathlib.Nat.{not-suc-le-zero, le-of-suc-le-suc}
-use mathlib.Core.Path.{_≡_, refl, sym, subst}
-use mathlib.Core.Bool.{Bool, true, false, _||_, _&&_, or-true, true≢false}
+use Prim.Native.Nat.{ℕ}
+use mathlib.Core.Path.{_≡_, refl, sym, ap, subst, _∙_}
+use mathlib.Core.Bool.{Bool, true, false, _||_, _&&_, true≢false}
 use mathlib.Core.Logic.{⊎-elim}
 use mathlib.Core.List.{List, [], _∷_, _++_, List·Memᴰ, List·Memᴰ·head, List·Memᴰ·tail, List·Memᴰ·not-nil, List·Memᴰ·cases-cons, Memᴰ·cast}
-use lib.ListN.{length, getD, take}
 use lib.Dec.{eqb}
-use borrow.Author.Tests.{ne-eqb, eq-eqb, eqb-false}
+use borrow.Author.Tests.{ne-eqb, eqb-false}
 use Rattle.walks.specs.Legal.{Distinct}
 use Rattle.walks.specs.Walks.{has}
 
@@ -20,6 +18,20 @@ pub and-true : (a b : Bool) → (a && b) ≡ true → (a ≡ true) × (b ≡ tru
 and-true true true e = (refl, refl)
 and-true true false e = absurd (true≢false (sym e))
 and-true false b e = absurd (true≢false (sym e))
+
+-- x stands in a list with one element more where it stands in the list or is that element
+pub has-more : (l : List ℕ) (y x : ℕ) → has (l ++ (y ∷ [])) x ≡ (has l x || eqb y x)
+unfolding has
+has-more [] y x = or-none (eqb y x)
+  where
+    or-none : (b : Bool) → (b || false) ≡ b
+    or-none true = refl
+    or-none false = refl
+has-more (a ∷ l) y x = ap (λ (b : Bool). eqb a x || b) (has-more l y x) ∙ or-both (eqb a x)
+  where
+    or-both : (b : Bool) → (b || (has l x || eqb y x)) ≡ ((b || has l x) || eqb y x)
+    or-both true = refl
+    or-both false = refl
 
 -- x stands not in a list with one element more
 pub has-snoc : (l : List ℕ) (y x : ℕ) → has l x ≡ false → (y ≡ x → ⊥) → has (l ++ (y ∷ [])) x ≡ false
@@ -34,14 +46,6 @@ snoc-has (a ∷ l) y x e =
     let o = or-false (eqb a x) (has (l ++ (y ∷ [])) x) e in
     let r = snoc-has l y x (o .1) in
     (rw (o .0) (r .0), r .1)
-
--- x stands among the first n
-pub has-found : (l : List ℕ) (i n x : ℕ) → i < n → i < length l → getD l i 0 ≡ x → has (take n l) x ≡ true
-unfolding has
-has-found [] i n x p q e = absurd (not-suc-le-zero q)
-has-found (a ∷ l) i zero x p q e = absurd (not-suc-le-zero p)
-has-found (a ∷ l) zero (suc n) x p q e = rw (eq-eqb a x e) refl
-has-found (a ∷ l) (suc i) (suc n) x p q e = rw (has-found l i n x (le-of-suc-le-suc p) (le-of-suc-le-suc q) e) (or-true (eqb a x))
 
 -- each of w stands neither in p nor before itself
 abbrev pub Fresh : List ℕ → List ℕ → Type 0

@@ -1,13 +1,13 @@
--- How the numbers of a listing and the words lent grow by some walks, and the range in which they stay.
+-- How the numbers of a listing and the bytes lent grow by some walks, and the range in which they stay.
 -- Assumes nothing.
 use Prim.Native.Nat.{ℕ, _+_, _*_, _≤_, _<_}
 use mathlib.Core.Path.{_≡_}
 use mathlib.Core.List.{List}
 use lib.ListN.{length}
-use lib.Seq.{sets}
 use Rattle.graph.specs.declared.Object.{Object}
 use Rattle.walks.specs.declared.Tally.{Tally}
 use Rattle.walks.specs.Walks.{routesOf, wordsOf}
+use Rattle.walks.specs.Lent.{lays}
 
 -- the least and the highest limit and budget
 abbrev pub limitLeast : ℕ
@@ -43,4 +43,4 @@ pub record Grown (v : ℕ → Object) (ws : List (List ℕ)) (budget : ℕ) (t r
   pub grows : t .walks ≤ r .walks
   pub beyond : budget < t .walks + length ws → budget < r .walks
   pub counted : t .walks + length ws ≤ budget → Counted (length ws) (length (routesOf v ws)) (length (wordsOf (routesOf v ws))) t r
-  pub out-is : t .walks + length ws ≤ budget → out′ ≡ sets out (t .words) (wordsOf (routesOf v ws))
+  pub out-is : t .walks + length ws ≤ budget → out′ ≡ lays out (t .words) (wordsOf (routesOf v ws))

@@ -1,4 +1,5 @@
 pub mod Legal
 pub mod Walks
 pub mod All
+pub mod Lent
 pub mod Grown

@@ -1,5 +1,6 @@
 -- What an answer about the routes of an X.2 file means. A listing has every legal route of the accepted file once, in order, with the number
--- of all partial walks; a refusal, the file's own fault or 13, 14 and 15, leaves every word lent as it was.
+-- of all partial walks; 13, 14 and 15 are answered exactly where 01 says; a refusal, by one of these or by the file's own fault, leaves every
+-- byte lent as it was.
 -- Assumes nothing.
 use Prim.Native.Nat.{ℕ, _≤_, _<_}
 use native.Mathlib.Omega.{arith}
@@ -9,13 +10,15 @@ use mathlib.Core.Logic.{_↔_}
 use mathlib.Core.List.{List}
 use lib.ListN.{length}
 use Rattle.verdict.specs.declared.Fault.{Fault}
-use Rattle.verdict.specs.declared.Reason.the-variants.{Question, Steps}
+use Rattle.verdict.specs.declared.Reason.{Reason}
+use Rattle.verdict.specs.declared.Reason.the-variants.{Question, Steps, Room}
+use Rattle.verdict.specs.Reasons.{numberOf}
 use Rattle.verdict.specs.declared.Verdict.{Verdict}
 use Rattle.verdict.specs.declared.Verdict.the-variants as verdict
 use Rattle.layout.specs.Layout.{layoutOf}
 use Rattle.layout.specs.Regions.{Regions}
 use Rattle.layout.proofs.Regions.{regions}
-use Rattle.fields.proofs.Bounds.{bounded}
+use Rattle.layout.proofs.Bounds.{regions-bounded}
 use Rattle.links.specs.Obeys.{Place}
 use Rattle.application.specs.Facts.{verdictOf}
 use Rattle.application.specs.Obeys.{Obeys}
@@ -24,31 +27,31 @@ use Rattle.graph.specs.declared.Object.{Object}
 use Rattle.graph.specs.Links.{Joined}
 use Rattle.graph.specs.Objects.{objectAt, boundaryAt, offsetMost}
 use Rattle.walks.specs.declared.Tally.{Tally}
-use Rattle.walks.specs.Legal.{Walk}
-use Rattle.walks.specs.All.{Number}
+use Rattle.walks.specs.Legal.{Walk, Route}
+use Rattle.walks.specs.Walks.{wordsOf}
+use Rattle.walks.specs.Lent.{roomOf}
+use Rattle.walks.specs.All.{Exactly, Number}
 use Rattle.routes.specs.declared.RoutesAnswer.{RoutesAnswer}
 use Rattle.routes.specs.declared.RoutesAnswer.the-variants.{Listed, Refused}
-use Rattle.routes.specs.Answered.{limitOf, inRange, refusedFor, judged, answerAt, answerOf, answerIn, leftIn, numberIn}
-use Rattle.routes.specs.Listing.{Listing}
-use Rattle.routes.proofs.Listing.{listing, steps-iff, kept}
+use Rattle.routes.specs.Answered.{limitOf, refusedFor, judged, answerAt, answerOf, answerIn, leftIn, numberIn}
+use Rattle.routes.specs.Listing.{Within, Listing}
+use Rattle.routes.proofs.Listing.{listing, question-iff, steps-iff, kept}
+use Rattle.routes.proofs.Listing.{no-room-iff as room-iff}
 use Rattle.yard.specs.Routes.{asked, left, routesOf, leftOf}
 use Rattle.yard.proofs.Links.{joined, boundary-place}
 
--- only from a boundary is anything listed
-from-boundary : (v : ℕ → Object) (b : Bool) (start limit budget room : ℕ) (t : Tally) → answerOf v b start limit budget room ≡ Listed t → b ≡ true
+-- only from a boundary is anything else answered than 13
+from-boundary : (v : ℕ → Object) (b : Bool) (start limit budget room : ℕ) (r : RoutesAnswer) → answerOf v b start limit budget room ≡ r → ¬ (numberIn r ≡ 13) → b ≡ true
 unfolding answerAt judged
-from-boundary v true start limit budget room t e = refl
-from-boundary v false start limit budget room t e = absurd (never e)
-  where
-    never : refusedFor Question ≡ Listed t → ⊥
-    never q = let z : _≡_ {A = ℕ} 13 0 = ap numberIn q in omega arith
+from-boundary v true start limit budget room r e n = refl
+from-boundary v false start limit budget room r e n = absurd (n (ap numberIn (sym e)))
 
-keeps : (w : Verdict) (f : List ℕ) (start limit budget : ℕ) (out : List ℕ) (u : Fault) → asked w f start limit budget (length out) ≡ Refused u → left w f start limit budget out ≡ out
+keeps : (w : Verdict) (f : List ℕ) (start limit budget : ℕ) (out : List ℕ) (u : Fault) → asked w f start limit budget (roomOf out) ≡ Refused u → left w f start limit budget out ≡ out
 keeps (verdict.Refused t) f start limit budget out u e = refl
 keeps verdict.Accepted f start limit budget out u e = kept (objectAt f (layoutOf f)) (boundaryAt (layoutOf f) start) start limit budget out u e
 
--- THEOREM: a refusal leaves every word lent as it was
-pub refused-keeps : (f : List ℕ) (start limit budget : ℕ) (out : List ℕ) (u : Fault) → routesOf f start limit budget (length out) ≡ Refused u → leftOf f start limit budget out ≡ out
+-- THEOREM: a refusal leaves every byte lent as it was
+pub refused-keeps : (f : List ℕ) (start limit budget : ℕ) (out : List ℕ) (u : Fault) → routesOf f start limit budget (roomOf out) ≡ Refused u → leftOf f start limit budget out ≡ out
 unfolding routesOf leftOf
 refused-keeps f start limit budget out u e = keeps (verdictOf f) f start limit budget out u e
 
@@ -60,7 +63,7 @@ module _ (f : List ℕ) (e : verdictOf f ≡ verdict.Accepted) where
   whole = regions f (obeys .layout)
 
   small : layoutOf f .stop ≤ offsetMost
-  small = let m = obeys .most in let b = bounded f (layoutOf f) whole (omega arith) .stop in omega arith
+  small = regions-bounded f (layoutOf f) whole (obeys .most) .stop
 
   linked : Joined (objectAt f (layoutOf f)) (Place f (layoutOf f))
   linked = joined f (layoutOf f) whole (obeys .targets) (obeys .returns)
@@ -77,16 +80,40 @@ module _ (f : List ℕ) (e : verdictOf f ≡ verdict.Accepted) where
   left-is start limit budget out = ap (λ (w : Verdict). left w f start limit budget out) e
 
   -- THEOREM: an answer lists every legal route once, in order, and nothing else
-  pub listed : (start limit budget : ℕ) (out : List ℕ) (t : Tally) → routesOf f start limit budget (length out) ≡ Listed t
+  pub listed : (start limit budget : ℕ) (out : List ℕ) (t : Tally) → routesOf f start limit budget (roomOf out) ≡ Listed t
       → Listing (objectAt f (layoutOf f)) start (limitOf limit) budget t out (leftOf f start limit budget out)
   listed start limit budget out t q =
-      let a = sym (asked-is start limit budget (length out)) ∙ q in
-      let b = from-boundary (objectAt f (layoutOf f)) (boundaryAt (layoutOf f) start) start limit budget (length out) t a in
+      let a = sym (asked-is start limit budget (roomOf out)) ∙ q in
+      let b = from-boundary (objectAt f (layoutOf f)) (boundaryAt (layoutOf f) start) start limit budget (roomOf out) (Listed t) a (λ z. omega arith) in
       subst⁻¹ (Listing (objectAt f (layoutOf f)) start (limitOf limit) budget t out) (left-is start limit budget out)
       (listing (objectAt f (layoutOf f)) (Place f (layoutOf f)) linked start (place start b) (boundaryAt (layoutOf f) start) limit budget out t a)
 
-  -- THEOREM: from a boundary, 14 exactly where limit and budget are in range and the legal partial walks outnumber the budget
-  pub too-many-iff : (start limit budget room n : ℕ) → boundaryAt (layoutOf f) start ≡ true → Number (Walk (objectAt f (layoutOf f)) start (limitOf limit)) n
-      → (routesOf f start limit budget room ≡ refusedFor Steps) ↔ ((inRange true (limitOf limit) budget ≡ true) × (budget < n))
-  too-many-iff start limit budget room n b h =
-      rw (asked-is start limit budget room, b) (steps-iff (objectAt f (layoutOf f)) (Place f (layoutOf f)) linked start (place start b) true limit budget room n h)
+  -- THEOREM: 13 exactly where the question is not in range
+  pub out-of-range-iff : (start limit budget room : ℕ) → (routesOf f start limit budget room ≡ refusedFor Question) ↔ (¬ Within (boundaryAt (layoutOf f) start) (limitOf limit) budget)
+  out-of-range-iff start limit budget room =
+      rw (asked-is start limit budget room) (question-iff (objectAt f (layoutOf f)) (boundaryAt (layoutOf f) start) start limit budget room)
+
+  -- a refusal that is answered from a boundary alone, exactly where B holds
+  from-start : (start limit budget room : ℕ) (u : Reason) (B : Type 0) → ¬ (numberOf u ≡ 13) → (B → boundaryAt (layoutOf f) start ≡ true)
+      → (boundaryAt (layoutOf f) start ≡ true → (answerIn f (layoutOf f) start limit budget room ≡ refusedFor u) ↔ B)
+      → (routesOf f start limit budget room ≡ refusedFor u) ↔ B
+  from-start start limit budget room u B n b h =
+      rw (asked-is start limit budget room) (
+        (λ e. h (from-boundary (objectAt f (layoutOf f)) (boundaryAt (layoutOf f) start) start limit budget room (refusedFor u) e n) .0 e),
+        (λ p. h (b p) .1 p),
+      )
+
+  module _ (start limit budget room n : ℕ) (number : Number (Walk (objectAt f (layoutOf f)) start (limitOf limit)) n) where
+    -- THEOREM: 14 exactly where the question is in range and the legal partial walks outnumber the budget
+    pub too-many-iff : (routesOf f start limit budget room ≡ refusedFor Steps) ↔ (Within (boundaryAt (layoutOf f) start) (limitOf limit) budget × (budget < n))
+    too-many-iff =
+        from-start start limit budget room Steps (Within (boundaryAt (layoutOf f) start) (limitOf limit) budget × (budget < n)) (λ z. omega arith) (λ p. p .0 .boundary)
+        (λ b. steps-iff (objectAt f (layoutOf f)) (Place f (layoutOf f)) linked start (place start b) (boundaryAt (layoutOf f) start) limit budget room n number)
+
+    -- THEOREM: 15 exactly where the question is in range, the legal partial walks are at most the budget, and the words of all legal routes are
+    -- more than find room
+    pub no-room-iff : (routes : List (List ℕ)) → Exactly (Route (objectAt f (layoutOf f)) start (limitOf limit)) routes
+        → (routesOf f start limit budget room ≡ refusedFor Room) ↔ (Within (boundaryAt (layoutOf f) start) (limitOf limit) budget × (n ≤ budget) × (room < length (wordsOf routes)))
+    no-room-iff routes exactly =
+        from-start start limit budget room Room (Within (boundaryAt (layoutOf f) start) (limitOf limit) budget × (n ≤ budget) × (room < length (wordsOf routes))) (λ z. omega arith) (λ p. p .0 .boundary)
+        (λ b. room-iff (objectAt f (layoutOf f)) (Place f (layoutOf f)) linked start (place start b) (boundaryAt (layoutOf f) start) limit budget room n number routes exactly)

@@ -1,4 +1,4 @@
--- The question 'routes' of an X.2 file (01, 'A question ..' and 'Routes'), for every input: first the file's own fault, with every word
+-- The question 'routes' of an X.2 file (01, 'A question ..' and 'Routes'), for every input: first the file's own fault, with every byte
 -- lent as it was; of an accepted file what crate routes answers for its layout.
 -- Assumes nothing.
 use Prim.Native.Nat.{ℕ}
@@ -26,7 +26,7 @@ abbrev pub left : Verdict → List ℕ → ℕ → ℕ → ℕ → List ℕ → 
 left (verdict.Refused t) f start limit budget out = out
 left verdict.Accepted f start limit budget out = leftIn f (layoutOf f) start limit budget out
 
--- the answer, and the words lent after it
+-- the answer with room for some words, and the bytes lent after it
 unfoldable pub routesOf : List ℕ → ℕ → ℕ → ℕ → ℕ → RoutesAnswer
 routesOf f start limit budget room = asked (verdictOf f) f start limit budget room
 

@@ -1,8 +1,8 @@
 // The question 'routes' about an X.2 file (01, 'A question ..' and 'Routes'): first the file's own fault, then 13, 14 and 15, else every
 // route from a boundary.
 ghost use mathlib.Core.Path.{_≡_};
-ghost use lib.ListN.{length};
 ghost use Rattle.verdict.specs.declared.Reason.the-variants.{Question};
+ghost use Rattle.walks.specs.Lent.{roomOf};
 ghost use Rattle.routes.specs.Answered.{refusedFor};
 ghost use Rattle.yard.specs.Routes.{refusedAs, routesOf, leftOf};
 use application::verdict_of;
@@ -31,9 +31,9 @@ fn refused(v: Verdict) -> RoutesAnswer
     }
 }
 
-// The routes from a boundary, in the words lent.
-pub fn routes(f: &[u8], start: usize, limit: usize, budget: usize, out: &mut [u16]) -> RoutesAnswer
-    ensures { λ r. ⌜ r ≡ routesOf (now (f .entry)) start limit budget (length (now (out .entry))) ⌝ }
+// The routes from a boundary, in the bytes lent: two for each word, low byte first.
+pub fn routes(f: &[u8], start: usize, limit: usize, budget: usize, out: &mut [u8]) -> RoutesAnswer
+    ensures { λ r. ⌜ r ≡ routesOf (now (f .entry)) start limit budget (roomOf (now (out .entry))) ⌝ }
     ensures { λ _. ⌜ now (out .exit) ≡ leftOf (now (f .entry)) start limit budget (now (out .entry)) ⌝ }
 {
     let v = verdict_of(f);

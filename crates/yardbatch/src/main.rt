@@ -2,12 +2,12 @@
 // 4 bytes each, and the bytes of the first and of the second file; all numbers are little-endian. Standard output is, for each case, what
 // yardask prints, and an empty line. Input that ends inside a case, an unknown question, or a case that lends more than 65,535 words for
 // routes, is a line on standard error and ends the run.
-ghost use mathlib.Core.Path.{_≡_};
-ghost use Prim.Native.Nat.{_≤_, min};
+ghost use Prim.Native.Nat.{_≤_};
 use libc::STDERR_FILENO;
 use libc::STDIN_FILENO;
 use libc::STDOUT_FILENO;
 use octets::byte_at;
+use octets::least;
 use octets::u32_at;
 
 // What stands before the files of a case: the question, four numbers and two lengths.
@@ -53,13 +53,6 @@ const PART: usize = 4096;
 fn stop(why: &[u8]) -> bool {
     io::write_all(STDERR_FILENO, why);
     false
-}
-
-// The smaller of two numbers.
-fn least(a: usize, b: usize) -> usize
-    ensures { λ r. ⌜ r ≡ min a b ⌝ }
-{
-    if a < b { a } else { b }
 }
 
 // Passes over n bytes of the input, no more than a part. It answers whether they were there.

@@ -15,7 +15,9 @@ enum-told-2 : tie.Need-enum-told-2
 enum-told-2 c = search needs
 
 returns : tie.Need-returns
-returns c = fields-refused _ _ _ (c .before .before .check-fields .ensures) _ (c .enum-told2 .given .1)
+returns c =
+    let fields = c .before .before in
+    fields-refused _ _ (fields .before .before .pre) _ (fields .check-fields .ensures) _ (c .enum-told2 .given .1)
 
 check-agreement-requires : tie.Need-check-agreement-requires
 check-agreement-requires c κs = search needs
@@ -27,7 +29,11 @@ enum-told-4 : tie.Need-enum-told-4
 enum-told-4 c = search needs
 
 returns-2 : tie.Need-returns-2
-returns-2 c = agreement-refused _ _ _ (c .before .before .before .before .before .check-fields .ensures) (c .before .before .before .enum-told .given .1) _ (c .before .before .check-agreement .ensures) _ (c .enum-told4 .given .1)
+returns-2 c =
+    let agreement = c .before .before in
+    let filled = agreement .before in
+    let fields = filled .before .before in
+    agreement-refused _ _ (fields .before .before .pre) _ (fields .check-fields .ensures) (filled .enum-told .given .1) _ (agreement .check-agreement .ensures) _ (c .enum-told4 .given .1)
 
 check-targets-requires : tie.Need-check-targets-requires
 check-targets-requires c κs = search needs
@@ -39,13 +45,28 @@ enum-told-6 : tie.Need-enum-told-6
 enum-told-6 c = search needs
 
 returns-3 : tie.Need-returns-3
-returns-3 c = targets-refused _ _ _ (c .before .before .before .before .before .before .before .before .check-fields .ensures) (c .before .before .before .before .before .before .enum-told .given .1) _ (c .before .before .before .before .before .check-agreement .ensures) (c .before .before .before .enum-told3 .given .1) _ (c .before .before .check-targets .ensures) _ (c .enum-told6 .given .1)
+returns-3 c =
+    let targets = c .before .before in
+    let agreed = targets .before in
+    let agreement = agreed .before .before in
+    let filled = agreement .before in
+    let fields = filled .before .before in
+    targets-refused _ _ (fields .before .before .pre) _ (fields .check-fields .ensures) (filled .enum-told .given .1) _ (agreement .check-agreement .ensures) (agreed .enum-told3 .given .1) _
+    (targets .check-targets .ensures) _ (c .enum-told6 .given .1)
 
 check-returns-requires : tie.Need-check-returns-requires
 check-returns-requires c κs = search needs
 
 returns-4 : tie.Need-returns-4
-returns-4 c = all-checked _ _ _ (c .before .before .before .before .before .before .before .before .before .check-fields .ensures) (c .before .before .before .before .before .before .before .enum-told .given .1) _ (c .before .before .before .before .before .before .check-agreement .ensures) (c .before .before .before .before .enum-told3 .given .1) _ (c .before .before .before .check-targets .ensures) (c .before .enum-told5 .given .1) _ (c .check-returns .ensures)
+returns-4 c =
+    let aimed = c .before in
+    let targets = aimed .before .before in
+    let agreed = targets .before in
+    let agreement = agreed .before .before in
+    let filled = agreement .before in
+    let fields = filled .before .before in
+    all-checked _ _ (fields .before .before .pre) _ (fields .check-fields .ensures) (filled .enum-told .given .1) _ (agreement .check-agreement .ensures) (agreed .enum-told3 .given .1) _
+    (targets .check-targets .ensures) (aimed .enum-told5 .given .1) _ (c .check-returns .ensures)
 
 pub check-records-spec : {M : Type 1} → statement M
 check-records-spec =

@@ -1,11 +1,12 @@
 -- `application::record_at` meets its contract.
 -- Assumes nothing.
-use mathlib.Core.Path.{_≡_, sym, _∙_}
+use mathlib.Core.Path.{sym, _∙_}
 use native.Mathlib.Omega.{arith}
 use Rattle.layout.proofs.Shapes.{found-regions, found-layout}
 use Rattle.application.proofs.Checks.{found-bounded}
-use Rattle.application.proofs.Questions.{verdict-obeys, not-true, not-false, own-fault, never-faulty, no-record, start-small, record-there}
+use Rattle.application.proofs.Questions.{verdict-obeys, own-fault, never-faulty, no-record, start-small, record-there}
 use borrow.Author.Needs.{needs}
+use borrow.Author.Tests.{not-true, not-false}
 use Rattle.application.proofs.record_at.Statement.{statement}
 use Rattle.application.proofs.record_at.Tie as tie
 

@@ -1,24 +1,26 @@
--- `listings::list` is safe and ends: the entries that are left fall.
+-- `listings::list` meets its contract, and ends: the entries that are left fall.
 -- Assumes nothing.
 use Prim.Native.Nat.{_-_}
+use mathlib.Core.Path.{ap, _∙_}
+use Rattle.verdict.specs.Reasons.{numberIn}
 use borrow.Author.Needs.{needs}
 use Rattle.listings.proofs.list.Statement.{statement}
 use Rattle.listings.proofs.list.Tie as tie
 
 abbrev Inv-loop : tie.InvT-loop
-Inv-loop f n i₀ i = Unit {0}
+Inv-loop f number n i₀ i = Unit {0}
 
 abbrev μ-loop : tie.MeasureT-loop
-μ-loop f n i₀ i = n - i
+μ-loop f number n i₀ i = n - i
 
 verdict-of-requires : tie.Need-verdict-of-requires Inv-loop μ-loop
 verdict-of-requires c κs = search needs
 
-slice-aggregate-head : tie.Need-slice-aggregate-head Inv-loop μ-loop
-slice-aggregate-head c = search needs
-
 number-requires : tie.Need-number-requires Inv-loop μ-loop
 number-requires c κs = search needs
+
+slice-aggregate-head : tie.Need-slice-aggregate-head Inv-loop μ-loop
+slice-aggregate-head c = search needs
 
 place-requires : tie.Need-place-requires Inv-loop μ-loop
 place-requires c κs = search needs
@@ -33,7 +35,7 @@ enum-told-2 : tie.Need-enum-told-2 Inv-loop μ-loop
 enum-told-2 c = search needs
 
 returns : tie.Need-returns Inv-loop μ-loop
-returns c = search needs
+returns c = c .before .before .before .before .before .number .ensures ∙ ap numberIn (c .before .before .before .before .before .before .verdict-of .ensures)
 
 byte-at-requires : tie.Need-byte-at-requires Inv-loop μ-loop
 byte-at-requires c κs = search needs
@@ -66,7 +68,7 @@ loop-again : tie.Need-loop-again Inv-loop μ-loop
 loop-again c = search needs
 
 returns-2 : tie.Need-returns-2 Inv-loop μ-loop
-returns-2 c = search needs
+returns-2 c = c .before .before .before .before .before .before .before .before .number .ensures ∙ ap numberIn (c .before .before .before .before .before .before .before .before .before .verdict-of .ensures)
 
 pub list-spec : {M : Type 1} → statement M
 list-spec =
@@ -75,8 +77,8 @@ list-spec =
     Inv-loop
     μ-loop
     verdict-of-requires
-    slice-aggregate-head
     number-requires
+    slice-aggregate-head
     place-requires
     head-requires
     enum-told

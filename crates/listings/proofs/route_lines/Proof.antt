@@ -6,10 +6,10 @@ use Rattle.listings.proofs.route_lines.Statement.{statement}
 use Rattle.listings.proofs.route_lines.Tie as tie
 
 abbrev Inv-loop : tie.InvT-loop
-Inv-loop words n left₀ k₀ left k = Unit {0}
+Inv-loop lent n left₀ k₀ left k = Unit {0}
 
 abbrev μ-loop : tie.MeasureT-loop
-μ-loop words n left₀ k₀ left k = n - k
+μ-loop lent n left₀ k₀ left k = n - k
 
 loop-holds : tie.Need-loop-holds Inv-loop μ-loop
 loop-holds c = search needs

@@ -1,25 +1,33 @@
 -- `listings::routes` meets its contract.
 -- Assumes nothing.
-use Prim.Native.Nat.{ℕ}
+use Prim.Native.Nat.{ℕ, _*_, _/_}
 use mathlib.Core.Path.{_≡_, sym, ap, _∙_}
 use mathlib.Core.List.{List}
 use native.Mathlib.Omega.{arith}
 use lib.Seq.{length-take-le}
+use Rattle.walks.specs.Lent.{wordSize}
 use Rattle.routes.specs.Answered.{numberIn}
 use Rattle.yard.specs.Routes.{routesOf}
 use borrow.Author.Needs.{needs}
 use Rattle.listings.proofs.routes.Statement.{statement}
 use Rattle.listings.proofs.routes.Tie as tie
 
--- the number of the answer with n words, where n is m
+-- the number of the answer with room for n words, where n is m
 numbered : (f : List ℕ) (start limit budget n m : ℕ) {r : ℕ} → r ≡ numberIn (routesOf f start limit budget n) → n ≡ m → r ≡ numberIn (routesOf f start limit budget m)
 numbered f start limit budget n m e same = e ∙ ap (λ x. numberIn (routesOf f start limit budget x)) same
+
+-- the room in the bytes of k words
+halved : (n k m : ℕ) → wordSize * k ≡ n → k ≡ m → n / wordSize ≡ m
+halved n k m e same = omega arith
 
 least-requires : tie.Need-least-requires
 least-requires c κs = search needs
 
-array-borrow-prefix-words : tie.Need-array-borrow-prefix-words
-array-borrow-prefix-words c = search needs
+mul-lent : tie.Need-mul-lent
+mul-lent c = search needs
+
+array-borrow-prefix-bytes : tie.Need-array-borrow-prefix-bytes
+array-borrow-prefix-bytes c = search needs
 
 slice-aggregate-answer-lines : tie.Need-slice-aggregate-answer-lines
 slice-aggregate-answer-lines c = sym (length-take-le _ _ (omega arith))
@@ -28,14 +36,15 @@ answer-lines-requires : tie.Need-answer-lines-requires
 answer-lines-requires c κs = search needs
 
 returns : tie.Need-returns
-returns c = numbered _ _ _ _ _ _ (c .before .answer-lines .ensures) (sym (slice-aggregate-answer-lines (c .before .before)) ∙ c .before .before .before .least .ensures)
+returns c = numbered _ _ _ _ _ _ (c .before .answer-lines .ensures) (halved _ _ _ (slice-aggregate-answer-lines (c .before .before)) (c .before .before .before .least .ensures))
 
 pub routes-spec : {M : Type 1} → statement M
 routes-spec =
     tie.close
     (tie.spec
     least-requires
-    array-borrow-prefix-words
+    mul-lent
+    array-borrow-prefix-bytes
     slice-aggregate-answer-lines
     answer-lines-requires
     returns)

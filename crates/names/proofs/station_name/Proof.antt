@@ -12,18 +12,18 @@ code-count-requires c κs = search needs
 codes-requires : tie.Need-codes-requires
 codes-requires c κs = search needs
 
-mul-bytes-between : tie.Need-mul-bytes-between
-mul-bytes-between c = search needs
+mul-zeros : tie.Need-mul-zeros
+mul-zeros c = search needs
 
-bytes-between-requires : tie.Need-bytes-between-requires
-bytes-between-requires c κs = search needs
+zeros-requires : tie.Need-zeros-requires
+zeros-requires c κs = search needs
 
 also-fact-requires : tie.Need-also-fact-requires
 also-fact-requires c κs = search needs
 
 returns : tie.Need-returns
 unfolding stationName
-returns c = simp (c .also-fact .ensures, c .before .bytes-between .ensures, c .before .before .codes .ensures, c .before .before .before .code-count .ensures .is) refl
+returns c = simp (c .also-fact .ensures, c .before .zeros .ensures, c .before .before .codes .ensures, c .before .before .before .code-count .ensures .is) refl
 
 pub station-name-spec : {M : Type 1} → statement M
 station-name-spec =
@@ -31,7 +31,7 @@ station-name-spec =
     (tie.spec
     code-count-requires
     codes-requires
-    mul-bytes-between
-    bytes-between-requires
+    mul-zeros
+    zeros-requires
     also-fact-requires
     returns)

@@ -15,15 +15,15 @@ sub-if2 c = search needs
 returns-2 : tie.Need-returns-2
 returns-2 c = past 1 _ _ (omega arith) (omega arith)
 
-add-byte-at : tie.Need-add-byte-at
-add-byte-at c = search needs
+add-byte-inside : tie.Need-add-byte-inside
+add-byte-inside c = search needs
 
-byte-at-requires : tie.Need-byte-at-requires
-byte-at-requires c κs = search needs
+byte-inside-requires : tie.Need-byte-inside-requires
+byte-inside-requires c κs = search needs
 
 returns-3 : tie.Need-returns-3
 returns-3 c = search needs
 
 pub byte-behind-spec : {M : Type 1} → statement M
 byte-behind-spec =
-    tie.close (tie.spec returns sub-if2 returns-2 add-byte-at byte-at-requires returns-3)
+    tie.close (tie.spec returns sub-if2 returns-2 add-byte-inside byte-inside-requires returns-3)

@@ -1,43 +1,21 @@
--- `fields::agreement::check_agreement` meets its contract. Its parts join by a law of Checks.
+-- `fields::agreement::check_agreement` meets its contract.
 -- Assumes nothing.
-use Rattle.fields.proofs.Checks.{agreement-judged}
+use Rattle.layout.proofs.Bounds.{none-judged, is-bounded, all-judged}
 use borrow.Author.Needs.{needs}
 use Rattle.fields.proofs.agreement.check_agreement.Statement.{statement}
 use Rattle.fields.proofs.agreement.check_agreement.Tie as tie
 
-mul-entries : tie.Need-mul-entries
-mul-entries c = search needs
-
-add-entries : tie.Need-add-entries
-add-entries c = search needs
-
-add-entries-2 : tie.Need-add-entries-2
-add-entries-2 c = search needs
-
-entries-agree-requires : tie.Need-entries-agree-requires
-entries-agree-requires c κs = search needs
-
-entries-agree-requires-2 : tie.Need-entries-agree-requires-2
-entries-agree-requires-2 c κs = search needs
-
-records-agree-requires : tie.Need-records-agree-requires
-records-agree-requires c κs = search needs
+is-bounded-requires : tie.Need-is-bounded-requires
+is-bounded-requires c κs = search needs
 
 returns : tie.Need-returns
-returns c =
-    let a = c .before .before .before .before .before .args in
-    let first = c .before .before .entries-agree in
-    let second = c .before .entries-agree2 in
-    agreement-judged (a .f .now) (a .v) (first .result) (c .records-agree .result) (a .l) (second .result) (first .ensures) (second .ensures) (c .records-agree .ensures)
+returns c = none-judged _ _ (c .before .is-bounded .ensures) (c .if1 .taken) _ _
+
+all-agree-requires : tie.Need-all-agree-requires
+all-agree-requires c κs = is-bounded _ _ (c .before .is-bounded .ensures) (c .if1 .left)
+
+returns-2 : tie.Need-returns-2
+returns-2 c = all-judged _ _ (c .before .before .is-bounded .ensures) (c .before .if1 .left) _ _ _ (c .all-agree .ensures)
 
 pub check-agreement-spec : {M : Type 1} → statement M
-check-agreement-spec =
-    tie.close
-    (tie.spec
-    mul-entries
-    add-entries
-    add-entries-2
-    entries-agree-requires
-    entries-agree-requires-2
-    records-agree-requires
-    returns)
+check-agreement-spec = tie.close (tie.spec is-bounded-requires returns all-agree-requires returns-2)

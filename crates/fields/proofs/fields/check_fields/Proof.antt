@@ -1,48 +1,21 @@
--- `fields::fields::check_fields` meets its contract. Its parts join by a law of Checks.
+-- `fields::fields::check_fields` meets its contract.
 -- Assumes nothing.
-use Rattle.fields.proofs.Checks.{fields-judged}
+use Rattle.layout.proofs.Bounds.{none-judged, is-bounded, all-judged}
 use borrow.Author.Needs.{needs}
 use Rattle.fields.proofs.fields.check_fields.Statement.{statement}
 use Rattle.fields.proofs.fields.check_fields.Tie as tie
 
-mul-entries : tie.Need-mul-entries
-mul-entries c = search needs
-
-add-entries : tie.Need-add-entries
-add-entries c = search needs
-
-add-entries-2 : tie.Need-add-entries-2
-add-entries-2 c = search needs
-
-header-fields-requires : tie.Need-header-fields-requires
-header-fields-requires c κs = search needs
-
-entries-fields-requires : tie.Need-entries-fields-requires
-entries-fields-requires c κs = search needs
-
-entries-fields-requires-2 : tie.Need-entries-fields-requires-2
-entries-fields-requires-2 c κs = search needs
-
-records-fields-requires : tie.Need-records-fields-requires
-records-fields-requires c κs = search needs
+is-bounded-requires : tie.Need-is-bounded-requires
+is-bounded-requires c κs = search needs
 
 returns : tie.Need-returns
-returns c =
-    let a = c .before .before .before .before .before .before .args in
-    let head = c .before .before .before .header-fields in
-    let first = c .before .before .entries-fields in
-    let second = c .before .entries-fields2 in
-    fields-judged (a .f .now) (a .v) (head .result) (c .records-fields .result) (a .l) (first .result) (second .result) (head .ensures) (first .ensures) (second .ensures) (c .records-fields .ensures)
+returns c = none-judged _ _ (c .before .is-bounded .ensures) (c .if1 .taken) _ _
+
+all-fields-requires : tie.Need-all-fields-requires
+all-fields-requires c κs = is-bounded _ _ (c .before .is-bounded .ensures) (c .if1 .left)
+
+returns-2 : tie.Need-returns-2
+returns-2 c = all-judged _ _ (c .before .before .is-bounded .ensures) (c .before .if1 .left) _ _ _ (c .all-fields .ensures)
 
 pub check-fields-spec : {M : Type 1} → statement M
-check-fields-spec =
-    tie.close
-    (tie.spec
-    mul-entries
-    add-entries
-    add-entries-2
-    header-fields-requires
-    entries-fields-requires
-    entries-fields-requires-2
-    records-fields-requires
-    returns)
+check-fields-spec = tie.close (tie.spec is-bounded-requires returns all-fields-requires returns-2)

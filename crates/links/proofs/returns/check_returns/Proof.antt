@@ -1,74 +1,21 @@
--- `links::returns::check_returns` meets its contract. The invariant: the verdict so far, then the facts of the records from `at` on, is the verdict
--- before the loop and then the facts of all records.
+-- `links::returns::check_returns` meets its contract.
 -- Assumes nothing.
-use Prim.Native.Nat.{ℕ, _+_, _<_, _-_}
-use mathlib.Core.Path.{_≡_, _∙_, refl, sym, ap}
-use mathlib.Core.List.{flatMap}
-use native.Mathlib.Omega.{arith}
-use Rattle.verdict.specs.Facts.{judge}
-use Rattle.verdict.specs.Walk.{startsFrom}
-use Rattle.verdict.proofs.Checks.{judge-step, judge-stop}
-use Rattle.layout.specs.Records.{sizeAt, sizeOf, starts}
-use Rattle.layout.proofs.Records.{sizeAt-pos}
-use Rattle.links.specs.Links.{returnsOf, returnFacts}
+use Rattle.layout.proofs.Bounds.{none-judged, is-bounded, all-judged}
 use borrow.Author.Needs.{needs}
 use Rattle.links.proofs.returns.check_returns.Statement.{statement}
 use Rattle.links.proofs.returns.check_returns.Tie as tie
 
-abbrev Inv-loop : tie.InvT-loop
-Inv-loop f l stop w₀ at₀ w at =
-    (at < 66000) × (judge w (flatMap (returnsOf f l) (startsFrom (sizeAt f l) (l .stop) at)) ≡ judge w₀ (flatMap (returnsOf f l) (starts f l)))
+is-bounded-requires : tie.Need-is-bounded-requires
+is-bounded-requires c κs = search needs
 
-abbrev μ-loop : tie.MeasureT-loop
-μ-loop f l stop w₀ at₀ w at = l .stop - at
+returns : tie.Need-returns
+returns c = none-judged _ _ (c .before .is-bounded .ensures) (c .if1 .taken) _ _
 
-loop-holds : tie.Need-loop-holds Inv-loop μ-loop
-loop-holds c = (search needs, refl)
+all-returns-requires : tie.Need-all-returns-requires
+all-returns-requires c κs = is-bounded _ _ (c .before .is-bounded .ensures) (c .if1 .left)
 
-kind-at-requires : tie.Need-kind-at-requires Inv-loop μ-loop
-kind-at-requires c κs = search needs
-
-record-returns-requires : tie.Need-record-returns-requires Inv-loop μ-loop
-record-returns-requires c κs = search needs
-
-size-of-requires : tie.Need-size-of-requires Inv-loop μ-loop
-size-of-requires c κs = search needs
-
-add-at : tie.Need-add-at Inv-loop μ-loop
-add-at c = search needs
-
-loop-less : tie.Need-loop-less Inv-loop μ-loop
-loop-less c = search needs
-
-loop-again : tie.Need-loop-again Inv-loop μ-loop
-loop-again c =
-    let a = c .before .before .before .before .before .before .args in
-    let h = c .before .before .before .before .loop in
-    let kind = c .before .before .kind-at .ensures in
-    let size : c .size-of .result ≡ sizeAt (a .f .now) (a .l) (h .at) = c .size-of .ensures .is ∙ ap (λ k. sizeOf (a .f .now) k (h .at)) kind in (
-      omega (arith, c .size-of .ensures .most),
-      judge-step (sizeAt (a .f .now) (a .l)) (a .l .stop) (returnsOf (a .f .now) (a .l)) (sizeAt-pos (a .f .now) (a .l)) (h .w) _ (h .at) _
-          (c .before .before .before .loop-test .taken) (simp (c .before .record-returns .ensures, kind)) (ap (λ (n : ℕ). h .at + n) size)
-          ∙ h .inv .1,
-    )
-
-returns : tie.Need-returns Inv-loop μ-loop
-unfolding returnFacts
-returns c =
-    let a = c .before .before .before .args in
-    sym (judge-stop (sizeAt (a .f .now) (a .l)) (a .l .stop) (returnsOf (a .f .now) (a .l)) _ _ (c .loop-test .left)) ∙ c .before .loop .inv .1
+returns-2 : tie.Need-returns-2
+returns-2 c = all-judged _ _ (c .before .before .is-bounded .ensures) (c .before .if1 .left) _ _ _ (c .all-returns .ensures)
 
 pub check-returns-spec : {M : Type 1} → statement M
-check-returns-spec =
-    tie.close
-    (tie.spec
-    Inv-loop
-    μ-loop
-    loop-holds
-    kind-at-requires
-    record-returns-requires
-    size-of-requires
-    add-at
-    loop-less
-    loop-again
-    returns)
+check-returns-spec = tie.close (tie.spec is-bounded-requires returns all-returns-requires returns-2)

@@ -1,14 +1,13 @@
 -- `links::targets::all_targets` meets its contract. The invariant: the verdict so far, then the facts of the records from `at` on, is the verdict
 -- before the loop and then the facts of all records.
 -- Assumes nothing.
-use Prim.Native.Nat.{ℕ, _+_, _<_, _-_}
-use mathlib.Core.Path.{_≡_, _∙_, refl, sym, ap}
+use Prim.Native.Nat.{_-_}
+use mathlib.Core.Path.{_≡_, _∙_, refl, sym}
 use mathlib.Core.List.{flatMap}
-use native.Mathlib.Omega.{arith}
 use Rattle.verdict.specs.Facts.{judge}
 use Rattle.verdict.specs.Walk.{startsFrom}
 use Rattle.verdict.proofs.Checks.{judge-step, judge-stop}
-use Rattle.layout.specs.Records.{sizeAt, sizeOf, starts}
+use Rattle.layout.specs.Records.{sizeAt, starts}
 use Rattle.layout.proofs.Records.{sizeAt-pos}
 use Rattle.links.specs.Links.{targetsOf, targetFacts}
 use borrow.Author.Needs.{needs}
@@ -17,13 +16,13 @@ use Rattle.links.proofs.targets.all_targets.Tie as tie
 
 abbrev Inv-loop : tie.InvT-loop
 Inv-loop f l marks stop w₀ at₀ w at =
-    (at < 66000) × (judge w (flatMap (targetsOf f l) (startsFrom (sizeAt f l) (l .stop) at)) ≡ judge w₀ (flatMap (targetsOf f l) (starts f l)))
+    judge w (flatMap (targetsOf f l) (startsFrom (sizeAt f l) (l .stop) at)) ≡ judge w₀ (flatMap (targetsOf f l) (starts f l))
 
 abbrev μ-loop : tie.MeasureT-loop
 μ-loop f l marks stop w₀ at₀ w at = l .stop - at
 
 loop-holds : tie.Need-loop-holds Inv-loop μ-loop
-loop-holds c = (search needs, refl)
+loop-holds c = refl
 
 kind-at-requires : tie.Need-kind-at-requires Inv-loop μ-loop
 kind-at-requires c κs = search needs
@@ -45,18 +44,15 @@ loop-again c =
     let a = c .before .before .before .before .before .before .args in
     let h = c .before .before .before .before .loop in
     let kind = c .before .before .kind-at .ensures in
-    let size : c .size-of .result ≡ sizeAt (a .f .now) (a .l) (h .at) = c .size-of .ensures .is ∙ ap (λ k. sizeOf (a .f .now) k (h .at)) kind in (
-      omega (arith, c .size-of .ensures .most),
-      judge-step (sizeAt (a .f .now) (a .l)) (a .l .stop) (targetsOf (a .f .now) (a .l)) (sizeAt-pos (a .f .now) (a .l)) (h .w) _ (h .at) _
-          (c .before .before .before .loop-test .taken) (simp (c .before .record-targets .ensures, kind)) (ap (λ (n : ℕ). h .at + n) size)
-          ∙ h .inv .1,
-    )
+    judge-step (sizeAt (a .f .now) (a .l)) (a .l .stop) (targetsOf (a .f .now) (a .l)) (sizeAt-pos (a .f .now) (a .l)) (h .w) _ (h .at) _ (c .before .before .before .loop-test .taken)
+    (simp (c .before .record-targets .ensures, kind)) (simp (c .size-of .ensures .is, kind))
+    ∙ h .inv
 
 returns : tie.Need-returns Inv-loop μ-loop
 unfolding targetFacts
 returns c =
     let a = c .before .before .before .args in
-    sym (judge-stop (sizeAt (a .f .now) (a .l)) (a .l .stop) (targetsOf (a .f .now) (a .l)) _ _ (c .loop-test .left)) ∙ c .before .loop .inv .1
+    sym (judge-stop (sizeAt (a .f .now) (a .l)) (a .l .stop) (targetsOf (a .f .now) (a .l)) _ _ (c .loop-test .left)) ∙ c .before .loop .inv
 
 pub all-targets-spec : {M : Type 1} → statement M
 all-targets-spec =

@@ -2,19 +2,27 @@
 -- Assumes nothing.
 use Prim.Native.Nat.{ℕ}
 use lib.ListN.{length-replicate}
+use Rattle.layout.proofs.Bounds.{none-judged, is-bounded, all-judged}
+use Rattle.links.specs.Marks.{cells}
 use Rattle.links.proofs.Marking.{blank-zeros}
 use borrow.Author.Needs.{needs}
 use Rattle.links.proofs.targets.check_targets.Statement.{statement}
 use Rattle.links.proofs.targets.check_targets.Tie as tie
 
-mark-targets-requires : tie.Need-mark-targets-requires
-mark-targets-requires c κs = (search needs, search needs, length-replicate {A = ℕ} 65536 0, blank-zeros 65536)
-
-all-targets-requires : tie.Need-all-targets-requires
-all-targets-requires c κs = search needs
+is-bounded-requires : tie.Need-is-bounded-requires
+is-bounded-requires c κs = search needs
 
 returns : tie.Need-returns
-returns c = search needs
+returns c = none-judged _ _ (c .before .is-bounded .ensures) (c .if1 .taken) _ _
+
+mark-targets-requires : tie.Need-mark-targets-requires
+mark-targets-requires c κs = (is-bounded _ _ (c .before .before .is-bounded .ensures) (c .before .if1 .left), length-replicate {A = ℕ} cells 0, blank-zeros cells)
+
+all-targets-requires : tie.Need-all-targets-requires
+all-targets-requires c κs = (search needs, is-bounded _ _ (c .before .before .before .before .is-bounded .ensures) (c .before .before .before .if1 .left))
+
+returns-2 : tie.Need-returns-2
+returns-2 c = all-judged _ _ (c .before .before .before .before .before .is-bounded .ensures) (c .before .before .before .before .if1 .left) _ _ _ (c .all-targets .ensures)
 
 pub check-targets-spec : {M : Type 1} → statement M
-check-targets-spec = tie.close (tie.spec mark-targets-requires all-targets-requires returns)
+check-targets-spec = tie.close (tie.spec is-bounded-requires returns mark-targets-requires all-targets-requires returns-2)

@@ -1,8 +1,9 @@
 -- `links::targets::target_fact` meets its contract.
 -- Assumes nothing.
-use Prim.Native.Nat.{_<_}
+use Prim.Native.Nat.{_≤_}
 use native.Mathlib.Omega.{arith}
 use Rattle.octets.specs.Octets.{numAt}
+use Rattle.layout.specs.Bounds.{placeMost}
 use borrow.Author.Needs.{needs}
 use Rattle.links.proofs.targets.target_fact.Statement.{statement}
 use Rattle.links.proofs.targets.target_fact.Tie as tie
@@ -20,7 +21,7 @@ returns : tie.Need-returns
 returns c =
     let a = c .before .before .before .before .args in
     let x = c .before .before .u16-at .ensures in
-    let below : numAt 2 (a .f .now) (a .p) < 65536 = omega (arith, x .is, x .below) in
+    let below : numAt 2 (a .f .now) (a .p) ≤ placeMost = omega (arith, x .is, x .below) in
     let marked = c .before .before .before .before .pre (numAt 2 (a .f .now) (a .p)) below in
     simp (c .also-fact .ensures, c .before .is-target .ensures, x .is, marked)
 

@@ -7,7 +7,7 @@ use native.Mathlib.Omega.{arith}
 use lib.ListN.{length, set, length-set}
 use lib.Seq.{take-set-le}
 use borrow.Author.Needs.{needs}
-use Rattle.walks.proofs.Stores.{kept-below}
+use Rattle.routes.proofs.Stores.{kept-below}
 use Rattle.walks.proofs.Grow.{grown-over}
 use Rattle.walks.proofs.Unfold.{walks-none, walks-end, walks-passed}
 use Rattle.routes.proofs.Turn.{ready-next, ready-again, none-by, arrives, stops, goes-on, goes-to-turnout, takes-legs, takes-front}
@@ -22,9 +22,9 @@ use Rattle.routes.proofs.lister.follow.Kinds as follow-kinds
 use Rattle.routes.proofs.lister.+branch+follow.Lts-follow as follow-lts
 use Rattle.graph.proofs.PlainLinks.onward.Reads as onward-reads
 use Rattle.graph.proofs.object_at.Reads as object-at-reads
-use Rattle.walks.proofs.arrived.Reads as arrived-reads
-use Rattle.walks.proofs.opened.Reads as opened-reads
-use Rattle.walks.proofs.passed.Reads as passed-reads
+use Rattle.routes.proofs.steps.arrived.Reads as arrived-reads
+use Rattle.routes.proofs.steps.opened.Reads as opened-reads
+use Rattle.routes.proofs.steps.passed.Reads as passed-reads
 use Rattle.routes.proofs.lister.+branch+follow.{statement}
 use Rattle.routes.proofs.lister.+branch+follow.Tie.{close}
 

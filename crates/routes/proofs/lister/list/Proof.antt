@@ -1,5 +1,5 @@
 -- `routes::list` meets its contract: each way out is one law of Whole. q is where the range is tested, s is the start, and k is the counting
--- pass, which is lent no word, so that e says that the words are as they were.
+-- pass, which is lent no byte, so that e says that the bytes are as they were.
 -- Assumes nothing.
 use mathlib.Core.Path.{ap, _∙_}
 use Rattle.graph.specs.Objects.{edgeLink}

@@ -1,6 +1,7 @@
 -- `station::verdicts::pair_verdict` meets its contract.
 -- Assumes nothing.
 use mathlib.Core.Path.{sym, _∙_}
+use native.Mathlib.Omega.{arith}
 use Rattle.lookup.proofs.Lookup as lookup
 use Rattle.layout.proofs.Shapes.{found-layout}
 use Rattle.application.proofs.Checks.{found-bounded}
@@ -59,7 +60,7 @@ check-pair-requires c κs =
     let o = (lookup.verdict-obeys f) .0 (sym (c .before .before .before .before .before .before .before .before .before .verdict-of .ensures) ∙ c .before .before .before .before .before .before .before .enum-told .given .1) in
     let q = verdict-obeys g (sym (c .before .before .before .before .before .before .verdict-of2 .ensures) ∙ c .before .before .before .before .enum-told3 .given .1) in
     let d = found-bounded g _ (c .before .before .before .find-layout .ensures) _ (c .before .shape .given .1) (q .most) in
-    (o, d .header, d .stop)
+    (o, omega (arith, d .header), omega (arith, d .stop))
 
 shown-requires : tie.Need-shown-requires
 shown-requires c κs = search needs

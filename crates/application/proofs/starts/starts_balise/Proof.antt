@@ -1,0 +1,43 @@
+-- `application::starts::starts_balise` meets its contract. The invariant: what is found from here on is what is found from the first balise on.
+-- Assumes nothing.
+use Prim.Native.Nat.{_-_}
+use mathlib.Core.Path.{_≡_, _∙_, refl}
+use native.Mathlib.Omega.{arith}
+use borrow.Author.Needs.{needs}
+use Rattle.verdict.specs.Facts.{test}
+use Rattle.application.specs.Starts.{baliseStarts}
+use Rattle.application.proofs.Found.{seek-step, seek-stop}
+use Rattle.application.proofs.starts.starts_balise.Statement.{statement}
+use Rattle.application.proofs.starts.starts_balise.Tie as tie
+
+abbrev Inv-loop : tie.InvT-loop
+Inv-loop f from x at₀ at = test (baliseStarts f at x) ≡ test (baliseStarts f from x)
+
+abbrev μ-loop : tie.MeasureT-loop
+μ-loop f from x at₀ at = x - at
+
+loop-holds : tie.Need-loop-holds Inv-loop μ-loop
+loop-holds c = refl
+
+size-of-requires : tie.Need-size-of-requires Inv-loop μ-loop
+size-of-requires c κs = search needs
+
+add-at : tie.Need-add-at Inv-loop μ-loop
+add-at c = search needs
+
+loop-less : tie.Need-loop-less Inv-loop μ-loop
+loop-less c = search needs
+
+loop-again : tie.Need-loop-again Inv-loop μ-loop
+loop-again c =
+    let a = c .before .before .before .before .args in
+    let h = c .before .before .loop in
+    seek-step (a .f .now) (a .x) (h .at) _ (omega arith) (simp (c .size-of .ensures .is)) ∙ h .inv
+
+returns : tie.Need-returns Inv-loop μ-loop
+returns c =
+    let a = c .before .before .before .args in
+    seek-stop (a .f .now) (a .x) (c .before .loop .at) (omega arith) ∙ c .before .loop .inv
+
+pub starts-balise-spec : {M : Type 1} → statement M
+starts-balise-spec = tie.close (tie.spec Inv-loop μ-loop loop-holds size-of-requires add-at loop-less loop-again returns)

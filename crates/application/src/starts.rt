@@ -1,0 +1,56 @@
+// Where a record starts, in a file whose layout is right: in a region of one size by arithmetic, among the balises by their walk.
+ghost use mathlib.Core.Path.{_≡_};
+ghost use Prim.Native.Nat.{_^_, _<_};
+ghost use Rattle.verdict.specs.Facts.{test};
+ghost use Rattle.layout.specs.Records.{isStart};
+ghost use Rattle.layout.specs.Regions.{Regions};
+ghost use Rattle.application.specs.Starts.{baliseStarts};
+use layout::Layout;
+use layout::size_of;
+use records::Boundary;
+use records::Joint;
+use records::Kind;
+use records::Siding;
+use records::Signal;
+use records::Turnout;
+
+// Whether a balise starts at x, of those that stand without gaps from a place on: by the walk up to x.
+fn starts_balise(f: &[u8], from: usize, x: usize) -> bool
+    requires { ⌜ x < 2 ^ 63 ⌝ }
+    ensures { λ r. ⌜ r ≡ test (baliseStarts (now (f .entry)) from x) ⌝ }
+{
+    let mut at = from;
+    while at < x {
+        at = at + size_of(f, Kind::Balise, at);
+    }
+    at == x
+}
+
+// Whether a record starts at a place, in a file whose layout is right.
+pub fn starts_record(f: &[u8], l: Layout, x: usize) -> bool
+    requires { ⌜ Regions (now f) l ⌝ }
+    ensures { λ r. ⌜ r ≡ test (isStart (now (f .entry)) l x) ⌝ }
+{
+    if x < l.header {
+        return false;
+    }
+    if x < l.bounds {
+        return (x - l.header) % Boundary::SIZE == 0;
+    }
+    if x < l.turnouts {
+        return (x - l.bounds) % Turnout::SIZE == 0;
+    }
+    if x < l.balises {
+        return starts_balise(f, l.turnouts, x);
+    }
+    if x < l.signals {
+        return (x - l.balises) % Signal::SIZE == 0;
+    }
+    if x < l.joints {
+        return (x - l.signals) % Joint::SIZE == 0;
+    }
+    if x < l.stop {
+        return (x - l.joints) % Siding::SIZE == 0;
+    }
+    false
+}

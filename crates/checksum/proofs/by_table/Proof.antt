@@ -1,0 +1,29 @@
+-- `checksum::by_table` meets its contract: the bytes of the turns enter, and then the rest.
+-- Assumes nothing.
+use mathlib.Core.Path.{ap, _∙_}
+use Prim.Native.Nat.{ℕ}
+use lib.ListN.{length, drop}
+use borrow.Author.Needs.{needs}
+use Rattle.checksum.specs.Checksum.{start, checksumFrom, checksumOf}
+use Rattle.checksum.specs.Table.{inTurns}
+use Rattle.checksum.proofs.Walk.{from-take}
+use Rattle.checksum.proofs.by_table.Statement.{statement}
+use Rattle.checksum.proofs.by_table.Tie as tie
+
+turns-requires : tie.Need-turns-requires
+turns-requires c κs = search needs
+
+sub-rest : tie.Need-sub-rest
+sub-rest c = search needs
+
+rest-requires : tie.Need-rest-requires
+rest-requires c κs = search needs
+
+returns : tie.Need-returns
+unfolding checksumOf
+returns c =
+    let s = c .before .before .before .args .s .now in
+    c .rest .ensures ∙ ap (λ (r : ℕ). checksumFrom r (drop (inTurns (length s)) s)) (c .before .turns .ensures) ∙ from-take (inTurns (length s)) s start
+
+pub by-table-spec : {M : Type 1} → statement M
+by-table-spec = tie.close (tie.spec turns-requires sub-rest rest-requires returns)

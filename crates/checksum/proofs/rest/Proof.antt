@@ -1,0 +1,56 @@
+-- `checksum::rest` meets its contract. The loop's invariant: what the bytes to come make of the register is what the bytes from the place
+-- on make of the first one.
+-- Assumes nothing.
+use mathlib.Core.Path.{_≡_, refl}
+use Prim.Native.Nat.{_-_}
+use lib.ListN.{length, drop}
+use Rattle.checksum.specs.Checksum.{checksumFrom}
+use Rattle.checksum.proofs.Walk.{step-on, end}
+use borrow.Author.Needs.{needs}
+use Rattle.checksum.proofs.rest.Statement.{statement}
+use Rattle.checksum.proofs.rest.Tie as tie
+
+abbrev Inv-loop : tie.InvT-loop
+Inv-loop table register s at stepped₀ i₀ stepped i = checksumFrom stepped (drop i s) ≡ checksumFrom register (drop at s)
+
+abbrev μ-loop : tie.MeasureT-loop
+μ-loop table register s at stepped₀ i₀ stepped i = length s - i
+
+loop-holds : tie.Need-loop-holds Inv-loop μ-loop
+loop-holds c = refl
+
+shared-slice-read-byte-step : tie.Need-shared-slice-read-byte-step Inv-loop μ-loop
+shared-slice-read-byte-step c = search needs
+
+byte-step-requires : tie.Need-byte-step-requires Inv-loop μ-loop
+byte-step-requires c κs = search needs
+
+add-i : tie.Need-add-i Inv-loop μ-loop
+add-i c = search needs
+
+loop-less : tie.Need-loop-less Inv-loop μ-loop
+loop-less c = search needs
+
+loop-again : tie.Need-loop-again Inv-loop μ-loop
+loop-again c =
+    let l = c .before .before .before .loop in
+    step-on _ (l .stepped) _ (l .i) _ (c .before .before .loop-test .taken) (c .byte-step .ensures) (l .inv)
+
+returns : tie.Need-returns Inv-loop μ-loop
+returns c =
+    let l = c .before .loop in
+    end _ (l .stepped) (l .i) _ (c .loop-test .left) (l .inv)
+
+pub rest-spec : {M : Type 1} → statement M
+rest-spec =
+    tie.close
+    (tie.spec
+    Inv-loop
+    μ-loop
+    loop-holds
+    shared-slice-read-byte-step
+    byte-step-requires
+    add-i
+    loop-less
+    loop-again
+    returns)

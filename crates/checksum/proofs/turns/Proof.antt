@@ -1,0 +1,61 @@
+-- `checksum::turns` meets its contract. The loop's invariant: only whole turns have been made, and the register is what their bytes make of
+-- the first one.
+-- Assumes nothing.
+use mathlib.Core.Path.{_≡_, refl, ap, _∙_}
+use Prim.Native.Nat.{ℕ, _-_, _%_, _≤_}
+use native.Mathlib.Omega.{arith}
+use lib.ListN.{length, take}
+use Rattle.checksum.specs.Checksum.{checksumFrom}
+use Rattle.checksum.specs.Table.{inTurns}
+use Rattle.checksum.proofs.Walk.{turn-on}
+use borrow.Author.Needs.{needs}
+use Rattle.checksum.proofs.turns.Statement.{statement}
+use Rattle.checksum.proofs.turns.Tie as tie
+
+abbrev Inv-loop : tie.InvT-loop
+Inv-loop table register s turned₀ i₀ turned i = (i ≤ length s) × (i % 8 ≡ 0) × (turned ≡ checksumFrom register (take i s))
+
+abbrev μ-loop : tie.MeasureT-loop
+μ-loop table register s turned₀ i₀ turned i = length s - i
+
+loop-holds : tie.Need-loop-holds Inv-loop μ-loop
+unfolding checksumFrom
+loop-holds c = (search needs, refl, refl)
+
+sub-loop : tie.Need-sub-loop Inv-loop μ-loop
+sub-loop c = search needs
+
+eight-step-requires : tie.Need-eight-step-requires Inv-loop μ-loop
+eight-step-requires c κs = search needs
+
+add-i : tie.Need-add-i Inv-loop μ-loop
+add-i c = search needs
+
+loop-less : tie.Need-loop-less Inv-loop μ-loop
+loop-less c = search needs
+
+loop-again : tie.Need-loop-again Inv-loop μ-loop
+loop-again c =
+    let l = c .before .before .loop in
+    (search needs, omega arith, turn-on 8 _ _ (l .turned) _ (l .i) (c .eight-step .ensures) (l .inv .2))
+
+returns : tie.Need-returns Inv-loop μ-loop
+returns c =
+    let a = c .before .before .before .args in
+    let l = c .before .loop in
+    let all : l .i ≡ inTurns (length (a .s .now)) = omega arith in
+    l .inv .2 ∙ ap (λ (k : ℕ). checksumFrom (a .register) (take k (a .s .now))) all
+
+pub turns-spec : {M : Type 1} → statement M
+turns-spec =
+    tie.close
+    (tie.spec
+    Inv-loop
+    μ-loop
+    loop-holds
+    sub-loop
+    eight-step-requires
+    add-i
+    loop-less
+    loop-again
+    returns)

@@ -1,0 +1,119 @@
+// Lines of text on standard output. What is written no contract can say; that a function answers nothing, and for every input, it can.
+ghost use mathlib.Core.Path.{_≡_};
+ghost use Prim.Native.Nat.{_<_};
+use libc::STDOUT_FILENO;
+use octets::byte_behind;
+use octets::distance;
+
+// How many hexadecimal digits a byte has.
+const BYTE_DIGITS: usize = 2;
+
+// Some text.
+pub fn write(text: &[u8])
+    ensures { λ r. ⌜ r ≡ tt ⌝ }
+{
+    io::write_all(STDOUT_FILENO, text);
+}
+
+// A number, in decimal.
+pub fn write_number(n: usize)
+    ensures { λ r. ⌜ r ≡ tt ⌝ }
+{
+    io::print_decimal(STDOUT_FILENO, n as u64);
+}
+
+// A name, a number and a place.
+pub fn head(name: &[u8], number: usize, place: usize)
+    ensures { λ r. ⌜ r ≡ tt ⌝ }
+{
+    write(name);
+    write(b" ");
+    write_number(number);
+    write(b" ");
+    write_number(place);
+    write(b"\n");
+}
+
+// A name and a text.
+pub fn text_line(name: &[u8], text: &[u8])
+    ensures { λ r. ⌜ r ≡ tt ⌝ }
+{
+    write(name);
+    write(b" ");
+    write(text);
+    write(b"\n");
+}
+
+// A name and a number.
+pub fn line(name: &[u8], n: usize)
+    ensures { λ r. ⌜ r ≡ tt ⌝ }
+{
+    write(name);
+    write(b" ");
+    write_number(n);
+    write(b"\n");
+}
+
+// A name and a signed number.
+pub fn signed_line(name: &[u8], z: i64)
+    ensures { λ r. ⌜ r ≡ tt ⌝ }
+{
+    write(name);
+    if z < 0 {
+        write(b" -");
+    } else {
+        write(b" ");
+    }
+    write_number(distance(z));
+    write(b"\n");
+}
+
+// A byte as text.
+fn write_byte(b: usize)
+    requires { ⌜ b < 256 ⌝ }
+{
+    let one = [b as u8; 1];
+    write(&one);
+}
+
+// The byte k places behind another one, as text.
+fn write_at(f: &[u8], place: usize, k: usize) {
+    let b = byte_behind(f, place, k);
+    write_byte(b)
+}
+
+// The byte k places behind another one, in hexadecimal.
+fn write_hex_at(f: &[u8], place: usize, k: usize) {
+    io::print_hex(STDOUT_FILENO, byte_behind(f, place, k) as u64, BYTE_DIGITS);
+}
+
+// An object's name that stands at a place of the file; a dash for none.
+pub fn name_line(name: &[u8], f: &[u8], place: usize)
+    ensures { λ r. ⌜ r ≡ tt ⌝ }
+{
+    write(name);
+    write(b" ");
+    let n = names::name_length(f, place);
+    if n == 0 {
+        write(b"-");
+    }
+    for k in 0..n {
+        write_at(f, place, k);
+    }
+    write(b"\n");
+}
+
+// A message of n bytes that stands at a place of the file, in hexadecimal; a dash for none.
+pub fn message_line(name: &[u8], f: &[u8], place: usize, n: usize)
+    ensures { λ r. ⌜ r ≡ tt ⌝ }
+{
+    write(name);
+    write(b" ");
+    if n == 0 {
+        write(b"-");
+    }
+    for k in 0..n {
+        write_hex_at(f, place, k);
+    }
+    write(b"\n");
+}
