@@ -1,0 +1,46 @@
+-- Values put in an output one after the other: after each the rest gives what the whole gives, and at the end the bytes stand at the start of
+-- the output, with what was behind them.
+-- Assumes nothing.
+use Prim.Native.Nat.{ℕ, suc, _+_, _*_, _≤_, _<_}
+use native.Mathlib.Omega.{arith}
+use mathlib.Core.Path.{_≡_, refl, ap, _∙_}
+use mathlib.Core.List.{List, [], _∷_, _++_}
+use lib.ListN.{length, getD, take, drop, set, drop-of-length-le}
+use lib.Seq.{sets, length-sets, sets-eq, drop-cons}
+use Rattle.exports.specs.Words.{valueSize, wordBytes, bytesOf}
+
+-- four stores one after the other
+pub four : (out : List ℕ) (at w a b c d : ℕ) → (a ∷ b ∷ c ∷ d ∷ []) ≡ wordBytes w → set (set (set (set out at a) (at + 1) b) (at + 2) c) (at + 3) d ≡ sets out at (wordBytes w)
+four out at w a b c d e =
+    let p : at + 1 ≡ suc at = omega arith in
+    let q : at + 2 ≡ suc (suc at) = omega arith in
+    let r : at + 3 ≡ suc (suc (suc at)) = omega arith in
+    rw (← e, p, q, r) refl
+
+-- one value more
+pub lay-more : (words out out′ : List ℕ) (i : ℕ) → i < length words → out′ ≡ sets out (valueSize * i) (wordBytes (getD words i 0)) → sets out′ (valueSize * (i + 1)) (bytesOf (drop (i + 1) words)) ≡ sets out (valueSize * i) (bytesOf (drop i words))
+unfolding bytesOf wordBytes
+lay-more words out out′ i h e =
+    let k : valueSize * (i + 1) ≡ suc (suc (suc (suc (valueSize * i)))) = omega arith in
+    let j : i + 1 ≡ suc i = omega arith in
+    rw (e, k, j, drop-cons words i 0 h) refl
+
+pub lay-length : (words out out′ : List ℕ) (i : ℕ) → out′ ≡ sets out (valueSize * i) (wordBytes (getD words i 0)) → length out′ ≡ length out
+lay-length words out out′ i e = ap length e ∙ length-sets out (valueSize * i) (wordBytes (getD words i 0))
+
+pub lay-stop : (words out out′ : List ℕ) (i : ℕ) → length words ≤ i → sets out′ (valueSize * i) (bytesOf (drop i words)) ≡ out → out′ ≡ out
+unfolding bytesOf
+lay-stop words out out′ i h e = rw (drop-of-length-le words h) at e
+
+-- how many bytes the values take
+pub bytes-length : (words : List ℕ) → length (bytesOf words) ≡ valueSize * length words
+unfolding bytesOf wordBytes
+bytes-length [] = refl
+bytes-length (w ∷ ws) = let h = bytes-length ws in omega arith
+
+-- where there is room, the stores put the bytes in front
+pub laid : (words out : List ℕ) → valueSize * length words ≤ length out → sets out 0 (bytesOf words) ≡ bytesOf words ++ drop (length (bytesOf words)) out
+laid words out h =
+    let l = bytes-length words in
+    let k : 0 + length (bytesOf words) ≡ length (bytesOf words) = omega arith in
+    sets-eq (bytesOf words) out 0 (omega arith) ∙ ap (λ (n : ℕ). bytesOf words ++ drop n out) k

@@ -1,0 +1,4 @@
+pub mod Numbers
+pub mod Laid
+pub mod Ways
+pub mod Back

@@ -1,0 +1,23 @@
+-- `exports::values::coordinate_words` meets its contract.
+-- Assumes nothing.
+use Rattle.exports.proofs.Numbers.{value-read}
+use borrow.Author.Needs.{needs}
+use Rattle.exports.proofs.values.coordinate_words.Statement.{statement}
+use Rattle.exports.proofs.values.coordinate_words.Tie as tie
+
+signed-word-requires : tie.Need-signed-word-requires
+signed-word-requires c κs = search needs
+
+signed-word-requires-2 : tie.Need-signed-word-requires-2
+signed-word-requires-2 c κs = search needs
+
+returns : tie.Need-returns
+returns c =
+    let v = c .before .before .before .before .args .c in
+    simp (
+      value-read (v .longitude) (c .before .struct-told2 .given .1 .0 .1) _ (c .signed-word2 .ensures),
+      value-read (v .latitude) (c .before .before .before .struct-told .given .0 .1) _ (c .before .before .signed-word .ensures),
+    )
+
+pub coordinate-words-spec : {M : Type 1} → statement M
+coordinate-words-spec = tie.close (tie.spec signed-word-requires signed-word-requires-2 returns)

@@ -1,0 +1,43 @@
+-- `exports::values::point_words` meets its contract.
+-- Assumes nothing.
+use Rattle.exports.proofs.Numbers.{value-read}
+use borrow.Author.Needs.{needs}
+use Rattle.exports.proofs.values.point_words.Statement.{statement}
+use Rattle.exports.proofs.values.point_words.Tie as tie
+
+word-requires : tie.Need-word-requires
+word-requires c κs = search needs
+
+signed-word-requires : tie.Need-signed-word-requires
+signed-word-requires c κs = search needs
+
+signed-word-requires-2 : tie.Need-signed-word-requires-2
+signed-word-requires-2 c κs = search needs
+
+signed-word-requires-3 : tie.Need-signed-word-requires-3
+signed-word-requires-3 c κs = search needs
+
+word-requires-2 : tie.Need-word-requires-2
+word-requires-2 c κs = search needs
+
+returns : tie.Need-returns
+returns c =
+    let v = c .before .before .before .before .before .before .before .before .args .p in
+    simp (
+      c .word2 .ensures,
+      value-read (v .heading) (c .before .before .struct-told3 .given .1 .1 .1 .0 .1) _ (c .before .signed-word3 .ensures),
+      value-read (v .longitude) (c .before .before .before .before .struct-told2 .given .1 .1 .0 .1) _ (c .before .before .before .signed-word2 .ensures),
+      value-read (v .latitude) (c .before .before .before .before .before .before .struct-told .given .1 .0 .1) _ (c .before .before .before .before .before .signed-word .ensures),
+      c .before .before .before .before .before .before .before .word .ensures,
+    )
+
+pub point-words-spec : {M : Type 1} → statement M
+point-words-spec =
+    tie.close
+    (tie.spec
+    word-requires
+    signed-word-requires
+    signed-word-requires-2
+    signed-word-requires-3
+    word-requires-2
+    returns)

@@ -1,0 +1,16 @@
+-- `exports::words::word` meets its contract.
+-- Assumes nothing.
+use Rattle.exports.specs.Words.{wordOf}
+use borrow.Author.Needs.{needs}
+use Rattle.exports.proofs.words.word.Statement.{statement}
+use Rattle.exports.proofs.words.word.Tie as tie
+
+cast-result : tie.Need-cast-result
+cast-result c = search needs
+
+returns : tie.Need-returns
+unfolding wordOf
+returns c = search needs
+
+pub word-spec : {M : Type 1} → statement M
+word-spec = tie.close (tie.spec cast-result returns)

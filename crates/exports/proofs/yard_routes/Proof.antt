@@ -1,0 +1,68 @@
+-- `exports::yard_routes` meets its contract.
+-- Assumes nothing.
+use mathlib.Core.Path.{ap, _∙_}
+use Rattle.walks.specs.Lent.{roomOf}
+use Rattle.routes.specs.declared.RoutesAnswer.{RoutesAnswer}
+use Rattle.yard.specs.Routes.{routesOf}
+use Rattle.exports.specs.Shown.{routesShown, routesLeaves}
+use Rattle.exports.proofs.Ways.{scrap-shown, scrap-leaves, scrap-words, listed-words}
+use borrow.Author.Needs.{needs}
+use Rattle.exports.proofs.yard_routes.Statement.{statement}
+use Rattle.exports.proofs.yard_routes.Tie as tie
+
+slice-aggregate-routes : tie.Need-slice-aggregate-routes
+slice-aggregate-routes c = search needs
+
+routes-requires : tie.Need-routes-requires
+routes-requires c κs = search needs
+
+show-counts-requires : tie.Need-show-counts-requires
+show-counts-requires c κs = search needs
+
+same-length : tie.Need-same-length
+same-length c = search needs
+
+returns : tie.Need-returns
+returns c =
+    let a = c .before .before .before .before .before .before .before .before .before .before .before .args in
+    let h = c .before .before .before .before .before .before .before .if1 .taken in
+    let due = routesOf (a .file .now) (a .start) (a .limit) (a .budget) (roomOf (a .words .now)) in
+    let e = c .before .before .before .before .before .routes .ensures .0 in
+    let s = c .before .before .show-counts .ensures in
+    let counts = a .counts .now in
+    (s .0 ∙ ap (λ (x : RoutesAnswer). routesShown x counts) e ∙ scrap-shown counts h _ _ _ _ _ _, (s .1 ∙ scrap-leaves counts h (c .before .before .before .before .before .routes .result) due, scrap-words counts h _ _))
+
+routes-requires-2 : tie.Need-routes-requires-2
+routes-requires-2 c κs = search needs
+
+show-counts-requires-2 : tie.Need-show-counts-requires-2
+show-counts-requires-2 c κs = search needs
+
+same-length-2 : tie.Need-same-length-2
+same-length-2 c = search needs
+
+same-length-3 : tie.Need-same-length-3
+same-length-3 c = search needs
+
+returns-2 : tie.Need-returns-2
+returns-2 c =
+    let a = c .before .before .before .before .before .before .before .before .before .before .before .before .args in
+    let e = c .before .before .before .before .before .before .routes2 .ensures in
+    let s = c .before .before .show-counts2 .ensures in
+    let counts = a .counts .now in
+    (s .0 ∙ ap (λ (x : RoutesAnswer). routesShown x counts) (e .0), (s .1 ∙ ap (λ (x : RoutesAnswer). routesLeaves x counts) (e .0), e .1 ∙ listed-words counts _ _ (c .before .before .before .before .before .before .before .before .if1 .left)))
+
+pub yard-routes-spec : {M : Type 1} → statement M
+yard-routes-spec =
+    tie.close
+    (tie.spec
+    slice-aggregate-routes
+    routes-requires
+    show-counts-requires
+    same-length
+    returns
+    routes-requires-2
+    show-counts-requires-2
+    same-length-2
+    same-length-3
+    returns-2)

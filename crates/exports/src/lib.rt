@@ -1,0 +1,153 @@
+// The reader for other languages: verdicts, pair and questions as C functions with numbers and byte slices only. `include/yard.h` says what
+// each argument and each result means.
+ghost use mathlib.Core.Path.{_≡_};
+ghost use Rattle.checksum.specs.Checksum.{checksumOf};
+ghost use Rattle.geography.specs.Facts as geography;
+ghost use Rattle.application.specs.Facts as application;
+ghost use Rattle.application.specs.Questions.{recordOf};
+ghost use Rattle.station.specs.Pair.{pairOf};
+ghost use Rattle.survey.specs.Questions.{trackOf, pointOf, coordinateAsked};
+ghost use Rattle.walks.specs.Lent.{roomOf};
+ghost use Rattle.yard.specs.Routes.{routesOf, leftOf};
+ghost use Rattle.exports.specs.Shown.{verdictShown, pairShown, trackShown, trackLeaves, pointShown, pointLeaves, coordinateShown, coordinateLeaves, recordShown, recordLeaves, routesShown, routesLeaves, wordsLeft};
+
+mod values;
+mod words;
+
+use application::RecordAnswer;
+use routes::RoutesAnswer;
+use survey::CoordinateAnswer;
+use survey::PointAnswer;
+use survey::TrackAnswer;
+use values::coordinate_words;
+use values::point_words;
+use values::record_words;
+use values::routes_words;
+use values::track_words;
+use words::COUNTS_SIZE;
+use words::answer;
+use words::refused;
+use words::show;
+
+// The checksum of some bytes.
+#[no_mangle]
+pub extern "C" fn yard_checksum(bytes: &[u8]) -> u32
+    ensures { λ r. ⌜ r ≡ checksumOf (now (bytes .entry)) ⌝ }
+{
+    checksum::of(bytes) as u32
+}
+
+// The verdict of an X.1.
+#[no_mangle]
+pub extern "C" fn yard_x1(file: &[u8]) -> u64
+    ensures { λ r. ⌜ r ≡ verdictShown (geography.verdictOf (now (file .entry))) ⌝ }
+{
+    let v = geography::verdicts::verdict_of(file);
+    answer(v.number(), 0, v.place())
+}
+
+// The verdict of an X.2.
+#[no_mangle]
+pub extern "C" fn yard_x2(file: &[u8]) -> u64
+    ensures { λ r. ⌜ r ≡ verdictShown (application.verdictOf (now (file .entry))) ⌝ }
+{
+    let v = application::verdict_of(file);
+    answer(v.number(), 0, v.place())
+}
+
+// The verdict of a station's two files, the X.1 first.
+#[no_mangle]
+pub extern "C" fn yard_pair(first: &[u8], second: &[u8]) -> u64
+    ensures { λ r. ⌜ r ≡ pairShown (pairOf (now (first .entry)) (now (second .entry))) ⌝ }
+{
+    let v = station::pair_verdict(first, second);
+    answer(v.number(), v.file(), v.place())
+}
+
+// The track of an index.
+#[no_mangle]
+pub extern "C" fn yard_track(file: &[u8], index: usize, out: &mut [u8]) -> u64
+    ensures { λ r. ⌜ r ≡ trackShown (trackOf (now (file .entry)) index) (now (out .entry)) ⌝ }
+    ensures { λ _. ⌜ now (out .exit) ≡ trackLeaves (trackOf (now (file .entry)) index) (now (out .entry)) ⌝ }
+{
+    match survey::track(file, index) {
+        TrackAnswer::Track(t) => show(&track_words(t), out),
+        TrackAnswer::Refused(fault) => refused(fault),
+    }
+}
+
+// The point of an index in the track of an index.
+#[no_mangle]
+pub extern "C" fn yard_point(file: &[u8], track: usize, index: usize, out: &mut [u8]) -> u64
+    ensures { λ r. ⌜ r ≡ pointShown (pointOf (now (file .entry)) track index) (now (out .entry)) ⌝ }
+    ensures { λ _. ⌜ now (out .exit) ≡ pointLeaves (pointOf (now (file .entry)) track index) (now (out .entry)) ⌝ }
+{
+    match survey::point(file, track, index) {
+        PointAnswer::Point(p) => show(&point_words(p), out),
+        PointAnswer::Refused(fault) => refused(fault),
+    }
+}
+
+// The coordinate at a position of the track with a number.
+#[no_mangle]
+pub extern "C" fn yard_coordinate(
+    file: &[u8],
+    number: usize,
+    position: usize,
+    out: &mut [u8],
+) -> u64
+    ensures { λ r. ⌜ r ≡ coordinateShown (coordinateAsked (now (file .entry)) number position) (now (out .entry)) ⌝ }
+    ensures { λ _. ⌜ now (out .exit) ≡ coordinateLeaves (coordinateAsked (now (file .entry)) number position) (now (out .entry)) ⌝ }
+{
+    match survey::coordinate(file, number, position) {
+        CoordinateAnswer::Coordinate(c) => show(&coordinate_words(c), out),
+        CoordinateAnswer::Refused(fault) => refused(fault),
+    }
+}
+
+// The record that starts at a place.
+#[no_mangle]
+pub extern "C" fn yard_record(file: &[u8], offset: usize, out: &mut [u8]) -> u64
+    ensures { λ r. ⌜ r ≡ recordShown (recordOf (now (file .entry)) offset) (now (out .entry)) ⌝ }
+    ensures { λ _. ⌜ now (out .exit) ≡ recordLeaves (recordOf (now (file .entry)) offset) (now (out .entry)) ⌝ }
+{
+    match application::record_at(file, offset) {
+        RecordAnswer::Record(r) => show(&record_words(r), out),
+        RecordAnswer::Refused(fault) => refused(fault),
+    }
+}
+
+// Answers with the counts of a list of routes, or says why there is none.
+fn show_counts(a: RoutesAnswer, counts: &mut [u8]) -> u64
+    ensures { λ r. ⌜ r ≡ routesShown a (now (counts .entry)) ⌝ }
+    ensures { λ _. ⌜ now (counts .exit) ≡ routesLeaves a (now (counts .entry)) ⌝ }
+{
+    match a {
+        RoutesAnswer::Listed(t) => show(&routes_words(t), counts),
+        RoutesAnswer::Refused(fault) => refused(fault),
+    }
+}
+
+// Every route from a boundary. Where the counts have no room the list is made over a scrap, so that the words keep every byte and every
+// other refusal comes first.
+#[no_mangle]
+pub extern "C" fn yard_routes(
+    file: &[u8],
+    start: usize,
+    limit: usize,
+    budget: usize,
+    counts: &mut [u8],
+    words: &mut [u8],
+) -> u64
+    ensures { λ r. ⌜ r ≡ routesShown (routesOf (now (file .entry)) start limit budget (roomOf (now (words .entry)))) (now (counts .entry)) ⌝ }
+    ensures { λ _. ⌜ now (counts .exit) ≡ routesLeaves (routesOf (now (file .entry)) start limit budget (roomOf (now (words .entry)))) (now (counts .entry)) ⌝ }
+    ensures { λ _. ⌜ now (words .exit) ≡ wordsLeft (now (counts .entry)) (now (words .entry)) (leftOf (now (file .entry)) start limit budget (now (words .entry))) ⌝ }
+{
+    if counts.len() < COUNTS_SIZE {
+        let mut scrap = [0u8; 1];
+        let a = yard::routes(file, start, limit, budget, &mut scrap);
+        return show_counts(a, counts);
+    }
+    let a = yard::routes(file, start, limit, budget, words);
+    show_counts(a, counts)
+}

@@ -1,0 +1,235 @@
+// The values of each answer, in the order of their definitions.
+ghost use mathlib.Core.Path.{_≡_};
+ghost use mathlib.Core.List.{_∷_};
+ghost use Rattle.survey.specs.Answers.{trackValuesIn, pointValuesIn, coordinateValuesIn};
+ghost use Rattle.application.specs.Questions.{valueCount, boundaryFields, filled, valuesIn};
+ghost use Rattle.exports.specs.Words.{wordsOf};
+ghost use Rattle.exports.specs.Shown.{routesValues};
+use crate::words::signed_word;
+use crate::words::word;
+use application::RecordAnswer;
+use records::Balise;
+use records::Boundary;
+use records::Joint;
+use records::Record;
+use records::Siding;
+use records::Signal;
+use records::Turnout;
+use routes::RoutesAnswer;
+use survey::Coordinate;
+use survey::CoordinateAnswer;
+use survey::PointAnswer;
+use survey::TrackAnswer;
+use tracks::Point;
+use tracks::Track;
+use walks::Tally;
+
+// How many values an answer has.
+pub const TRACK_VALUES: usize = 9;
+
+pub const POINT_VALUES: usize = 5;
+
+pub const COORDINATE_VALUES: usize = 2;
+
+pub const RECORD_VALUES: usize = 12;
+
+pub const ROUTES_VALUES: usize = 3;
+
+// The number of each kind of record, in stored order.
+const START_BOUNDARY: usize = 1;
+
+const END_BOUNDARY: usize = 2;
+
+const TURNOUT: usize = 3;
+
+const BALISE: usize = 4;
+
+const SIGNAL: usize = 5;
+
+const JOINT: usize = 6;
+
+const SIDING: usize = 7;
+
+// A track.
+pub fn track_words(t: Track) -> [u32; TRACK_VALUES]
+    ensures { λ r. ⌜ r ≡ wordsOf (trackValuesIn (TrackAnswer.Track t)) ⌝ }
+{
+    [
+        word(t.number),
+        word(t.property),
+        word(t.start_position),
+        signed_word(t.start_latitude),
+        signed_word(t.start_longitude),
+        word(t.end_position),
+        signed_word(t.end_latitude),
+        signed_word(t.end_longitude),
+        word(t.points()),
+    ]
+}
+
+// A point.
+pub fn point_words(p: Point) -> [u32; POINT_VALUES]
+    ensures { λ r. ⌜ r ≡ wordsOf (pointValuesIn (PointAnswer.Point p)) ⌝ }
+{
+    [
+        word(p.position),
+        signed_word(p.latitude),
+        signed_word(p.longitude),
+        signed_word(p.heading),
+        word(p.near),
+    ]
+}
+
+// A coordinate.
+pub fn coordinate_words(c: Coordinate) -> [u32; COORDINATE_VALUES]
+    ensures { λ r. ⌜ r ≡ wordsOf (coordinateValuesIn (CoordinateAnswer.Coordinate c)) ⌝ }
+{
+    [signed_word(c.latitude), signed_word(c.longitude)]
+}
+
+// A boundary of either kind.
+fn boundary_words(kind: usize, b: Boundary) -> [u32; RECORD_VALUES]
+    ensures { λ r. ⌜ r ≡ wordsOf (filled valueCount (kind ∷ boundaryFields b)) ⌝ }
+{
+    [
+        word(kind),
+        word(b.entry),
+        word(b.link),
+        word(b.neighbour_station),
+        word(b.neighbour_type),
+        word(b.neighbour_track),
+        word(b.position),
+        word(b.track),
+        0,
+        0,
+        0,
+        0,
+    ]
+}
+
+// A turnout.
+fn turnout_words(t: Turnout) -> [u32; RECORD_VALUES]
+    ensures { λ r. ⌜ r ≡ wordsOf (valuesIn (RecordAnswer.Record (Record.Turnout t))) ⌝ }
+{
+    let direction = t.direction;
+    [
+        word(TURNOUT),
+        word(t.number),
+        word(direction.number()),
+        word(t.tip_position),
+        word(t.normal_position),
+        word(t.reverse_position),
+        word(t.front),
+        word(t.normal),
+        word(t.reverse),
+        word(t.front_track),
+        word(t.normal_track),
+        word(t.reverse_track),
+    ]
+}
+
+// A balise.
+fn balise_words(b: Balise) -> [u32; RECORD_VALUES]
+    ensures { λ r. ⌜ r ≡ wordsOf (valuesIn (RecordAnswer.Record (Record.Balise b))) ⌝ }
+{
+    let nature = b.nature;
+    let way = b.direction;
+    [
+        word(BALISE),
+        word(b.previous),
+        word(b.next),
+        word(b.number),
+        word(b.size),
+        word(nature.number()),
+        word(way.number()),
+        word(b.position),
+        word(b.track),
+        word(b.place),
+        word(b.count),
+        word(b.message),
+    ]
+}
+
+// A signal.
+fn signal_words(s: Signal) -> [u32; RECORD_VALUES]
+    ensures { λ r. ⌜ r ≡ wordsOf (valuesIn (RecordAnswer.Record (Record.Signal s))) ⌝ }
+{
+    let facing = s.direction;
+    let duty = s.duty;
+    [
+        word(SIGNAL),
+        word(s.previous),
+        word(s.next),
+        word(s.name),
+        word(s.position),
+        word(s.track),
+        word(facing.number()),
+        word(duty.number()),
+        0,
+        0,
+        0,
+        0,
+    ]
+}
+
+// A joint.
+fn joint_words(j: Joint) -> [u32; RECORD_VALUES]
+    ensures { λ r. ⌜ r ≡ wordsOf (valuesIn (RecordAnswer.Record (Record.Joint j))) ⌝ }
+{
+    [
+        word(JOINT),
+        word(j.previous),
+        word(j.next),
+        word(j.name),
+        word(j.position),
+        word(j.track),
+        0,
+        0,
+        0,
+        0,
+        0,
+        0,
+    ]
+}
+
+// A siding.
+fn siding_words(s: Siding) -> [u32; RECORD_VALUES]
+    ensures { λ r. ⌜ r ≡ wordsOf (valuesIn (RecordAnswer.Record (Record.Siding s))) ⌝ }
+{
+    [
+        word(SIDING),
+        word(s.name),
+        word(s.track),
+        word(s.up_balise),
+        word(s.up_signal),
+        word(s.down_balise),
+        word(s.down_signal),
+        0,
+        0,
+        0,
+        0,
+        0,
+    ]
+}
+
+// A record: its kind, its fields, and zeros up to so many values.
+pub fn record_words(record: Record) -> [u32; RECORD_VALUES]
+    ensures { λ r. ⌜ r ≡ wordsOf (valuesIn (RecordAnswer.Record «record»)) ⌝ }
+{
+    match record {
+        Record::StartBoundary(b) => boundary_words(START_BOUNDARY, b),
+        Record::EndBoundary(b) => boundary_words(END_BOUNDARY, b),
+        Record::Turnout(t) => turnout_words(t),
+        Record::Balise(b) => balise_words(b),
+        Record::Signal(s) => signal_words(s),
+        Record::Joint(j) => joint_words(j),
+        Record::Siding(s) => siding_words(s),
+    }
+}
+
+// The counts of a list of routes.
+pub fn routes_words(t: Tally) -> [u32; ROUTES_VALUES]
+    ensures { λ r. ⌜ r ≡ wordsOf (routesValues (RoutesAnswer.Listed t)) ⌝ }
+{
+    [word(t.routes), word(t.words), word(t.walks)]
+}

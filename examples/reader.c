@@ -1,0 +1,116 @@
+/* An example of the C library: reads a station's two files and prints the verdict of the pair, the first track, the coordinate in the middle
+ * of that track, the record behind the header of the X.2, and the routes from it.
+ *
+ *     tools/library && target/staticlib/reader examples/1.1 examples/1.2 */
+#include <inttypes.h>
+#include <stdint.h>
+#include <stdio.h>
+
+#include "yard.h"
+
+/* One byte more than a file may have, so that a longer one is seen to be too long. */
+enum { ROOM = 65536 };
+
+typedef struct {
+    uint8_t bytes[ROOM];
+    size_t length;
+} station_file;
+
+static station_file first, second;
+
+static int read_file(const char *name, station_file *file)
+{
+    FILE *in = fopen(name, "rb");
+    if (!in) {
+        perror(name);
+        return 0;
+    }
+    file->length = fread(file->bytes, 1, sizeof file->bytes, in);
+    int whole = !ferror(in);
+    fclose(in);
+    if (!whole)
+        fprintf(stderr, "%s cannot be read\n", name);
+    return whole;
+}
+
+/* Says why a question was refused, and whether it was. */
+static int refused(const char *question, uint64_t answer)
+{
+    if (YARD_NUMBER(answer) == YARD_ANSWERED)
+        return 0;
+    printf("%s: refused, number %u at place %" PRIu32 "\n", question, YARD_NUMBER(answer), YARD_PLACE(answer));
+    return 1;
+}
+
+static void print_pair(void)
+{
+    uint64_t answer = yard_pair(first.bytes, first.length, second.bytes, second.length);
+    printf("pair: number %u at place %" PRIu32 " of file %u\n", YARD_NUMBER(answer), YARD_PLACE(answer), YARD_FILE(answer));
+}
+
+/* Prints the first track, and the coordinate in its middle. */
+static void print_track(void)
+{
+    uint8_t track[YARD_TRACK_SIZE], coordinate[YARD_COORDINATE_SIZE];
+    if (refused("track 0", yard_track(first.bytes, first.length, 0, track, sizeof track)))
+        return;
+    uint32_t number = yard_unsigned(track, YARD_TRACK_NUMBER), end = yard_unsigned(track, YARD_TRACK_END_POSITION);
+    printf("track 0: number %" PRIu32 ", %" PRIu32 " points, %" PRIu32 " cm long\n", number, yard_unsigned(track, YARD_TRACK_POINTS), end);
+    if (refused("coordinate", yard_coordinate(first.bytes, first.length, number, end / 2, coordinate, sizeof coordinate)))
+        return;
+    printf("track %" PRIu32 " at %" PRIu32 " cm: latitude %" PRId32 ", longitude %" PRId32 "\n", number, end / 2,
+           yard_signed(coordinate, YARD_COORDINATE_LATITUDE), yard_signed(coordinate, YARD_COORDINATE_LONGITUDE));
+}
+
+/* Where the records of an X.2 start, by its two boundary counts. */
+static size_t records_start(void)
+{
+    enum { COUNT_PLACE = 23, BOUNDARY = 3, HEADER = 35 };
+    size_t starts = second.bytes[COUNT_PLACE];
+    size_t ends = second.bytes[COUNT_PLACE + 1 + BOUNDARY * starts];
+    return HEADER + BOUNDARY * (starts + ends);
+}
+
+static void print_record(void)
+{
+    uint8_t record[YARD_RECORD_SIZE];
+    size_t start = records_start();
+    if (refused("record", yard_record(second.bytes, second.length, start, record, sizeof record)))
+        return;
+    printf("record %zu: kind %" PRIu32 ", link %" PRIu32 ", position %" PRIu32 " cm on track %" PRIu32 "\n", start,
+           yard_unsigned(record, YARD_RECORD_KIND), yard_unsigned(record, YARD_BOUNDARY_LINK),
+           yard_unsigned(record, YARD_BOUNDARY_POSITION), yard_unsigned(record, YARD_BOUNDARY_TRACK));
+}
+
+/* Prints every route from the boundary behind the header, by the places of its objects. */
+static void print_routes(void)
+{
+    enum { LIMIT = 0, BUDGET = 65535, WORDS = 4096 };
+    static uint8_t words[2 * WORDS];
+    uint8_t counts[YARD_ROUTES_SIZE];
+    size_t start = records_start(), at = 0;
+    if (refused("routes", yard_routes(second.bytes, second.length, start, LIMIT, BUDGET, counts, sizeof counts, words, sizeof words)))
+        return;
+    uint32_t routes = yard_unsigned(counts, YARD_ROUTES_ROUTES);
+    printf("from %zu: %" PRIu32 " routes, %" PRIu32 " partial walks\n", start, routes, yard_unsigned(counts, YARD_ROUTES_WALKS));
+    for (uint32_t i = 0; i < routes; i++) {
+        unsigned objects = yard_word(words, at++);
+        for (unsigned k = 0; k < objects; k++)
+            printf(k + 1 < objects ? "%u " : "%u\n", yard_word(words, at++));
+    }
+}
+
+int main(int words, char **word)
+{
+    if (words != 3) {
+        fprintf(stderr, "usage: reader X1FILE X2FILE\n");
+        return 2;
+    }
+    if (!read_file(word[1], &first) || !read_file(word[2], &second))
+        return 1;
+    print_pair();
+    print_track();
+    print_record();
+    print_routes();
+    return 0;
+}

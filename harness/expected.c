@@ -1,0 +1,198 @@
+/* What the library has to answer, by the independent core. */
+#include "expected.h"
+
+#include <string.h>
+
+uint32_t values_size_of(uint32_t question)
+{
+    switch (question) {
+    case ASK_TRACK: return YARD_TRACK_SIZE;
+    case ASK_POINT: return YARD_POINT_SIZE;
+    case ASK_COORDINATE: return YARD_COORDINATE_SIZE;
+    case ASK_RECORD: return YARD_RECORD_SIZE;
+    case ASK_ROUTES: return YARD_ROUTES_SIZE;
+    default: return 0;
+    }
+}
+
+static void answer(expected *due, ind_answer given)
+{
+    due->answer = (uint64_t)given.place << 16 | given.file << 8
+        | given.number;
+}
+
+/* One value more. */
+static void value(expected *due, uint32_t n)
+{
+    uint8_t *at = due->values + due->values_size;
+    for (int i = 0; i < YARD_VALUE_SIZE; i++)
+        at[i] = (uint8_t)(n >> 8 * i);
+    due->values_size += YARD_VALUE_SIZE;
+}
+
+/* Zeros up to so many bytes. */
+static void zeros_up_to(expected *due, uint32_t size)
+{
+    while (due->values_size < size)
+        value(due, 0);
+}
+
+static void expect_track(const posed *ask, expected *due)
+{
+    ind_track got = ind_track_at(ask->bytes[0], ask->length[0],
+                                 ask->numbers[0]);
+    answer(due, got.answer);
+    value(due, got.number);
+    value(due, got.property);
+    value(due, got.start_position);
+    value(due, (uint32_t)got.start_latitude);
+    value(due, (uint32_t)got.start_longitude);
+    value(due, got.end_position);
+    value(due, (uint32_t)got.end_latitude);
+    value(due, (uint32_t)got.end_longitude);
+    value(due, got.points);
+}
+
+static void expect_point(const posed *ask, expected *due)
+{
+    ind_point got = ind_point_at(ask->bytes[0], ask->length[0],
+                                 ask->numbers[0], ask->numbers[1]);
+    answer(due, got.answer);
+    value(due, got.position);
+    value(due, (uint32_t)got.latitude_increment);
+    value(due, (uint32_t)got.longitude_increment);
+    value(due, (uint32_t)got.heading);
+    value(due, got.near);
+}
+
+static void expect_coordinate(const posed *ask, expected *due)
+{
+    ind_coordinate got = ind_coordinate_at(ask->bytes[0], ask->length[0],
+                                           ask->numbers[0], ask->numbers[1]);
+    answer(due, got.answer);
+    value(due, (uint32_t)got.latitude);
+    value(due, (uint32_t)got.longitude);
+}
+
+static void boundary_values(const ind_boundary *got, expected *due)
+{
+    value(due, got->type);
+    value(due, got->link);
+    value(due, got->neighbour_station);
+    value(due, got->neighbour_type);
+    value(due, got->neighbour_track);
+    value(due, got->position);
+    value(due, got->track);
+}
+
+static void turnout_values(const ind_turnout *got, expected *due)
+{
+    value(due, got->number);
+    value(due, got->direction);
+    value(due, got->tip_position);
+    value(due, got->normal_position);
+    value(due, got->reverse_position);
+    value(due, got->front);
+    value(due, got->normal);
+    value(due, got->reverse);
+    value(due, got->front_track);
+    value(due, got->normal_track);
+    value(due, got->reverse_track);
+}
+
+static void balise_values(const ind_balise *got, expected *due)
+{
+    value(due, got->previous);
+    value(due, got->next);
+    value(due, got->number);
+    value(due, got->size);
+    value(due, got->nature);
+    value(due, got->direction);
+    value(due, got->position);
+    value(due, got->track);
+    value(due, got->place);
+    value(due, got->count);
+    value(due, got->message);
+}
+
+static void signal_values(const ind_signal *got, expected *due)
+{
+    value(due, got->previous);
+    value(due, got->next);
+    value(due, got->name);
+    value(due, got->position);
+    value(due, got->track);
+    value(due, got->direction);
+    value(due, got->type);
+}
+
+static void joint_values(const ind_joint *got, expected *due)
+{
+    value(due, got->previous);
+    value(due, got->next);
+    value(due, got->name);
+    value(due, got->position);
+    value(due, got->track);
+}
+
+static void siding_values(const ind_siding *got, expected *due)
+{
+    value(due, got->name);
+    value(due, got->track);
+    value(due, got->up_balise);
+    value(due, got->up_signal);
+    value(due, got->down_balise);
+    value(due, got->down_signal);
+}
+
+static void expect_record(const posed *ask, expected *due)
+{
+    ind_record got = ind_record_at(ask->bytes[0], ask->length[0],
+                                   ask->numbers[0]);
+    answer(due, got.answer);
+    value(due, (uint32_t)got.kind);
+    switch (got.kind) {
+    case IND_TURNOUT: turnout_values(&got.turnout, due); break;
+    case IND_BALISE: balise_values(&got.balise, due); break;
+    case IND_SIGNAL: signal_values(&got.signal, due); break;
+    case IND_JOINT: joint_values(&got.joint, due); break;
+    case IND_SIDING: siding_values(&got.siding, due); break;
+    default: boundary_values(&got.boundary, due); break;
+    }
+    zeros_up_to(due, YARD_RECORD_SIZE);
+}
+
+static void expect_routes(const posed *ask, expected *due)
+{
+    static ind_walks walks;
+    static uint16_t words[ROOM_LARGEST];
+    ind_routes got = ind_routes_from(ask->bytes[0], ask->length[0],
+                                     ask->numbers[0], ask->numbers[1],
+                                     ask->numbers[2], words, ask->numbers[3],
+                                     &walks);
+    answer(due, got.answer);
+    value(due, got.routes);
+    value(due, got.words);
+    value(due, got.walks);
+    for (uint32_t i = 0; i < got.words; i++) {
+        due->words[2 * i] = (uint8_t)words[i];
+        due->words[2 * i + 1] = (uint8_t)(words[i] >> 8);
+    }
+    due->words_size = 2 * got.words;
+}
+
+void expect(const posed *ask, expected *due)
+{
+    due->values_size = 0;
+    due->words_size = 0;
+    switch (ask->question) {
+    case ASK_TRACK: expect_track(ask, due); break;
+    case ASK_POINT: expect_point(ask, due); break;
+    case ASK_COORDINATE: expect_coordinate(ask, due); break;
+    case ASK_RECORD: expect_record(ask, due); break;
+    case ASK_ROUTES: expect_routes(ask, due); break;
+    default: answer(due, answer_case(ask)); break;
+    }
+    if (YARD_NUMBER(due->answer) != YARD_ANSWERED)
+        due->values_size = due->words_size = 0;
+}

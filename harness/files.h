@@ -1,0 +1,26 @@
+/* Right files of a wanted size, to measure with. */
+#ifndef FILES_H
+#define FILES_H
+
+#include "batch.h"
+
+/* Each is filled up to at most so many bytes. */
+
+/* An X.1 of tracks with twenty points each. */
+void realistic_geography(uint32_t bytes, stored *file);
+
+/* An X.1 of one track: points alone. */
+void worst_geography(uint32_t bytes, stored *file);
+
+/* An X.2 of lines that part and meet again, with signals, joints, balises
+ * with messages, and sidings. */
+void realistic_application(uint32_t bytes, stored *file);
+
+/* An X.2 of balises alone, all links of which name balises. */
+void worst_application(uint32_t bytes, stored *file);
+
+/* An X.2 of one line that parts and meets again so many times: twice as many
+ * routes with each. */
+void diamonds(uint32_t count, stored *file);
+
+#endif

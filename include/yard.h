@@ -1,0 +1,259 @@
+/* The station files of T/VSTR 021-2024, for C and for whatever can call C: track geography (X.1) and fixed application data (X.2). Verdicts
+ * of a file and of a pair, and the questions on them: track, point, coordinate, record, routes. The library is target/staticlib/libexports.a;
+ * tools/library makes it, for x86-64 Linux. Nothing else is linked with it.
+ *
+ * What every function has in common
+ *
+ * - A file, and every output, is a pointer to bytes and behind it their number. The pointer needs no alignment. Where the number is 0 the
+ *   pointer may be null. Otherwise it points to so many bytes, which no one changes during the call; an output overlaps no other argument.
+ * - No byte outside these is read or written. Nothing is kept between calls and nothing is shared, so that calls may run at the same time.
+ *   There is no heap, and every call returns. A call takes about 10 KB of stack on an X.1 and 20 KB on an X.2; routes take about 250 KB at
+ *   limit 512, half a kilobyte for each object of a walk.
+ * - A function other than yard_checksum returns one number, made of the answer's number, its file and its place: take it apart by
+ *   YARD_NUMBER, YARD_FILE and YARD_PLACE. Number 0 is accepted or answered. Any other is a refusal, with the byte place that it is about.
+ * - An answer's values are put at the start of the output, four bytes each and low byte first, negative ones in two's complement: read them
+ *   by yard_unsigned and yard_signed. The bytes of the output behind the values are left as they were.
+ * - A refusal leaves every byte of every output as it was. An output that is too short for the values is refused by YARD_ROOM at place 0,
+ *   after every other refusal.
+ * - Positions are in centimetres, latitude and longitude in milliarcseconds, indexes count from 0, and a place is a byte's distance from the
+ *   file's start. */
+#ifndef YARD_H
+#define YARD_H
+
+#include <stddef.h>
+#include <stdint.h>
+
+#ifdef __cplusplus
+extern "C" {
+#endif
+
+/* ---- the returned number */
+
+/* Why, or YARD_ANSWERED: one of enum yard_number. */
+#define YARD_NUMBER(answer) ((unsigned)((answer) & 0xFF))
+
+/* Which file of a pair is at fault: 1 the X.1, 2 the X.2; 0 where the pair is accepted. It is 0 in the answer of every other function. */
+#define YARD_FILE(answer) ((unsigned)((answer) >> 8 & 0xFF))
+
+/* The place of the fault; 0 where there is none, and where the question itself is refused. */
+#define YARD_PLACE(answer) ((uint32_t)((answer) >> 16 & 0xFFFFFFFF))
+
+/* The numbers, in the order in which they are judged. */
+enum yard_number {
+    YARD_ANSWERED = 0,   /* accepted or answered */
+    YARD_LENGTH = 1,     /* length under 68 (X.1), under 69 (X.2), or over 65,535 */
+    YARD_CHECKSUM = 2,   /* the checksum differs */
+    YARD_FILE_TYPE = 3,  /* wrong file type */
+    YARD_STRUCTURE = 4,  /* structure version not 1 */
+    YARD_LAYOUT = 6,     /* layout */
+    YARD_FIELD = 5,      /* a field outside its values */
+    YARD_AGREEMENT = 7,  /* agreement */
+    YARD_TARGET = 8,     /* link target wrong */
+    YARD_RETURN = 9,     /* link not returned, or the second of a doubled link */
+    YARD_STATION = 10,   /* of a pair: stations differ */
+    YARD_TRACK = 11,     /* track not in the X.1 */
+    YARD_POSITION = 12,  /* position beyond the track's end */
+    YARD_QUESTION = 13,  /* question out of range */
+    YARD_STEPS = 14,     /* too many steps */
+    YARD_ROOM = 15       /* no room */
+};
+
+/* ---- values in an output */
+
+/* How many bytes a value has. */
+#define YARD_VALUE_SIZE 4
+
+/* The value of an index in an output that an answer was put in. */
+static inline uint32_t yard_unsigned(const uint8_t *out, size_t index)
+{
+    const uint8_t *at = out + YARD_VALUE_SIZE * index;
+    return (uint32_t)at[0] | (uint32_t)at[1] << 8 | (uint32_t)at[2] << 16 | (uint32_t)at[3] << 24;
+}
+
+/* The same of a value that may be negative. */
+static inline int32_t yard_signed(const uint8_t *out, size_t index)
+{
+    uint32_t value = yard_unsigned(out, index);
+    return value <= INT32_MAX ? (int32_t)value : -1 - (int32_t)(UINT32_MAX - value);
+}
+
+/* The 16-bit word of an index in the words of a list of routes. */
+static inline unsigned yard_word(const uint8_t *words, size_t index)
+{
+    return words[2 * index] | (unsigned)words[2 * index + 1] << 8;
+}
+
+/* ---- checksum and verdicts */
+
+/* The checksum (6.6) of so many bytes. A file's own stands in its last four bytes, low byte first, and covers all before them. */
+uint32_t yard_checksum(const uint8_t *bytes, size_t bytes_length);
+
+/* The verdict of an X.1, and of an X.2. */
+uint64_t yard_x1(const uint8_t *file, size_t file_length);
+uint64_t yard_x2(const uint8_t *file, size_t file_length);
+
+/* The verdict of a station's two files, the X.1 first: the X.1's fault, then the X.2's, then what they do not agree in. */
+uint64_t yard_pair(const uint8_t *first, size_t first_length, const uint8_t *second, size_t second_length);
+
+/* ---- questions on an X.1: each first gives the file's own fault */
+
+/* The track of an index. No such track: YARD_QUESTION. */
+uint64_t yard_track(const uint8_t *file, size_t file_length, size_t index, uint8_t *out, size_t out_length);
+
+enum yard_track_value {
+    YARD_TRACK_NUMBER,          /* the track's number, 1 to 255 */
+    YARD_TRACK_PROPERTY,        /* 1 to 5 */
+    YARD_TRACK_START_POSITION,  /* 0 */
+    YARD_TRACK_START_LATITUDE,  /* signed */
+    YARD_TRACK_START_LONGITUDE, /* signed */
+    YARD_TRACK_END_POSITION,
+    YARD_TRACK_END_LATITUDE,    /* signed */
+    YARD_TRACK_END_LONGITUDE,   /* signed */
+    YARD_TRACK_POINTS,          /* how many points it has */
+    YARD_TRACK_VALUES
+};
+
+#define YARD_TRACK_SIZE 36
+
+/* The point of an index in the track of an index. No such track or no such point: YARD_QUESTION. */
+uint64_t yard_point(const uint8_t *file, size_t file_length, size_t track, size_t index, uint8_t *out, size_t out_length);
+
+enum yard_point_value {
+    YARD_POINT_POSITION,
+    YARD_POINT_LATITUDE,  /* signed: what is added to the latitude of the track's start */
+    YARD_POINT_LONGITUDE, /* signed: the same of the longitude */
+    YARD_POINT_HEADING,   /* signed, -31416 to 31416 */
+    YARD_POINT_NEAR,      /* the near flag, 0 or 1 */
+    YARD_POINT_VALUES
+};
+
+#define YARD_POINT_SIZE 20
+
+/* The coordinate at a position of the track with a number: exact to the nearest milliarcsecond, a half going north and east. No track of that
+ * number: YARD_TRACK. A position beyond the track's end: YARD_POSITION. Both at place 0. */
+uint64_t yard_coordinate(const uint8_t *file, size_t file_length, size_t number, size_t position, uint8_t *out, size_t out_length);
+
+enum yard_coordinate_value {
+    YARD_COORDINATE_LATITUDE,  /* signed */
+    YARD_COORDINATE_LONGITUDE, /* signed */
+    YARD_COORDINATE_VALUES
+};
+
+#define YARD_COORDINATE_SIZE 8
+
+/* ---- questions on an X.2: each first gives the file's own fault */
+
+/* The record that starts at a place. No record starts there: YARD_QUESTION. Value 0 is the record's kind, and the kind's values stand behind it;
+ * those behind the kind's last one are 0. A link is the place of another record, 0 for none. A name is the place of its 8 bytes in the file, of
+ * which those from the first zero on do not count. */
+uint64_t yard_record(const uint8_t *file, size_t file_length, size_t offset, uint8_t *out, size_t out_length);
+
+#define YARD_RECORD_KIND 0
+#define YARD_RECORD_VALUES 12
+#define YARD_RECORD_SIZE 48
+
+enum yard_kind {
+    YARD_START_BOUNDARY = 1,
+    YARD_END_BOUNDARY = 2,
+    YARD_TURNOUT = 3,
+    YARD_BALISE = 4,
+    YARD_SIGNAL = 5,
+    YARD_JOINT = 6,
+    YARD_SIDING = 7
+};
+
+/* A start boundary, table 6, or an end boundary, table 7. */
+enum yard_boundary_value {
+    YARD_BOUNDARY_TYPE = 1,          /* start: 0x00 or 0x01; end: 0xFF or 0xFE */
+    YARD_BOUNDARY_LINK,
+    YARD_BOUNDARY_NEIGHBOUR_STATION, /* 0 for none */
+    YARD_BOUNDARY_NEIGHBOUR_TYPE,    /* a boundary's type byte, or 0x55 for an unknown one */
+    YARD_BOUNDARY_NEIGHBOUR_TRACK,   /* 0 for none */
+    YARD_BOUNDARY_POSITION,
+    YARD_BOUNDARY_TRACK
+};
+
+/* A turnout, table 8. */
+enum yard_turnout_value {
+    YARD_TURNOUT_NUMBER = 1,
+    YARD_TURNOUT_DIRECTION, /* 0: it opens towards falling positions; 1: towards rising ones */
+    YARD_TURNOUT_TIP_POSITION,
+    YARD_TURNOUT_NORMAL_POSITION,
+    YARD_TURNOUT_REVERSE_POSITION,
+    YARD_TURNOUT_FRONT,   /* link */
+    YARD_TURNOUT_NORMAL,  /* link */
+    YARD_TURNOUT_REVERSE, /* link */
+    YARD_TURNOUT_FRONT_TRACK,
+    YARD_TURNOUT_NORMAL_TRACK,
+    YARD_TURNOUT_REVERSE_TRACK
+};
+
+/* A balise, table 9. */
+enum yard_balise_value {
+    YARD_BALISE_PREVIOUS = 1, /* link */
+    YARD_BALISE_NEXT,         /* link */
+    YARD_BALISE_NUMBER,
+    YARD_BALISE_BYTES,     /* how many bytes the record has: 16, and those of its message */
+    YARD_BALISE_NATURE,    /* 0: virtual; 1: physical */
+    YARD_BALISE_DIRECTION, /* of its group: 1: against rising positions; 2: with them */
+    YARD_BALISE_POSITION,
+    YARD_BALISE_TRACK,
+    YARD_BALISE_PLACE,  /* its place in its group, 1 to 8 */
+    YARD_BALISE_COUNT,  /* how many balises its group has, 1 to 8 */
+    YARD_BALISE_MESSAGE /* the place of its message in the file */
+};
+
+/* A signal, table 10. */
+enum yard_signal_value {
+    YARD_SIGNAL_PREVIOUS = 1, /* link */
+    YARD_SIGNAL_NEXT,         /* link */
+    YARD_SIGNAL_NAME,         /* name */
+    YARD_SIGNAL_POSITION,
+    YARD_SIGNAL_TRACK,
+    YARD_SIGNAL_DIRECTION, /* 0: for no direction; 1: down; 2: up */
+    YARD_SIGNAL_TYPE       /* 1: entry; 2: exit; 3: passing; 4: route; 5: shunting */
+};
+
+/* An insulated rail joint, table 11. */
+enum yard_joint_value {
+    YARD_JOINT_PREVIOUS = 1, /* link */
+    YARD_JOINT_NEXT,         /* link */
+    YARD_JOINT_NAME,         /* name */
+    YARD_JOINT_POSITION,
+    YARD_JOINT_TRACK
+};
+
+/* A siding, table 12. */
+enum yard_siding_value {
+    YARD_SIDING_NAME = 1, /* name */
+    YARD_SIDING_TRACK,
+    YARD_SIDING_UP_BALISE,   /* the number of the exit balise on the up side, 0xFFFFFF for none */
+    YARD_SIDING_UP_SIGNAL,   /* the name of the exit signal on the up side, all zero for none */
+    YARD_SIDING_DOWN_BALISE, /* the same two of the down side */
+    YARD_SIDING_DOWN_SIGNAL
+};
+
+/* Every route from the boundary that starts at `start`, of at most `limit` objects (2 to 512; 0 means 64), where there are at most `budget`
+ * partial walks (1 to 65,535). No boundary starts there, or the limit or the budget is out of range: YARD_QUESTION. More partial walks than
+ * the budget: YARD_STEPS. The list does not fit in `words`, or the counts do not fit in `counts`: YARD_ROOM.
+ *
+ * The list is put at the start of `words`, in words of two bytes, low byte first: of each route its number of objects and then their places,
+ * from the boundary on; normal before reverse where two routes part. There is room for half as many words as there are bytes, and an odd
+ * last byte is never touched. Bytes behind the list are left as they were. */
+uint64_t yard_routes(const uint8_t *file, size_t file_length, size_t start, size_t limit, size_t budget, uint8_t *counts, size_t counts_length,
+                     uint8_t *words, size_t words_length);
+
+enum yard_routes_value {
+    YARD_ROUTES_ROUTES, /* how many routes there are */
+    YARD_ROUTES_WORDS,  /* how many words the list takes */
+    YARD_ROUTES_WALKS,  /* how many partial walks there are */
+    YARD_ROUTES_VALUES
+};
+
+#define YARD_ROUTES_SIZE 12
+
+#ifdef __cplusplus
+}
+#endif
+
+#endif
