@@ -1,0 +1,39 @@
+-- Each public function of crate answers: what its own contract allows is one answer.
+-- Assumes nothing.
+use mathlib.Core.Path.{_≡_, refl, sym, _∙_}
+use Rattle.promises.specs.Determined.{Determined}
+use Rattle.answers.proofs.x1.Kinds as x1-kinds
+use Rattle.answers.proofs.x1.Reads as x1-reads
+use Rattle.answers.proofs.track.Kinds as track-kinds
+use Rattle.answers.proofs.track.Reads as track-reads
+use Rattle.answers.proofs.point.Kinds as point-kinds
+use Rattle.answers.proofs.point.Reads as point-reads
+use Rattle.answers.proofs.coordinate.Kinds as coordinate-kinds
+use Rattle.answers.proofs.coordinate.Reads as coordinate-reads
+use Rattle.answers.proofs.pair.Kinds as pair-kinds
+use Rattle.answers.proofs.pair.Reads as pair-reads
+use Rattle.answers.proofs.x2.Kinds as x2-kinds
+use Rattle.answers.proofs.x2.Reads as x2-reads
+use Rattle.answers.proofs.record.Kinds as record-kinds
+use Rattle.answers.proofs.record.Reads as record-reads
+
+pub x1-determined : Determined 1 x1-kinds.ps x1-kinds.r x1-reads.Pre x1-reads.Post
+x1-determined κs a = (tt, λ x y v w p q. (p ∙ sym q, refl))
+
+pub track-determined : Determined 1 track-kinds.ps track-kinds.r track-reads.Pre track-reads.Post
+track-determined κs a = (tt, λ x y v w p q. (p ∙ sym q, refl))
+
+pub point-determined : Determined 1 point-kinds.ps point-kinds.r point-reads.Pre point-reads.Post
+point-determined κs a = (tt, λ x y v w p q. (p ∙ sym q, refl))
+
+pub coordinate-determined : Determined 1 coordinate-kinds.ps coordinate-kinds.r coordinate-reads.Pre coordinate-reads.Post
+coordinate-determined κs a = (tt, λ x y v w p q. (p ∙ sym q, refl))
+
+pub pair-determined : Determined 2 pair-kinds.ps pair-kinds.r pair-reads.Pre pair-reads.Post
+pair-determined κs a = (tt, λ x y v w p q. (p ∙ sym q, refl))
+
+pub x2-determined : Determined 1 x2-kinds.ps x2-kinds.r x2-reads.Pre x2-reads.Post
+x2-determined κs a = (tt, λ x y v w p q. (p ∙ sym q, refl))
+
+pub record-determined : Determined 1 record-kinds.ps record-kinds.r record-reads.Pre record-reads.Post
+record-determined κs a = (tt, λ x y v w p q. (p ∙ sym q, refl))

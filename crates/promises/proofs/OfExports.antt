@@ -1,0 +1,51 @@
+-- Each public function of crate exports: what its own contract allows is one answer.
+-- Assumes nothing.
+use mathlib.Core.Path.{_≡_, refl, sym, ap, ap₂, _∙_}
+use mathlib.Core.List.{List}
+use Prim.Native.Nat.{ℕ}
+use Rattle.promises.specs.Determined.{Determined}
+use Rattle.exports.proofs.yard_checksum.Kinds as yard-checksum-kinds
+use Rattle.exports.proofs.yard_checksum.Reads as yard-checksum-reads
+use Rattle.exports.proofs.yard_x1.Kinds as yard-x1-kinds
+use Rattle.exports.proofs.yard_x1.Reads as yard-x1-reads
+use Rattle.exports.proofs.yard_x2.Kinds as yard-x2-kinds
+use Rattle.exports.proofs.yard_x2.Reads as yard-x2-reads
+use Rattle.exports.proofs.yard_pair.Kinds as yard-pair-kinds
+use Rattle.exports.proofs.yard_pair.Reads as yard-pair-reads
+use Rattle.exports.proofs.yard_track.Kinds as yard-track-kinds
+use Rattle.exports.proofs.yard_track.Reads as yard-track-reads
+use Rattle.exports.proofs.yard_point.Kinds as yard-point-kinds
+use Rattle.exports.proofs.yard_point.Reads as yard-point-reads
+use Rattle.exports.proofs.yard_coordinate.Kinds as yard-coordinate-kinds
+use Rattle.exports.proofs.yard_coordinate.Reads as yard-coordinate-reads
+use Rattle.exports.proofs.yard_record.Kinds as yard-record-kinds
+use Rattle.exports.proofs.yard_record.Reads as yard-record-reads
+use Rattle.exports.proofs.yard_routes.Kinds as yard-routes-kinds
+use Rattle.exports.proofs.yard_routes.Reads as yard-routes-reads
+
+pub yard-checksum-determined : Determined 1 yard-checksum-kinds.ps yard-checksum-kinds.r yard-checksum-reads.Pre yard-checksum-reads.Post
+yard-checksum-determined κs a = (tt, λ x y v w p q. (p ∙ sym q, refl))
+
+pub yard-x1-determined : Determined 1 yard-x1-kinds.ps yard-x1-kinds.r yard-x1-reads.Pre yard-x1-reads.Post
+yard-x1-determined κs a = (tt, λ x y v w p q. (p ∙ sym q, refl))
+
+pub yard-x2-determined : Determined 1 yard-x2-kinds.ps yard-x2-kinds.r yard-x2-reads.Pre yard-x2-reads.Post
+yard-x2-determined κs a = (tt, λ x y v w p q. (p ∙ sym q, refl))
+
+pub yard-pair-determined : Determined 2 yard-pair-kinds.ps yard-pair-kinds.r yard-pair-reads.Pre yard-pair-reads.Post
+yard-pair-determined κs a = (tt, λ x y v w p q. (p ∙ sym q, refl))
+
+pub yard-track-determined : Determined 2 yard-track-kinds.ps yard-track-kinds.r yard-track-reads.Pre yard-track-reads.Post
+yard-track-determined κs a = (tt, λ x y v w p q. (p .0 ∙ sym (q .0), ap (λ (l : List ℕ). (tt, (tt, (l, tt)))) (p .1 ∙ sym (q .1))))
+
+pub yard-point-determined : Determined 2 yard-point-kinds.ps yard-point-kinds.r yard-point-reads.Pre yard-point-reads.Post
+yard-point-determined κs a = (tt, λ x y v w p q. (p .0 ∙ sym (q .0), ap (λ (l : List ℕ). (tt, (tt, (tt, (l, tt))))) (p .1 ∙ sym (q .1))))
+
+pub yard-coordinate-determined : Determined 2 yard-coordinate-kinds.ps yard-coordinate-kinds.r yard-coordinate-reads.Pre yard-coordinate-reads.Post
+yard-coordinate-determined κs a = (tt, λ x y v w p q. (p .0 ∙ sym (q .0), ap (λ (l : List ℕ). (tt, (tt, (tt, (l, tt))))) (p .1 ∙ sym (q .1))))
+
+pub yard-record-determined : Determined 2 yard-record-kinds.ps yard-record-kinds.r yard-record-reads.Pre yard-record-reads.Post
+yard-record-determined κs a = (tt, λ x y v w p q. (p .0 ∙ sym (q .0), ap (λ (l : List ℕ). (tt, (tt, (l, tt)))) (p .1 ∙ sym (q .1))))
+
+pub yard-routes-determined : Determined 3 yard-routes-kinds.ps yard-routes-kinds.r yard-routes-reads.Pre yard-routes-reads.Post
+yard-routes-determined κs a = (tt, λ x y v w p q. (p .0 ∙ sym (q .0), ap₂ (λ (l m : List ℕ). (tt, (tt, (tt, (tt, (l, (m, tt))))))) (p .1 .0 ∙ sym (q .1 .0)) (p .1 .1 ∙ sym (q .1 .1))))

@@ -1,0 +1,24 @@
+-- Each public function of crate layout: what its own contract allows is one answer.
+-- Assumes nothing.
+use mathlib.Core.Path.{_≡_, refl, sym, _∙_}
+use Rattle.promises.specs.Determined.{Determined}
+use Rattle.layout.proofs.find_layout.Kinds as find-layout-kinds
+use Rattle.layout.proofs.find_layout.Reads as find-layout-reads
+use Rattle.layout.proofs.is_bounded.Kinds as is-bounded-kinds
+use Rattle.layout.proofs.is_bounded.Reads as is-bounded-reads
+use Rattle.layout.proofs.kind_at.Kinds as kind-at-kinds
+use Rattle.layout.proofs.kind_at.Reads as kind-at-reads
+use Rattle.layout.proofs.size_of.Kinds as size-of-kinds
+use Rattle.layout.proofs.size_of.Reads as size-of-reads
+
+pub find-layout-determined : Determined 1 find-layout-kinds.ps find-layout-kinds.r find-layout-reads.Pre find-layout-reads.Post
+find-layout-determined κs a = (tt, λ x y v w p q. (p ∙ sym q, refl))
+
+pub is-bounded-determined : Determined 0 is-bounded-kinds.ps is-bounded-kinds.r is-bounded-reads.Pre is-bounded-reads.Post
+is-bounded-determined κs a = (tt, λ x y v w p q. (p ∙ sym q, refl))
+
+pub kind-at-determined : Determined 0 kind-at-kinds.ps kind-at-kinds.r kind-at-reads.Pre kind-at-reads.Post
+kind-at-determined κs a = (tt, λ x y v w p q. (p ∙ sym q, refl))
+
+pub size-of-determined : Determined 1 size-of-kinds.ps size-of-kinds.r size-of-reads.Pre size-of-reads.Post
+size-of-determined κs a = (tt, λ x y v w p q. (p .is ∙ sym (q .is), refl))

@@ -1,0 +1,64 @@
+-- Each public function of crate rules: what its own contract allows is one answer.
+-- Assumes nothing.
+use mathlib.Core.Path.{_≡_, refl, sym, _∙_}
+use Rattle.promises.specs.Determined.{Determined}
+use Rattle.rules.proofs.length_between.Kinds as length-between-kinds
+use Rattle.rules.proofs.length_between.Reads as length-between-reads
+use Rattle.rules.proofs.is_number.Kinds as is-number-kinds
+use Rattle.rules.proofs.is_number.Reads as is-number-reads
+use Rattle.rules.proofs.between.Kinds as between-kinds
+use Rattle.rules.proofs.between.Reads as between-reads
+use Rattle.rules.proofs.within.Kinds as within-kinds
+use Rattle.rules.proofs.within.Reads as within-reads
+use Rattle.rules.proofs.among.Kinds as among-kinds
+use Rattle.rules.proofs.among.Reads as among-reads
+use Rattle.rules.proofs.part.Kinds as part-kinds
+use Rattle.rules.proofs.part.Reads as part-reads
+use Rattle.rules.proofs.fits.Kinds as fits-kinds
+use Rattle.rules.proofs.fits.Reads as fits-reads
+use Rattle.rules.proofs.whole.Kinds as whole-kinds
+use Rattle.rules.proofs.whole.Reads as whole-reads
+use Rattle.rules.proofs.ends_at.Kinds as ends-at-kinds
+use Rattle.rules.proofs.ends_at.Reads as ends-at-reads
+use Rattle.rules.proofs.zero_at.Kinds as zero-at-kinds
+use Rattle.rules.proofs.zero_at.Reads as zero-at-reads
+use Rattle.rules.proofs.same_as.Kinds as same-as-kinds
+use Rattle.rules.proofs.same_as.Reads as same-as-reads
+use Rattle.rules.proofs.above.Kinds as above-kinds
+use Rattle.rules.proofs.above.Reads as above-reads
+
+pub length-between-determined : Determined 1 length-between-kinds.ps length-between-kinds.r length-between-reads.Pre length-between-reads.Post
+length-between-determined κs a = (tt, λ x y v w p q. (p ∙ sym q, refl))
+
+pub is-number-determined : Determined 1 is-number-kinds.ps is-number-kinds.r is-number-reads.Pre is-number-reads.Post
+is-number-determined κs a = (tt, λ x y v w p q. (p ∙ sym q, refl))
+
+pub between-determined : Determined 1 between-kinds.ps between-kinds.r between-reads.Pre between-reads.Post
+between-determined κs a = (tt, λ x y v w p q. (p ∙ sym q, refl))
+
+pub within-determined : Determined 1 within-kinds.ps within-kinds.r within-reads.Pre within-reads.Post
+within-determined κs a = (tt, λ x y v w p q. (p ∙ sym q, refl))
+
+pub among-determined : Determined 1 among-kinds.ps among-kinds.r among-reads.Pre among-reads.Post
+among-determined κs a = (tt, λ x y v w p q. (p ∙ sym q, refl))
+
+pub part-determined : Determined 1 part-kinds.ps part-kinds.r part-reads.Pre part-reads.Post
+part-determined κs a = (tt, λ x y v w p q. (p ∙ sym q, refl))
+
+pub fits-determined : Determined 0 fits-kinds.ps fits-kinds.r fits-reads.Pre fits-reads.Post
+fits-determined κs a = (tt, λ x y v w p q. (p ∙ sym q, refl))
+
+pub whole-determined : Determined 0 whole-kinds.ps whole-kinds.r whole-reads.Pre whole-reads.Post
+whole-determined κs a = (tt, λ x y v w p q. (p ∙ sym q, refl))
+
+pub ends-at-determined : Determined 0 ends-at-kinds.ps ends-at-kinds.r ends-at-reads.Pre ends-at-reads.Post
+ends-at-determined κs a = (tt, λ x y v w p q. (p ∙ sym q, refl))
+
+pub zero-at-determined : Determined 1 zero-at-kinds.ps zero-at-kinds.r zero-at-reads.Pre zero-at-reads.Post
+zero-at-determined κs a = (tt, λ x y v w p q. (p ∙ sym q, refl))
+
+pub same-as-determined : Determined 1 same-as-kinds.ps same-as-kinds.r same-as-reads.Pre same-as-reads.Post
+same-as-determined κs a = (tt, λ x y v w p q. (p ∙ sym q, refl))
+
+pub above-determined : Determined 1 above-kinds.ps above-kinds.r above-reads.Pre above-reads.Post
+above-determined κs a = (tt, λ x y v w p q. (p ∙ sym q, refl))

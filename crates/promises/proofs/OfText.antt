@@ -1,0 +1,44 @@
+-- Each public function of crate text: what its own contract allows is one answer.
+-- Assumes nothing.
+use mathlib.Core.Path.{_≡_, refl, sym, _∙_}
+use Rattle.promises.specs.Determined.{Determined}
+use Rattle.text.proofs.write.Kinds as write-kinds
+use Rattle.text.proofs.write.Reads as write-reads
+use Rattle.text.proofs.write_number.Kinds as write-number-kinds
+use Rattle.text.proofs.write_number.Reads as write-number-reads
+use Rattle.text.proofs.head.Kinds as head-kinds
+use Rattle.text.proofs.head.Reads as head-reads
+use Rattle.text.proofs.text_line.Kinds as text-line-kinds
+use Rattle.text.proofs.text_line.Reads as text-line-reads
+use Rattle.text.proofs.line.Kinds as line-kinds
+use Rattle.text.proofs.line.Reads as line-reads
+use Rattle.text.proofs.signed_line.Kinds as signed-line-kinds
+use Rattle.text.proofs.signed_line.Reads as signed-line-reads
+use Rattle.text.proofs.name_line.Kinds as name-line-kinds
+use Rattle.text.proofs.name_line.Reads as name-line-reads
+use Rattle.text.proofs.message_line.Kinds as message-line-kinds
+use Rattle.text.proofs.message_line.Reads as message-line-reads
+
+pub write-determined : Determined 1 write-kinds.ps write-kinds.r write-reads.Pre write-reads.Post
+write-determined κs a = (tt, λ x y v w p q. (p ∙ sym q, refl))
+
+pub write-number-determined : Determined 0 write-number-kinds.ps write-number-kinds.r write-number-reads.Pre write-number-reads.Post
+write-number-determined κs a = (tt, λ x y v w p q. (p ∙ sym q, refl))
+
+pub head-determined : Determined 1 head-kinds.ps head-kinds.r head-reads.Pre head-reads.Post
+head-determined κs a = (tt, λ x y v w p q. (p ∙ sym q, refl))
+
+pub text-line-determined : Determined 2 text-line-kinds.ps text-line-kinds.r text-line-reads.Pre text-line-reads.Post
+text-line-determined κs a = (tt, λ x y v w p q. (p ∙ sym q, refl))
+
+pub line-determined : Determined 1 line-kinds.ps line-kinds.r line-reads.Pre line-reads.Post
+line-determined κs a = (tt, λ x y v w p q. (p ∙ sym q, refl))
+
+pub signed-line-determined : Determined 1 signed-line-kinds.ps signed-line-kinds.r signed-line-reads.Pre signed-line-reads.Post
+signed-line-determined κs a = (tt, λ x y v w p q. (p ∙ sym q, refl))
+
+pub name-line-determined : Determined 2 name-line-kinds.ps name-line-kinds.r name-line-reads.Pre name-line-reads.Post
+name-line-determined κs a = (tt, λ x y v w p q. (p ∙ sym q, refl))
+
+pub message-line-determined : Determined 2 message-line-kinds.ps message-line-kinds.r message-line-reads.Pre message-line-reads.Post
+message-line-determined κs a = (tt, λ x y v w p q. (p ∙ sym q, refl))
