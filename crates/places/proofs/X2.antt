@@ -1,0 +1,216 @@
+-- THEOREM: the place of every X.2 verdict is below the bound, whatever the file is. One of more than 65,535 bytes is refused for its length, at
+-- place 0. In another every place is in the header, whose two counts are at most 255 by the first facts of the layout, or is where the
+-- boundaries end, or stands in a record, which starts before End.
+-- Assumes nothing.
+use Prim.Native.Nat.{ℕ, _+_, _-_, _≤_, _<_}
+use mathlib.Core.Path.{_≡_, refl}
+use mathlib.Core.List.{List, [], _∷_, _++_, flatMap}
+use lib.Dec.{ltb, eqb}
+use lib.ListN.{length}
+use native.Mathlib.Omega.{arith}
+use Rattle.octets.specs.Octets.{numAt}
+use Rattle.rules.specs.Rules.{whole, endsAt}
+use Rattle.verdict.specs.Facts.{test, AllHold, Fact}
+use Rattle.verdict.specs.Reasons.{placeIn}
+use Rattle.verdict.specs.Walk.{startsFrom}
+use Rattle.seal.specs.Seal.{mostLength, sealFacts}
+use Rattle.records.specs.declared.Kind.{Kind}
+use Rattle.records.specs.declared.Kind.the-variants as kind
+use Rattle.records.specs.Places.{boundarySize, turnoutSize, baliseSize, baliseMessage, signalSize, jointSize, sidingSize}
+use Rattle.layout.specs.declared.Layout.{Layout}
+use Rattle.layout.specs.Places.{startCountAt, startEntriesAt, endCountAt, endEntriesAt, groupsAt, turnoutsField, balisesField, signalsField, jointsField, sidingsField}
+use Rattle.layout.specs.Layout.{layoutOf}
+use Rattle.layout.specs.Bounds.{countMost}
+use Rattle.layout.specs.Facts.{countLayout, indexes, offsetLayout, offsetsLayout, groupLayout, fixedLayout, baliseBytes, baliseLayout, walkLayout, balisesLayout, fieldOf, groupsLayout, noGroup, noneLayout, layoutFacts}
+use Rattle.layout.specs.Records.{kindAt, sizeAt, starts}
+use Rattle.layout.proofs.Obeys.{layout-obeyed}
+use Rattle.layout.proofs.Walks.{starts-between, index-iff}
+use Rattle.fields.specs.Fields.{headerFields, entryFields, entriesFields, sizeByteOf, lastByte, messageEnd, messageFields, fixedFields, kindFields, recordFields, fieldFacts}
+use Rattle.fields.specs.Agreement.{entryAgrees, entriesAgree, kindAgrees, recordAgrees, agreementFacts}
+use Rattle.links.specs.Links.{recordTargets, targetsOf, targetFacts, recordReturns, returnsOf, returnFacts}
+use Rattle.application.specs.Facts.{fileType, recordFacts, checkFacts, facts, verdictOf}
+use Rattle.places.specs.Places.{placeOver, PlacesBelow}
+use Rattle.places.proofs.Lists.{below-append, below-both, below-each, below-if, fault-below}
+
+-- ---- a group of the layout, whose offset is at `field`
+
+module _ (f : List ℕ) (field before until stop : ℕ) (near : field < placeOver) where
+  fixed-below : (size : ℕ) → PlacesBelow placeOver (fixedLayout f field before until stop size)
+  unfolding fixedLayout
+  fixed-below size =
+      let group = groupLayout f field before until stop ++ (whole 0 field 2 (until - numAt 2 f field) size ∷ []) in
+      below-if placeOver (eqb (numAt 2 f field) 0) [] group tt (omega arith)
+
+  -- each balise of the group starts before the group's end, which is not over End
+  walk-below : until ≤ mostLength → PlacesBelow placeOver (walkLayout f (numAt 2 f field) until)
+  unfolding walkLayout
+  walk-below inside =
+      below-each placeOver (baliseLayout f until) (startsFrom (baliseBytes f) until (numAt 2 f field)) (λ at m.
+      let before = (starts-between (baliseBytes f) until at (numAt 2 f field) m) .below in
+      omega arith)
+
+  balises-below : stop ≤ mostLength → PlacesBelow placeOver (balisesLayout f field before until stop)
+  unfolding balisesLayout AllHold
+  balises-below most =
+      let group = groupLayout f field before until stop in
+      let walked = walkLayout f (numAt 2 f field) until in
+      below-if placeOver (eqb (numAt 2 f field) 0) [] (group ++ walked) tt (below-append placeOver group walked (omega arith) (λ h. walk-below (omega (arith, h .1 .1 .0))))
+
+-- ---- a record of a kind, which starts before End
+
+module _ (f : List ℕ) (at : ℕ) (inside : at < mostLength) where
+  fields-of : (k : Kind) → PlacesBelow placeOver (kindFields f k at)
+  unfolding kindFields messageFields
+  fields-of kind.StartBoundary = omega arith
+  fields-of kind.EndBoundary = omega arith
+  fields-of kind.Turnout = omega arith
+  fields-of kind.Balise =
+      let message = lastByte f at (at + baliseMessage) (sizeByteOf f at - baliseSize) messageEnd ∷ [] in
+      below-both placeOver (fixedFields f at) (messageFields f at) (omega arith) (below-if placeOver (ltb baliseSize (sizeByteOf f at)) message [] (omega arith) tt)
+  fields-of kind.Signal = omega arith
+  fields-of kind.Joint = omega arith
+  fields-of kind.Siding = omega arith
+
+  agreement-of : (k : Kind) → PlacesBelow placeOver (kindAgrees f k at)
+  unfolding kindAgrees
+  agreement-of kind.StartBoundary = tt
+  agreement-of kind.EndBoundary = tt
+  agreement-of kind.Turnout = tt
+  agreement-of kind.Balise = omega arith
+  agreement-of kind.Signal = tt
+  agreement-of kind.Joint = tt
+  agreement-of kind.Siding = tt
+
+  module _ (l : Layout) where
+    targets-of : (k : Kind) → PlacesBelow placeOver (recordTargets f l k at)
+    targets-of kind.StartBoundary = omega arith
+    targets-of kind.EndBoundary = omega arith
+    targets-of kind.Turnout = omega arith
+    targets-of kind.Balise = omega arith
+    targets-of kind.Signal = omega arith
+    targets-of kind.Joint = omega arith
+    targets-of kind.Siding = tt
+
+    returns-of : (k : Kind) → PlacesBelow placeOver (recordReturns f l k at)
+    returns-of kind.StartBoundary = omega arith
+    returns-of kind.EndBoundary = omega arith
+    returns-of kind.Turnout = omega arith
+    returns-of kind.Balise = omega arith
+    returns-of kind.Signal = omega arith
+    returns-of kind.Joint = omega arith
+    returns-of kind.Siding = tt
+
+-- what is asked of every record: each starts before End
+pub records-below :
+    (f : List ℕ) (l : Layout) (most : l .stop ≤ mostLength) (g : ℕ → List Fact) → ((at : ℕ) → at < mostLength → PlacesBelow placeOver (g at)) → PlacesBelow placeOver (flatMap g (starts f l))
+records-below f l most g h = below-each placeOver g (starts f l) (λ at m. h at (let below = (starts-between (sizeAt f l) (l .stop) at (l .header) m) .below in omega arith))
+
+-- ---- check by check
+
+module _ (f : List ℕ) (l : Layout) (most : l .stop ≤ mostLength) where
+  -- what is asked of the entry of each boundary in the header
+  entries-below : (g : ℕ → List Fact) (count : ℕ) → ((i : ℕ) → i < count → PlacesBelow placeOver (g i)) → PlacesBelow placeOver (flatMap g (indexes count))
+  entries-below g count h = below-each placeOver g (indexes count) (λ i m. h i ((index-iff count i) .0 m))
+
+  offsets-below : (entries due count : ℕ) → entries ≤ mostLength → count ≤ countMost → PlacesBelow placeOver (offsetsLayout f entries due count)
+  unfolding offsetsLayout
+  offsets-below entries due count near small = entries-below (offsetLayout f entries due) count (λ i h. omega arith)
+
+  none-below : l .bounds ≤ l .stop → PlacesBelow placeOver (noneLayout f l)
+  unfolding noneLayout
+  none-below room =
+      below-if placeOver (test (noGroup f (groupsAt (l .starts) (l .ends)))) (endsAt (l .bounds - boundarySize) (l .bounds) (l .stop) ∷ []) [] (omega arith) tt
+
+  module _ (few : l .starts ≤ countMost) (few′ : l .ends ≤ countMost) where
+    groups-below : PlacesBelow placeOver (groupsLayout f l)
+    unfolding groupsLayout
+    groups-below =
+        let ts = fixedLayout f (fieldOf l turnoutsField) (l .bounds) (l .turnouts) (l .stop) turnoutSize in
+        let bs = balisesLayout f (fieldOf l balisesField) (l .turnouts) (l .balises) (l .stop) in
+        let ss = fixedLayout f (fieldOf l signalsField) (l .balises) (l .signals) (l .stop) signalSize in
+        let js = fixedLayout f (fieldOf l jointsField) (l .signals) (l .joints) (l .stop) jointSize in
+        let ds = fixedLayout f (fieldOf l sidingsField) (l .joints) (l .stop) (l .stop) sidingSize in
+        let t = fixed-below f (fieldOf l turnoutsField) (l .bounds) (l .turnouts) (l .stop) (omega arith) turnoutSize in
+        let b = balises-below f (fieldOf l balisesField) (l .turnouts) (l .balises) (l .stop) (omega arith) most in
+        let s = fixed-below f (fieldOf l signalsField) (l .balises) (l .signals) (l .stop) (omega arith) signalSize in
+        let j = fixed-below f (fieldOf l jointsField) (l .signals) (l .joints) (l .stop) (omega arith) jointSize in
+        let d = fixed-below f (fieldOf l sidingsField) (l .joints) (l .stop) (l .stop) (omega arith) sidingSize in
+        below-both placeOver ts (bs ++ (ss ++ (js ++ ds))) t (below-both placeOver bs (ss ++ (js ++ ds)) b (below-both placeOver ss (js ++ ds) s (below-both placeOver js ds j d)))
+
+    fields-below : PlacesBelow placeOver (fieldFacts f l)
+    unfolding fieldFacts entriesFields
+    fields-below =
+        let one = entriesFields f startEntriesAt (l .starts) in
+        let two = entriesFields f (endEntriesAt (l .starts)) (l .ends) in
+        let each = flatMap (recordFields f l) (starts f l) in
+        let p = entries-below (entryFields f startEntriesAt) (l .starts) (λ i h. omega arith) in
+        let q = entries-below (entryFields f (endEntriesAt (l .starts))) (l .ends) (λ i h. omega arith) in
+        let r = records-below f l most (recordFields f l) (λ at h. fields-of f at h (kindAt l at)) in
+        below-both placeOver (headerFields f) (one ++ (two ++ each)) (omega arith) (below-both placeOver one (two ++ each) p (below-both placeOver two each q r))
+
+    agreement-below : PlacesBelow placeOver (agreementFacts f l)
+    unfolding agreementFacts entriesAgree
+    agreement-below =
+        let one = entriesAgree f startEntriesAt (l .header) (l .starts) in
+        let two = entriesAgree f (endEntriesAt (l .starts)) (l .middle) (l .ends) in
+        let each = flatMap (recordAgrees f l) (starts f l) in
+        let p = entries-below (entryAgrees f startEntriesAt (l .header)) (l .starts) (λ i h. omega arith) in
+        let q = entries-below (entryAgrees f (endEntriesAt (l .starts)) (l .middle)) (l .ends) (λ i h. omega arith) in
+        let r = records-below f l most (recordAgrees f l) (λ at h. agreement-of f at h (kindAt l at)) in
+        below-both placeOver one (two ++ each) p (below-both placeOver two each q r)
+
+    checks-below : PlacesBelow placeOver (recordFacts f l)
+    unfolding recordFacts targetFacts returnFacts
+    checks-below =
+        let t = records-below f l most (targetsOf f l) (λ at h. targets-of f at h l (kindAt l at)) in
+        let r = records-below f l most (returnsOf f l) (λ at h. returns-of f at h l (kindAt l at)) in
+        below-both placeOver (fieldFacts f l) (agreementFacts f l ++ (targetFacts f l ++ returnFacts f l)) fields-below
+        (below-both placeOver (agreementFacts f l) (targetFacts f l ++ returnFacts f l) agreement-below (below-both placeOver (targetFacts f l) (returnFacts f l) t r))
+
+  -- ---- the layout, whose counts come first
+
+  layout-below : l .starts ≡ numAt 1 f startCountAt → l .ends ≡ numAt 1 f (endCountAt (l .starts)) → PlacesBelow placeOver (layoutFacts f l)
+  unfolding layoutFacts AllHold
+  layout-below is-n is-k =
+      let one = offsetsLayout f startEntriesAt (l .header) (l .starts) in
+      let two = offsetsLayout f (endEntriesAt (l .starts)) (l .middle) (l .ends) in
+      let rest = groupsLayout f l ++ noneLayout f l in
+      below-append placeOver (countLayout f l) (one ++ (two ++ rest)) (omega arith) (λ count.
+      let few : l .starts ≤ countMost = omega (arith, is-n, count .0) in
+      let few′ : l .ends ≤ countMost = omega (arith, is-k, count .1 .1 .0) in
+      let p = offsets-below startEntriesAt (l .header) (l .starts) (omega arith) few in
+      let q = offsets-below (endEntriesAt (l .starts)) (l .middle) (l .ends) (omega arith) few′ in
+      let r = below-both placeOver (groupsLayout f l) (noneLayout f l) (groups-below few few′) (none-below (count .1 .1 .1 .0)) in
+      below-both placeOver one (two ++ rest) p (below-both placeOver two rest q r))
+
+-- ---- the file
+
+module _ (f : List ℕ) where
+  starts-are : layoutOf f .starts ≡ numAt 1 f startCountAt
+  unfolding layoutOf
+  starts-are = refl
+
+  ends-are : layoutOf f .ends ≡ numAt 1 f (endCountAt (layoutOf f .starts))
+  unfolding layoutOf
+  ends-are = refl
+
+  pub stop-most : length f ≤ mostLength → layoutOf f .stop ≤ mostLength
+  unfolding layoutOf
+  stop-most most = omega arith
+
+  facts-below : PlacesBelow placeOver (facts f)
+  unfolding facts checkFacts
+  facts-below = (
+    omega arith,
+    λ h.
+        let l = layoutOf f in
+        let most = stop-most (h .1) in
+        let after = below-append placeOver (layoutFacts f l) (recordFacts f l) (layout-below f l most starts-are ends-are) (λ laid.
+        let o = (layout-obeyed f l) .0 laid in
+        checks-below f l most (omega (arith, starts-are, o .start-count)) (omega (arith, ends-are, o .end-count)))
+        in
+        below-both placeOver (sealFacts f fileType) (layoutFacts f l ++ recordFacts f l) (omega arith) after,
+  )
+
+  pub x2-place : placeIn (verdictOf f) < placeOver
+  x2-place = fault-below placeOver (omega arith) (facts f) facts-below
