@@ -147,17 +147,17 @@ typedef struct {
 } named_count;
 
 /* Counts a name once more, and returns its count. */
-static unsigned long count_name(named_count *names, uint32_t *used,
+static unsigned long count_name(named_count *counts, uint32_t *used,
                                 const char *name)
 {
     uint32_t i = 0;
-    while (i < *used && strcmp(names[i].name, name) != 0)
+    while (i < *used && strcmp(counts[i].name, name) != 0)
         i++;
     if (i == *used && i < NAMES_LARGEST) {
-        strcpy(names[i].name, name);
-        names[(*used)++].count = 0;
+        strcpy(counts[i].name, name);
+        counts[(*used)++].count = 0;
     }
-    return i < NAMES_LARGEST ? ++names[i].count : NAMES_LARGEST;
+    return i < NAMES_LARGEST ? ++counts[i].count : NAMES_LARGEST;
 }
 
 /* The question of a case, its answer's number and kind of place. */
@@ -171,19 +171,27 @@ static void name_case(const asked *ask, char *name)
             (unsigned long)answer.number, place);
 }
 
-/* Builds each case of a run and counts its name; hands each one on that is
- * the first of its name. */
-static void name_cases(const generation *run, named_count *names,
-                       uint32_t *used, void (*first)(const asked *ask))
+/* The names of a run's cases, counted. */
+static named_count names[NAMES_LARGEST];
+static uint32_t names_used;
+
+/* Builds each case of the run that the words say and counts its name; hands
+ * each one on that is the first of its name. 0 if the words are wrong. */
+static int name_cases(int count, char **words,
+                      void (*first)(const asked *ask))
 {
     static asked ask;
-    for (uint64_t i = 0; i < run->count; i++) {
+    generation run;
+    if (!read_generation(count, words, &run))
+        return 0;
+    for (uint64_t i = 0; i < run.count; i++) {
         char name[2 * NAME_ROOM];
-        build_case(run, i, &ask);
+        build_case(&run, i, &ask);
         name_case(&ask, name);
-        if (count_name(names, used, name) == 1)
+        if (count_name(names, &names_used, name) == 1)
             first(&ask);
     }
+    return 1;
 }
 
 static void pass_over(const asked *ask)
@@ -198,24 +206,16 @@ static void write_first(const asked *ask)
 
 int command_places(int count, char **words)
 {
-    static named_count names[NAMES_LARGEST];
-    uint32_t used = 0;
-    generation run;
-    if (!read_generation(count, words, &run))
+    if (!name_cases(count, words, pass_over))
         return RUN_BAD;
-    name_cases(&run, names, &used, pass_over);
-    for (uint32_t i = 0; i < used; i++)
+    for (uint32_t i = 0; i < names_used; i++)
         printf("%s %lu\n", names[i].name, names[i].count);
     return fflush(stdout) == 0 ? RUN_WELL : RUN_BAD;
 }
 
 int command_each(int count, char **words)
 {
-    static named_count names[NAMES_LARGEST];
-    uint32_t used = 0;
-    generation run;
-    if (!read_generation(count, words, &run))
+    if (!name_cases(count, words, write_first))
         return RUN_BAD;
-    name_cases(&run, names, &used, write_first);
     return fflush(stdout) == 0 ? RUN_WELL : RUN_BAD;
 }
