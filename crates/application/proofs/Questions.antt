@@ -1,31 +1,27 @@
 -- The ways out of the question 'record at an offset'.
 -- Assumes nothing.
 use Prim.Native.Nat.{ℕ, _≤_}
-use mathlib.Core.Path.{_≡_, _∙_, refl, sym, ap}
+use mathlib.Core.Path.{_≡_, _∙_, refl, sym, ap, subst⁻¹}
 use mathlib.Core.Bool.{Bool, true, false}
 use mathlib.Core.List.{List}
 use native.Mathlib.Omega.{arith}
 use Rattle.verdict.specs.declared.Fault.{Fault}
-use Rattle.verdict.specs.declared.Mark.{Mark}
 use Rattle.verdict.specs.declared.Judged.{Judged}
 use Rattle.verdict.specs.declared.Judged.the-variants as judged
 use Rattle.verdict.specs.declared.Verdict.{Verdict}
 use Rattle.verdict.specs.declared.Verdict.the-variants as verdict
 use Rattle.verdict.specs.Facts.{test}
 use Rattle.verdict.specs.Reasons.{shownOf}
-use Rattle.verdict.proofs.Facts.{accepted-iff, judge-first, never}
 use Rattle.records.specs.declared.Kind.{Kind}
 use Rattle.records.specs.declared.Record.{Record}
 use Rattle.records.specs.Records.{recordAt}
 use Rattle.layout.specs.declared.Layout.{Layout}
-use Rattle.layout.specs.declared.Shape.{Shape}
-use Rattle.layout.specs.declared.Shape.the-variants.{Faulty}
 use Rattle.layout.specs.Layout.{layoutOf}
-use Rattle.layout.specs.Facts.{layoutFacts, shapeOf}
 use Rattle.layout.specs.Records.{kindAt, isStart}
-use Rattle.layout.specs.Bounds.{placeMost}
+use Rattle.layout.specs.Bounds.{placeMost, Bounded}
 use Rattle.layout.specs.Regions.{Regions}
-use Rattle.layout.proofs.Obeys.{layout-obeyed}
+use Rattle.layout.proofs.Regions.{regions}
+use Rattle.layout.proofs.Bounds.{regions-bounded}
 use Rattle.layout.proofs.Starts.{start-tested, start-below}
 use Rattle.application.specs.declared.RecordAnswer.{RecordAnswer}
 use Rattle.application.specs.declared.RecordAnswer.the-variants as answer
@@ -33,7 +29,6 @@ use Rattle.application.specs.Facts.{judgedOf, verdictOf}
 use Rattle.application.specs.Obeys.{Obeys}
 use Rattle.application.specs.Questions.{outOfRange, refusedAs, recordIf, asked, recordOf}
 use Rattle.application.proofs.Obeys.{accepted-obeys}
-use Rattle.layout.proofs.Shapes.{faulty-judged}
 
 shown-accepted : (v : Judged) → shownOf v ≡ verdict.Accepted → v ≡ judged.Accepted
 shown-accepted judged.Accepted e = refl
@@ -49,12 +44,12 @@ module _ (f : List ℕ) (x : ℕ) (v : Verdict) (p : v ≡ verdictOf f) where
   own-fault t e r q = q ∙ ap refusedAs e ∙ sym (ap (λ (w : Verdict). asked w f x) (sym p ∙ e))
 
   module _ (e : v ≡ verdict.Accepted) where
-    -- an accepted file has a layout
-    pub never-faulty : (s : Shape) → s ≡ shapeOf f → (m : Mark) → s ≡ Faulty m → ⊥
-    never-faulty s q m k =
-        let o = verdict-obeys f (sym p ∙ e) in
-        let h = (accepted-iff (layoutFacts f (layoutOf f))) .1 ((layout-obeyed f (layoutOf f)) .1 (o .layout)) in
-        never m (sym (faulty-judged f s q m k) ∙ judge-first (layoutFacts f (layoutOf f)) ∙ h)
+    -- its layout is whole records, with the numbers of a file
+    pub accepted-regions : (l : Layout) → l ≡ layoutOf f → Regions f l
+    accepted-regions l i = subst⁻¹ (Regions f) i (regions f (verdict-obeys f (sym p ∙ e) .layout))
+
+    pub accepted-bounded : (l : Layout) → l ≡ layoutOf f → Bounded l
+    accepted-bounded l i = regions-bounded f l (accepted-regions l i) (verdict-obeys f (sym p ∙ e) .most)
 
     module _ (l : Layout) (i : l ≡ layoutOf f) (b : Bool) (q : b ≡ test (isStart f l x)) where
       started : test (isStart f (layoutOf f) x) ≡ b

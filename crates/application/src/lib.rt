@@ -12,6 +12,7 @@ use layout::Layout;
 use layout::Shape;
 use layout::find_layout;
 use layout::kind_at;
+use layout::layout_of;
 use links::check_returns;
 use links::check_targets;
 use records::Record;
@@ -118,10 +119,7 @@ pub fn record_at(f: &[u8], offset: usize) -> RecordAnswer
     let Verdict::Accepted = v else {
         return refused(v);
     };
-    let shape = find_layout(f);
-    let Shape::Found(l) = shape else {
-        return out_of_range();
-    };
+    let l = layout_of(f);
     if !starts_record(f, l, offset) {
         return out_of_range();
     }

@@ -1,11 +1,11 @@
 // The agreement of X.2: 7 in 01's table.
 ghost use mathlib.Core.Path.{_≡_};
-ghost use mathlib.Core.List.{[], _∷_, flatMap};
+ghost use mathlib.Core.List.{[], _∷_};
 ghost use Prim.Native.Nat.{_≤_, _<_};
 ghost use Rattle.verdict.specs.Facts.{judge};
 ghost use Rattle.layout.specs.Bounds.{countMost, placeMost, Bounded, ifBounded};
-ghost use Rattle.layout.specs.Records.{starts};
-ghost use Rattle.fields.specs.Agreement.{entriesAgree, placeInCount, kindAgrees, recordAgrees, agreementFacts};
+ghost use Rattle.layout.specs.Records.{eachRecord};
+ghost use Rattle.fields.specs.Agreement.{entriesAgree, placeInCount, kindAgrees, agreementFacts};
 use layout::ENTRY_SIZE;
 use layout::ENTRY_TRACK;
 use layout::Layout;
@@ -80,7 +80,7 @@ fn kind_agrees(f: &[u8], k: Kind, at: usize, v: Judged) -> Judged
 // Every record.
 fn records_agree(f: &[u8], l: Layout, v: Judged) -> Judged
     requires { ⌜ Bounded l ⌝ }
-    ensures { λ r. ⌜ r ≡ judge v (flatMap (recordAgrees (now (f .entry)) l) (starts (now (f .entry)) l)) ⌝ }
+    ensures { λ r. ⌜ r ≡ judge v (eachRecord (now (f .entry)) l (kindAgrees (now (f .entry)))) ⌝ }
 {
     let stop = l.stop;
     let mut w = v;

@@ -1,10 +1,9 @@
 // The fields of X.2: 5 in 01's table.
 ghost use mathlib.Core.Path.{_≡_};
-ghost use mathlib.Core.List.{flatMap};
 ghost use Rattle.verdict.specs.Facts.{judge};
 ghost use Rattle.layout.specs.Bounds.{Bounded, ifBounded};
-ghost use Rattle.layout.specs.Records.{starts};
-ghost use Rattle.fields.specs.Fields.{recordFields, fieldFacts};
+ghost use Rattle.layout.specs.Records.{eachRecord};
+ghost use Rattle.fields.specs.Fields.{kindFields, fieldFacts};
 use crate::header::entries_fields;
 use crate::header::header_fields;
 use crate::kinds::kind_fields;
@@ -19,7 +18,7 @@ use verdict::Judged;
 // The fields of every record.
 fn records_fields(f: &[u8], l: Layout, v: Judged) -> Judged
     requires { ⌜ Bounded l ⌝ }
-    ensures { λ r. ⌜ r ≡ judge v (flatMap (recordFields (now (f .entry)) l) (starts (now (f .entry)) l)) ⌝ }
+    ensures { λ r. ⌜ r ≡ judge v (eachRecord (now (f .entry)) l (kindFields (now (f .entry)))) ⌝ }
 {
     let stop = l.stop;
     let mut w = v;

@@ -7,3 +7,7 @@ pub mod Regions
 pub mod Bounds
 pub mod Starts
 pub mod Shapes
+pub mod Walking
+pub mod Ends
+pub mod Grouped
+pub mod Loops

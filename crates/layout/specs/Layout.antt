@@ -94,4 +94,4 @@ pub record Small (l : Layout) : Type 0 where
   pub middle : l .middle < 8000
   pub least : boundarySize ≤ l .bounds
   pub bounds : l .bounds < 8000
-  pub balises : l .balises < 2 ^ 63
+  pub stop : l .stop < 2 ^ 63

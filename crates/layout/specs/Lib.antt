@@ -1,5 +1,6 @@
 pub mod Places
 pub mod Layout
+pub mod Groups
 pub mod Facts
 pub mod Records
 pub mod Obeys

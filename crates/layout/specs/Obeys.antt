@@ -3,24 +3,16 @@
 use Prim.Native.Nat.{ℕ, _+_, _-_, _*_, _%_, _≤_, _<_}
 use mathlib.Core.Path.{_≡_}
 use mathlib.Core.Logic.{_⊎_}
-use mathlib.Core.List.{List, List·Memᴰ}
+use mathlib.Core.List.{List, [], _∷_, List·Memᴰ}
 use Rattle.octets.specs.Octets.{numAt}
 use Rattle.verdict.specs.Walk.{startsFrom}
-use Rattle.records.specs.Places.{boundarySize, turnoutSize, baliseSize, baliseSizeByte, signalSize, jointSize, sidingSize}
+use Rattle.records.specs.Places.{boundarySize, baliseSize, baliseSizeByte}
 use Rattle.layout.specs.declared.Layout.{Layout}
-use Rattle.layout.specs.Places.{startCountAt, entryOffset, entrySize, startEntriesAt, endCountAt, endEntriesAt, turnoutsField, balisesField, signalsField, jointsField, sidingsField, sizeLeast, sizeMost}
-use Rattle.layout.specs.Facts.{baliseBytes, fieldOf}
-
--- a nonzero group starts where what is before it ends, its end is above its start and not over End
-pub record GroupObeys (off before until stop : ℕ) : Type 0 where
-  pub due : off ≡ before
-  pub above : off < until
-  pub inside : until ≤ stop
-
--- and, for fixed sizes, it is whole records
-pub record FixedObeys (off before until stop size : ℕ) : Type 0 where
-  pub group : GroupObeys off before until stop
-  pub whole : (until - off) % size ≡ 0
+use Rattle.layout.specs.declared.Made.{Made}
+use Rattle.layout.specs.declared.Made.the-variants.{Fixed, Balises}
+use Rattle.layout.specs.Places.{startCountAt, entryOffset, entrySize, startEntriesAt, endCountAt, endEntriesAt, sizeLeast, sizeMost}
+use Rattle.layout.specs.Groups.{Group, groupStart, baliseBytes}
+use Rattle.layout.specs.Facts.{groupsIn}
 
 -- a balise has 16 bytes left of its group, its size byte is 16 or 18 to 120, and it is not too large for the rest
 pub record BaliseObeys (f : List ℕ) (until at : ℕ) : Type 0 where
@@ -28,14 +20,21 @@ pub record BaliseObeys (f : List ℕ) (until at : ℕ) : Type 0 where
   pub size : (numAt 1 f (at + baliseSizeByte) ≡ baliseSize) ⊎ ((sizeLeast ≤ numAt 1 f (at + baliseSizeByte)) × (numAt 1 f (at + baliseSizeByte) ≤ sizeMost))
   pub rest : at + numAt 1 f (at + baliseSizeByte) ≤ until
 
--- and each balise of the group, one after the other, is so
-pub record BalisesObey (f : List ℕ) (off before until stop : ℕ) : Type 0 where
-  pub group : GroupObeys off before until stop
-  pub each : (at : ℕ) → List·Memᴰ at (startsFrom (baliseBytes f) until off) → BaliseObeys f until at
+-- ---- the same with no search and no test
 
--- the offset of a group
-abbrev pub offsetIn : List ℕ → Layout → ℕ → ℕ
-offsetIn f l field = numAt 2 f (fieldOf l field)
+-- whole records stand from a to b
+unfoldable pub MadeOf : List ℕ → ℕ → ℕ → Made → Type 0
+MadeOf f a b (Fixed size) = (b - a) % size ≡ 0
+MadeOf f a b Balises = (at : ℕ) → List·Memᴰ at (startsFrom (baliseBytes f) b a) → BaliseObeys f b at
+
+-- from `due` to End there is nothing but the groups: none is left and `due` is End; or the next one is empty; or it stands from `due` to
+-- somewhere, as whole records, and the others from there
+pub data Grouped (f : List ℕ) (end : ℕ) : ℕ → List Group → Type 0 where
+  none : Grouped f end end []
+  empty : {due : ℕ} {g : Group} {gs : List Group} → groupStart f g ≡ 0 → Grouped f end due gs → Grouped f end due (g ∷ gs)
+  there :
+      {due : ℕ} {g : Group} {gs : List Group} (until : ℕ)
+      → (due ≡ 0 → ⊥) → groupStart f g ≡ due → due < until → MadeOf f due until (g .made) → Grouped f end until gs → Grouped f end due (g ∷ gs)
 
 pub record LayoutObeys (f : List ℕ) (l : Layout) : Type 0 where
   -- n is not 0, and 24 + 3n is below End
@@ -47,13 +46,5 @@ pub record LayoutObeys (f : List ℕ) (l : Layout) : Type 0 where
   -- each boundary offset is where due: the start boundaries stand behind the header, the end boundaries behind those
   pub start-offsets : (i : ℕ) → i < l .starts → numAt 2 f (startEntriesAt + entrySize * i + entryOffset) ≡ l .header + boundarySize * i
   pub end-offsets : (j : ℕ) → j < l .ends → numAt 2 f (endEntriesAt (l .starts) + entrySize * j + entryOffset) ≡ l .middle + boundarySize * j
-  -- each nonzero group, in field order
-  pub turnouts : (offsetIn f l turnoutsField ≡ 0 → ⊥) → FixedObeys (offsetIn f l turnoutsField) (l .bounds) (l .turnouts) (l .stop) turnoutSize
-  pub balises : (offsetIn f l balisesField ≡ 0 → ⊥) → BalisesObey f (offsetIn f l balisesField) (l .turnouts) (l .balises) (l .stop)
-  pub signals : (offsetIn f l signalsField ≡ 0 → ⊥) → FixedObeys (offsetIn f l signalsField) (l .balises) (l .signals) (l .stop) signalSize
-  pub joints : (offsetIn f l jointsField ≡ 0 → ⊥) → FixedObeys (offsetIn f l jointsField) (l .signals) (l .joints) (l .stop) jointSize
-  pub sidings : (offsetIn f l sidingsField ≡ 0 → ⊥) → FixedObeys (offsetIn f l sidingsField) (l .joints) (l .stop) (l .stop) sidingSize
-  -- with no group at all, the boundaries end at End
-  pub no-group :
-      offsetIn f l turnoutsField ≡ 0 → offsetIn f l balisesField ≡ 0 → offsetIn f l signalsField ≡ 0 → offsetIn f l jointsField ≡ 0 → offsetIn f l sidingsField ≡ 0
-      → l .bounds ≡ l .stop
+  -- from there to End there is nothing but the groups
+  pub groups : Grouped f (l .stop) (l .bounds) (groupsIn l)

@@ -4,9 +4,9 @@
 use Prim.Native.Nat.{ℕ, _≤_, _<_}
 use mathlib.Core.Path.{_≡_}
 use mathlib.Core.Bool.{cond}
-use mathlib.Core.List.{List}
+use mathlib.Core.List.{List, flatMap}
 use lib.Dec.{ltb}
-use Rattle.verdict.specs.Facts.{Claim, same, some}
+use Rattle.verdict.specs.Facts.{Claim, same, some, Fact}
 use Rattle.verdict.specs.Walk.{startsFrom}
 use Rattle.records.specs.declared.Kind.{Kind}
 use Rattle.records.specs.declared.Kind.the-variants.{StartBoundary, EndBoundary, Turnout, Balise, Signal, Joint, Siding}
@@ -46,6 +46,10 @@ sizeAt f l at = sizeOf f (kindAt l at) at
 -- the starts of all records
 abbrev pub starts : List ℕ → Layout → List ℕ
 starts f l = startsFrom (sizeAt f l) (l .stop) (l .header)
+
+-- the facts of each record in turn, by its kind
+abbrev pub eachRecord : List ℕ → Layout → (Kind → ℕ → List Fact) → List Fact
+eachRecord f l facts = flatMap (λ at. facts (kindAt l at) at) (starts f l)
 
 -- a record starts at x
 unfoldable pub isStart : List ℕ → Layout → ℕ → Claim

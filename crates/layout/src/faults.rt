@@ -3,23 +3,20 @@ ghost use mathlib.Core.Path.{_≡_};
 ghost use mathlib.Core.List.{[], _∷_};
 ghost use Prim.Native.Nat.{_^_, _<_};
 ghost use Rattle.verdict.specs.Facts.{judge};
-ghost use Rattle.layout.specs.Places.{groupsAt};
 ghost use Rattle.layout.specs.Layout.{Small};
-ghost use Rattle.layout.specs.Facts.{countLayout, offsetsLayout, groupLayout, fixedLayout, sizeByte, baliseLayout, walkLayout, balisesLayout, groupsLayout, noneLayout, layoutFacts, shapeOf};
-use crate::BALISES;
+ghost use Rattle.layout.specs.Facts.{countLayout, offsetsLayout, layoutFacts, shapeOf};
+ghost use Rattle.layout.specs.Groups.{groupLayout, sizeByte, baliseLayout, walkLayout};
 use crate::ENTRY_OFFSET;
 use crate::ENTRY_SIZE;
-use crate::JOINTS;
+use crate::Grouping;
 use crate::Layout;
-use crate::SIDINGS;
-use crate::SIGNALS;
 use crate::SIZE_LEAST;
 use crate::SIZE_MOST;
 use crate::START_COUNT;
 use crate::START_ENTRIES;
 use crate::Shape;
-use crate::TURNOUTS;
-use crate::numbers::apart;
+use crate::YARD_GROUPS;
+use crate::groups::check_groups;
 use crate::numbers::layout_of;
 use crate::stream::balise_bytes;
 use octets::Width;
@@ -27,15 +24,9 @@ use octets::byte_at;
 use octets::u16_at;
 use records::Balise;
 use records::Boundary;
-use records::Joint;
-use records::Siding;
-use records::Signal;
-use records::Turnout;
 use rules::between;
-use rules::ends_at;
 use rules::fits;
 use rules::is_number;
-use rules::whole;
 use verdict::Judged;
 use verdict::Mark;
 use verdict::Reason;
@@ -78,7 +69,7 @@ fn offsets_layout(f: &[u8], entries: usize, due: usize, count: usize, v: Judged)
 }
 
 // A nonzero group, with its offset at a field: it starts where what is before it ends, its end is above its start and not over End.
-fn group_layout(
+pub fn group_layout(
     f: &[u8],
     field: usize,
     before: usize,
@@ -92,26 +83,6 @@ fn group_layout(
     let v1 = is_number(v, f, Reason::Layout, 0, field, Width::Two, before);
     let v2 = fits(v1, 0, field, 2, off + 1, until);
     fits(v2, 0, field, 2, until, stop)
-}
-
-// A group of records of one size: if it is not empty, it is right and whole records.
-fn fixed_layout(
-    f: &[u8],
-    field: usize,
-    before: usize,
-    until: usize,
-    stop: usize,
-    size: usize,
-    v: Judged,
-) -> Judged
-    ensures { λ r. ⌜ r ≡ judge v (fixedLayout (now (f .entry)) field before until stop size) ⌝ }
-{
-    let off = u16_at(f, field);
-    if off == 0 {
-        return v;
-    }
-    let w = group_layout(f, field, before, until, stop, v);
-    whole(w, 0, field, 2, apart(until, off), size)
 }
 
 // The size byte of the balise at a place is 16, or 18 to 120.
@@ -149,7 +120,7 @@ fn balise_layout(f: &[u8], until: usize, at: usize, v: Judged) -> Judged
 }
 
 // The balises of a group, one after the other.
-fn walk_layout(f: &[u8], from: usize, until: usize, v: Judged) -> Judged
+pub fn walk_layout(f: &[u8], from: usize, until: usize, v: Judged) -> Judged
     requires { ⌜ until < 2 ^ 63 ⌝ }
     ensures { λ r. ⌜ r ≡ judge v (walkLayout (now (f .entry)) from until) ⌝ }
 {
@@ -162,82 +133,6 @@ fn walk_layout(f: &[u8], from: usize, until: usize, v: Judged) -> Judged
     w
 }
 
-// The balise group: if it is not empty, it is right and each balise of it.
-fn balises_layout(
-    f: &[u8],
-    field: usize,
-    before: usize,
-    until: usize,
-    stop: usize,
-    v: Judged,
-) -> Judged
-    requires { ⌜ until < 2 ^ 63 ⌝ }
-    ensures { λ r. ⌜ r ≡ judge v (balisesLayout (now (f .entry)) field before until stop) ⌝ }
-{
-    let off = u16_at(f, field);
-    if off == 0 {
-        return v;
-    }
-    let w = group_layout(f, field, before, until, stop, v);
-    walk_layout(f, off, until, w)
-}
-
-// The five groups in field order. `groups` is where their offsets stand.
-fn groups_layout(f: &[u8], l: Layout, groups: usize, v: Judged) -> Judged
-    requires { ⌜ Small l × (groups ≡ groupsAt (l .starts) (l .ends)) ⌝ }
-    ensures { λ r. ⌜ r ≡ judge v (groupsLayout (now (f .entry)) l) ⌝ }
-{
-    let stop = l.stop;
-    let v1 = fixed_layout(
-        f,
-        groups + TURNOUTS,
-        l.bounds,
-        l.turnouts,
-        stop,
-        Turnout::SIZE,
-        v,
-    );
-    let v2 = balises_layout(f, groups + BALISES, l.turnouts, l.balises, stop, v1);
-    let v3 = fixed_layout(
-        f,
-        groups + SIGNALS,
-        l.balises,
-        l.signals,
-        stop,
-        Signal::SIZE,
-        v2,
-    );
-    let v4 = fixed_layout(
-        f,
-        groups + JOINTS,
-        l.signals,
-        l.joints,
-        stop,
-        Joint::SIZE,
-        v3,
-    );
-    fixed_layout(f, groups + SIDINGS, l.joints, stop, stop, Siding::SIZE, v4)
-}
-
-// With no group at all, the boundaries end at End.
-fn none_layout(f: &[u8], l: Layout, groups: usize, v: Judged) -> Judged
-    requires { ⌜ Small l × (groups ≡ groupsAt (l .starts) (l .ends)) ⌝ }
-    ensures { λ r. ⌜ r ≡ judge v (noneLayout (now (f .entry)) l) ⌝ }
-{
-    let turnouts = u16_at(f, groups + TURNOUTS);
-    let balises = u16_at(f, groups + BALISES);
-    let signals = u16_at(f, groups + SIGNALS);
-    let joints = u16_at(f, groups + JOINTS);
-    let sidings = u16_at(f, groups + SIDINGS);
-    let none = (turnouts == 0)
-        & ((balises == 0) & ((signals == 0) & ((joints == 0) & (sidings == 0))));
-    if none {
-        ends_at(v, l.bounds - Boundary::SIZE, l.bounds, l.stop)
-    } else {
-        v
-    }
-}
-
 // The verdict so far, then the layout.
 fn check_layout(f: &[u8], l: Layout, v: Judged) -> Judged
     requires { ⌜ Small l ⌝ }
@@ -248,8 +143,17 @@ fn check_layout(f: &[u8], l: Layout, v: Judged) -> Judged
     let v1 = counts_layout(f, l, v);
     let v2 = offsets_layout(f, START_ENTRIES, l.header, l.starts, v1);
     let v3 = offsets_layout(f, end_entries, l.middle, l.ends, v2);
-    let v4 = groups_layout(f, l, groups, v3);
-    none_layout(f, l, groups, v4)
+    let last = l.bounds - Boundary::SIZE;
+    check_groups(
+        f,
+        Grouping::Yard,
+        groups,
+        YARD_GROUPS,
+        last,
+        l.bounds,
+        l.stop,
+        v3,
+    )
 }
 
 // The layout of a file, or its first fault.

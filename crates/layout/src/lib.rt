@@ -4,11 +4,13 @@ use seal::MOST_LENGTH;
 use verdict::Mark;
 
 mod faults;
+mod groups;
 mod numbers;
 mod stream;
 
 pub use faults::find_layout;
 pub use numbers::is_bounded;
+pub use numbers::layout_of;
 pub use stream::kind_at;
 pub use stream::size_of;
 
@@ -32,6 +34,18 @@ pub struct Layout {
 pub enum Shape {
     Found(Layout),
     Faulty(Mark),
+}
+
+// What the records of a group are: of one size, or balises, each of its own size.
+pub enum Made {
+    Fixed(usize),
+    Balises,
+}
+
+// Whose groups they are: X.2's five, or X.3's, all of elements.
+pub enum Grouping {
+    Yard,
+    Elements,
 }
 
 // Table 5: where each field of the header stands, behind those that both files have alike.
@@ -60,6 +74,13 @@ pub const JOINTS: usize = 6;
 pub const SIDINGS: usize = 8;
 
 pub const GROUPS_SIZE: usize = 10;
+
+pub const YARD_GROUPS: usize = 5;
+
+// The size of a group's offset, and of an element of X.3.
+pub const OFFSET_SIZE: usize = 2;
+
+pub const ELEMENT_SIZE: usize = 14;
 
 // The greatest count, which stands in one byte, and the greatest place of a file.
 pub const COUNT_MOST: usize = 255;

@@ -39,7 +39,7 @@ pub fn apart(to: usize, from: usize) -> usize
 }
 
 // The offset of the group whose field is at a place, and where the group is empty the next one's.
-fn or_next(f: &[u8], field: usize, next: usize) -> usize
+pub fn or_next(f: &[u8], field: usize, next: usize) -> usize
     requires { ⌜ next < 2 ^ 63 ⌝ }
     ensures { λ r. ⌜ r ≡ orNext (numAt 2 (now (f .entry)) field) next ⌝ }
     ensures { λ r. ⌜ r < 2 ^ 63 ⌝ }
@@ -49,7 +49,7 @@ fn or_next(f: &[u8], field: usize, next: usize) -> usize
 }
 
 // Where the group ends whose field is at a place: an empty one where what is before it ends.
-fn group_end(f: &[u8], field: usize, before: usize, next: usize) -> usize
+pub fn group_end(f: &[u8], field: usize, before: usize, next: usize) -> usize
     requires { ⌜ (before < 2 ^ 63) × (next < 2 ^ 63) ⌝ }
     ensures { λ r. ⌜ r ≡ groupEnd (numAt 2 (now (f .entry)) field) before next ⌝ }
     ensures { λ r. ⌜ r < 2 ^ 63 ⌝ }

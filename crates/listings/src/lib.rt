@@ -9,9 +9,9 @@ ghost use Rattle.routes.specs.Answered.{numberIn};
 ghost use Rattle.yard.specs.Routes.{routesOf};
 use layout::ENTRY_OFFSET;
 use layout::ENTRY_SIZE;
-use layout::START_COUNT;
+use layout::Layout;
 use layout::START_ENTRIES;
-use octets::byte_at;
+use layout::layout_of;
 use octets::least;
 use octets::u16_at;
 use routes::RoutesAnswer;
@@ -101,11 +101,11 @@ pub fn routes(f: &[u8], start: usize, limit: usize, budget: usize, room: usize) 
 }
 
 // The routes from a start boundary, or why they are refused.
-fn start_lines(f: &[u8], start: usize) {
+fn start_lines(f: &[u8], l: Layout, start: usize) {
     write(b"from ");
     write_number(start);
     let mut bytes = [0u8; LIST_BYTES];
-    let answer = yard::routes(f, start, LIST_LIMIT, LIST_BUDGET, &mut bytes);
+    let answer = routes::list(f, l, start, LIST_LIMIT, LIST_BUDGET, &mut bytes);
     match answer {
         RoutesAnswer::Listed(t) => {
             write(b" routes ");
@@ -131,9 +131,14 @@ pub fn list(f: &[u8]) -> usize
     let Verdict::Accepted = v else {
         return number;
     };
-    let n = byte_at(f, START_COUNT);
+    let l = layout_of(f);
+    let n = l.starts;
     for i in 0..n {
-        start_lines(f, u16_at(f, START_ENTRIES + ENTRY_SIZE * i + ENTRY_OFFSET));
+        start_lines(
+            f,
+            l,
+            u16_at(f, START_ENTRIES + ENTRY_SIZE * i + ENTRY_OFFSET),
+        );
     }
     number
 }

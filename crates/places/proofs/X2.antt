@@ -2,27 +2,32 @@
 -- place 0. In another every place is in the header, whose two counts are at most 255 by the first facts of the layout, or is where the
 -- boundaries end, or stands in a record, which starts before End.
 -- Assumes nothing.
-use Prim.Native.Nat.{ℕ, _+_, _-_, _≤_, _<_}
+use Prim.Native.Nat.{ℕ, suc, zero, _+_, _-_, _*_, _≤_, _<_}
 use mathlib.Core.Path.{_≡_, refl}
 use mathlib.Core.List.{List, [], _∷_, _++_, flatMap}
 use lib.Dec.{ltb, eqb}
 use lib.ListN.{length}
 use native.Mathlib.Omega.{arith}
 use Rattle.octets.specs.Octets.{numAt}
-use Rattle.rules.specs.Rules.{whole, endsAt}
-use Rattle.verdict.specs.Facts.{test, AllHold, Fact}
+use Rattle.verdict.specs.Facts.{AllHold, Fact}
 use Rattle.verdict.specs.Reasons.{placeIn}
 use Rattle.verdict.specs.Walk.{startsFrom}
 use Rattle.seal.specs.Seal.{mostLength, sealFacts}
 use Rattle.records.specs.declared.Kind.{Kind}
 use Rattle.records.specs.declared.Kind.the-variants as kind
-use Rattle.records.specs.Places.{boundarySize, turnoutSize, baliseSize, baliseMessage, signalSize, jointSize, sidingSize}
+use Rattle.records.specs.Places.{boundarySize, baliseSize, baliseMessage}
 use Rattle.layout.specs.declared.Layout.{Layout}
-use Rattle.layout.specs.Places.{startCountAt, startEntriesAt, endCountAt, endEntriesAt, groupsAt, turnoutsField, balisesField, signalsField, jointsField, sidingsField}
-use Rattle.layout.specs.Layout.{layoutOf}
+use Rattle.layout.specs.Places.{startCountAt, startEntriesAt, endCountAt, endEntriesAt, groupsAt}
+use Rattle.layout.specs.Layout.{groupEnd, layoutOf}
 use Rattle.layout.specs.Bounds.{countMost}
-use Rattle.layout.specs.Facts.{countLayout, indexes, offsetLayout, offsetsLayout, groupLayout, fixedLayout, baliseBytes, baliseLayout, walkLayout, balisesLayout, fieldOf, groupsLayout, noGroup, noneLayout, layoutFacts}
+use Rattle.layout.specs.declared.Made.{Made}
+use Rattle.layout.specs.declared.Made.the-variants.{Fixed, Balises}
+use Rattle.layout.specs.declared.Grouping.{Grouping}
+use Rattle.layout.specs.declared.Grouping.the-variants.{Yard}
+use Rattle.layout.specs.Groups.{madeOf, Group, group, groupStart, nextStart, groupLayout, baliseBytes, baliseLayout, walkLayout, madeFacts, oneGroup, groupFacts, groupsFrom, yardCount}
+use Rattle.layout.specs.Facts.{countLayout, indexes, offsetLayout, offsetsLayout, groupsIn, layoutFacts}
 use Rattle.layout.specs.Records.{kindAt, sizeAt, starts}
+use Rattle.layout.proofs.Grouped.{one-inside}
 use Rattle.layout.proofs.Obeys.{layout-obeyed}
 use Rattle.layout.proofs.Walks.{starts-between, index-iff}
 use Rattle.fields.specs.Fields.{headerFields, entryFields, entriesFields, sizeByteOf, lastByte, messageEnd, messageFields, fixedFields, kindFields, recordFields, fieldFacts}
@@ -32,29 +37,35 @@ use Rattle.application.specs.Facts.{fileType, recordFacts, checkFacts, facts, v
 use Rattle.places.specs.Places.{placeOver, PlacesBelow}
 use Rattle.places.proofs.Lists.{below-append, below-both, below-each, below-if, fault-below}
 
--- ---- a group of the layout, whose offset is at `field`
+-- ---- the groups of the layout, whose offsets stand in the header
 
-module _ (f : List ℕ) (field before until stop : ℕ) (near : field < placeOver) where
-  fixed-below : (size : ℕ) → PlacesBelow placeOver (fixedLayout f field before until stop size)
-  unfolding fixedLayout
-  fixed-below size =
-      let group = groupLayout f field before until stop ++ (whole 0 field 2 (until - numAt 2 f field) size ∷ []) in
-      below-if placeOver (eqb (numAt 2 f field) 0) [] group tt (omega arith)
-
-  -- each balise of the group starts before the group's end, which is not over End
-  walk-below : until ≤ mostLength → PlacesBelow placeOver (walkLayout f (numAt 2 f field) until)
-  unfolding walkLayout
-  walk-below inside =
+module _ (f : List ℕ) (last end : ℕ) (most : end ≤ mostLength) where
+  -- each balise of a group starts before the group's end, which is not over End
+  made-below : (field until : ℕ) → field < placeOver → until ≤ mostLength → (m : Made) → PlacesBelow placeOver (madeFacts f field until m)
+  unfolding madeFacts walkLayout
+  made-below field until near inside (Fixed size) = omega arith
+  made-below field until near inside Balises =
       below-each placeOver (baliseLayout f until) (startsFrom (baliseBytes f) until (numAt 2 f field)) (λ at m.
       let before = (starts-between (baliseBytes f) until at (numAt 2 f field) m) .below in
       omega arith)
 
-  balises-below : stop ≤ mostLength → PlacesBelow placeOver (balisesLayout f field before until stop)
-  unfolding balisesLayout AllHold
-  balises-below most =
-      let group = groupLayout f field before until stop in
-      let walked = walkLayout f (numAt 2 f field) until in
-      below-if placeOver (eqb (numAt 2 f field) 0) [] (group ++ walked) tt (below-append placeOver group walked (omega arith) (λ h. walk-below (omega (arith, h .1 .1 .0))))
+  one-below : (due until : ℕ) (g : Group) → g .field < placeOver → PlacesBelow placeOver (oneGroup f end due until g)
+  unfolding oneGroup AllHold
+  one-below due until g near =
+      let group = groupLayout f (g .field) due until end in
+      let made = madeFacts f (g .field) until (g .made) in
+      below-if placeOver (eqb (groupStart f g) 0) [] (group ++ made) tt
+      (below-append placeOver group made (omega arith) (λ h. made-below (g .field) until near (omega (arith, h .1 .1 .0)) (g .made)))
+
+  groups-below : (file : Grouping) (base n i due : ℕ) → base + 2 * (i + n) < placeOver → due ≤ mostLength → PlacesBelow placeOver (groupFacts f last end due (groupsFrom file base n i))
+  unfolding groupFacts groupsFrom
+  groups-below file base zero i due near before = omega arith
+  groups-below file base (suc n) i due near before =
+      let rest = groupsFrom file base n (i + 1) in
+      let g = group (base + 2 * i) (madeOf file i) in
+      let until = nextStart f end rest in
+      below-append placeOver (oneGroup f end due until g) (groupFacts f last end (groupEnd (groupStart f g) due until) rest) (one-below due until g (omega arith)) (λ h.
+      groups-below file base n (i + 1) (groupEnd (groupStart f g) due until) (omega arith) (one-inside f end due until g h mostLength before most))
 
 -- ---- a record of a kind, which starts before End
 
@@ -116,27 +127,7 @@ module _ (f : List ℕ) (l : Layout) (most : l .stop ≤ mostLength) where
   unfolding offsetsLayout
   offsets-below entries due count near small = entries-below (offsetLayout f entries due) count (λ i h. omega arith)
 
-  none-below : l .bounds ≤ l .stop → PlacesBelow placeOver (noneLayout f l)
-  unfolding noneLayout
-  none-below room =
-      below-if placeOver (test (noGroup f (groupsAt (l .starts) (l .ends)))) (endsAt (l .bounds - boundarySize) (l .bounds) (l .stop) ∷ []) [] (omega arith) tt
-
   module _ (few : l .starts ≤ countMost) (few′ : l .ends ≤ countMost) where
-    groups-below : PlacesBelow placeOver (groupsLayout f l)
-    unfolding groupsLayout
-    groups-below =
-        let ts = fixedLayout f (fieldOf l turnoutsField) (l .bounds) (l .turnouts) (l .stop) turnoutSize in
-        let bs = balisesLayout f (fieldOf l balisesField) (l .turnouts) (l .balises) (l .stop) in
-        let ss = fixedLayout f (fieldOf l signalsField) (l .balises) (l .signals) (l .stop) signalSize in
-        let js = fixedLayout f (fieldOf l jointsField) (l .signals) (l .joints) (l .stop) jointSize in
-        let ds = fixedLayout f (fieldOf l sidingsField) (l .joints) (l .stop) (l .stop) sidingSize in
-        let t = fixed-below f (fieldOf l turnoutsField) (l .bounds) (l .turnouts) (l .stop) (omega arith) turnoutSize in
-        let b = balises-below f (fieldOf l balisesField) (l .turnouts) (l .balises) (l .stop) (omega arith) most in
-        let s = fixed-below f (fieldOf l signalsField) (l .balises) (l .signals) (l .stop) (omega arith) signalSize in
-        let j = fixed-below f (fieldOf l jointsField) (l .signals) (l .joints) (l .stop) (omega arith) jointSize in
-        let d = fixed-below f (fieldOf l sidingsField) (l .joints) (l .stop) (l .stop) (omega arith) sidingSize in
-        below-both placeOver ts (bs ++ (ss ++ (js ++ ds))) t (below-both placeOver bs (ss ++ (js ++ ds)) b (below-both placeOver ss (js ++ ds) s (below-both placeOver js ds j d)))
-
     fields-below : PlacesBelow placeOver (fieldFacts f l)
     unfolding fieldFacts entriesFields
     fields-below =
@@ -174,13 +165,14 @@ module _ (f : List ℕ) (l : Layout) (most : l .stop ≤ mostLength) where
   layout-below is-n is-k =
       let one = offsetsLayout f startEntriesAt (l .header) (l .starts) in
       let two = offsetsLayout f (endEntriesAt (l .starts)) (l .middle) (l .ends) in
-      let rest = groupsLayout f l ++ noneLayout f l in
+      let rest = groupFacts f (l .bounds - boundarySize) (l .stop) (l .bounds) (groupsIn l) in
       below-append placeOver (countLayout f l) (one ++ (two ++ rest)) (omega arith) (λ count.
       let few : l .starts ≤ countMost = omega (arith, is-n, count .0) in
       let few′ : l .ends ≤ countMost = omega (arith, is-k, count .1 .1 .0) in
       let p = offsets-below startEntriesAt (l .header) (l .starts) (omega arith) few in
       let q = offsets-below (endEntriesAt (l .starts)) (l .middle) (l .ends) (omega arith) few′ in
-      let r = below-both placeOver (groupsLayout f l) (noneLayout f l) (groups-below few few′) (none-below (count .1 .1 .1 .0)) in
+      let room = count .1 .1 .1 .0 in
+      let r = groups-below f (l .bounds - boundarySize) (l .stop) most Yard (groupsAt (l .starts) (l .ends)) yardCount 0 (l .bounds) (omega arith) (omega arith) in
       below-both placeOver one (two ++ rest) p (below-both placeOver two rest q r))
 
 -- ---- the file

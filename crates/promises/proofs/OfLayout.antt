@@ -8,6 +8,8 @@ use Rattle.layout.proofs.is_bounded.Kinds as is-bounded-kinds
 use Rattle.layout.proofs.is_bounded.Reads as is-bounded-reads
 use Rattle.layout.proofs.kind_at.Kinds as kind-at-kinds
 use Rattle.layout.proofs.kind_at.Reads as kind-at-reads
+use Rattle.layout.proofs.layout_of.Kinds as layout-of-kinds
+use Rattle.layout.proofs.layout_of.Reads as layout-of-reads
 use Rattle.layout.proofs.size_of.Kinds as size-of-kinds
 use Rattle.layout.proofs.size_of.Reads as size-of-reads
 
@@ -22,3 +24,6 @@ kind-at-determined κs a = (tt, λ x y v w p q. (p ∙ sym q, refl))
 
 pub size-of-determined : Determined 1 size-of-kinds.ps size-of-kinds.r size-of-reads.Pre size-of-reads.Post
 size-of-determined κs a = (tt, λ x y v w p q. (p .is ∙ sym (q .is), refl))
+
+pub layout-of-determined : Determined 1 layout-of-kinds.ps layout-of-kinds.r layout-of-reads.Pre layout-of-reads.Post
+layout-of-determined κs a = (tt, λ x y v w p q. (p .0 ∙ sym (q .0), refl))

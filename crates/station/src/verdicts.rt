@@ -7,8 +7,7 @@ ghost use Rattle.geography.specs.Obeys.{Obeys};
 ghost use Rattle.station.specs.Pair.{sameStation, pairFacts, ofFirst, ofSecond, ofPair, pairOf};
 use crate::spots::records_pair;
 use layout::Layout;
-use layout::Shape;
-use layout::find_layout;
+use layout::layout_of;
 use octets::u16_at;
 use seal::STATION;
 use verdict::Fault;
@@ -87,9 +86,5 @@ pub fn pair_verdict(first: &[u8], second: &[u8]) -> PairVerdict
     let Verdict::Accepted = w else {
         return second_refused(w);
     };
-    let shape = find_layout(second);
-    let Shape::Found(l) = shape else {
-        return PairVerdict::Accepted;
-    };
-    shown(check_pair(first, second, l))
+    shown(check_pair(first, second, layout_of(second)))
 }

@@ -6,8 +6,7 @@ ghost use Rattle.walks.specs.Lent.{roomOf};
 ghost use Rattle.routes.specs.Answered.{refusedFor};
 ghost use Rattle.yard.specs.Routes.{refusedAs, routesOf, leftOf};
 use application::verdict_of;
-use layout::Shape;
-use layout::find_layout;
+use layout::layout_of;
 use routes::RoutesAnswer;
 use verdict::Fault;
 use verdict::Reason;
@@ -40,9 +39,6 @@ pub fn routes(f: &[u8], start: usize, limit: usize, budget: usize, out: &mut [u8
     let Verdict::Accepted = v else {
         return refused(v);
     };
-    let shape = find_layout(f);
-    let Shape::Found(l) = shape else {
-        return out_of_range();
-    };
+    let l = layout_of(f);
     routes::list(f, l, start, limit, budget, out)
 }

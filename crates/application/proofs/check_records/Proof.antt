@@ -5,28 +5,13 @@ use borrow.Author.Needs.{needs}
 use Rattle.application.proofs.check_records.Statement.{statement}
 use Rattle.application.proofs.check_records.Tie as tie
 
-check-fields-requires : tie.Need-check-fields-requires
-check-fields-requires c κs = search needs
-
 enum-told : tie.Need-enum-told
 enum-told c = search needs
-
-enum-told-2 : tie.Need-enum-told-2
-enum-told-2 c = search needs
 
 returns : tie.Need-returns
 returns c =
     let fields = c .before .before in
     fields-refused _ _ (fields .before .before .pre) _ (fields .check-fields .ensures) _ (c .enum-told2 .given .1)
-
-check-agreement-requires : tie.Need-check-agreement-requires
-check-agreement-requires c κs = search needs
-
-enum-told-3 : tie.Need-enum-told-3
-enum-told-3 c = search needs
-
-enum-told-4 : tie.Need-enum-told-4
-enum-told-4 c = search needs
 
 returns-2 : tie.Need-returns-2
 returns-2 c =
@@ -34,15 +19,6 @@ returns-2 c =
     let filled = agreement .before in
     let fields = filled .before .before in
     agreement-refused _ _ (fields .before .before .pre) _ (fields .check-fields .ensures) (filled .enum-told .given .1) _ (agreement .check-agreement .ensures) _ (c .enum-told4 .given .1)
-
-check-targets-requires : tie.Need-check-targets-requires
-check-targets-requires c κs = search needs
-
-enum-told-5 : tie.Need-enum-told-5
-enum-told-5 c = search needs
-
-enum-told-6 : tie.Need-enum-told-6
-enum-told-6 c = search needs
 
 returns-3 : tie.Need-returns-3
 returns-3 c =
@@ -53,9 +29,6 @@ returns-3 c =
     let fields = filled .before .before in
     targets-refused _ _ (fields .before .before .pre) _ (fields .check-fields .ensures) (filled .enum-told .given .1) _ (agreement .check-agreement .ensures) (agreed .enum-told3 .given .1) _
     (targets .check-targets .ensures) _ (c .enum-told6 .given .1)
-
-check-returns-requires : tie.Need-check-returns-requires
-check-returns-requires c κs = search needs
 
 returns-4 : tie.Need-returns-4
 returns-4 c =
@@ -72,17 +45,17 @@ pub check-records-spec : {M : Type 1} → statement M
 check-records-spec =
     tie.close
     (tie.spec
-    check-fields-requires
+    (λ c κs. search needs)
     enum-told
-    enum-told-2
+    (λ c. search needs)
     returns
-    check-agreement-requires
-    enum-told-3
-    enum-told-4
+    (λ c κs. search needs)
+    (λ c. search needs)
+    (λ c. search needs)
     returns-2
-    check-targets-requires
-    enum-told-5
-    enum-told-6
+    (λ c κs. search needs)
+    (λ c. search needs)
+    (λ c. search needs)
     returns-3
-    check-returns-requires
+    (λ c κs. search needs)
     returns-4)

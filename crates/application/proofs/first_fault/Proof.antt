@@ -8,41 +8,14 @@ use borrow.Author.Needs.{needs}
 use Rattle.application.proofs.first_fault.Statement.{statement}
 use Rattle.application.proofs.first_fault.Tie as tie
 
-length-between-requires : tie.Need-length-between-requires
-length-between-requires c κs = search needs
-
 enum-told : tie.Need-enum-told
 enum-told c = search needs
-
-enum-told-2 : tie.Need-enum-told-2
-enum-told-2 c = search needs
 
 returns : tie.Need-returns
 returns c = length-refused _ _ (c .before .before .length-between .ensures) _ (c .enum-told2 .given .1)
 
-check-seal-requires : tie.Need-check-seal-requires
-check-seal-requires c κs = search needs
-
-enum-told-3 : tie.Need-enum-told-3
-enum-told-3 c = search needs
-
-enum-told-4 : tie.Need-enum-told-4
-enum-told-4 c = search needs
-
 returns-2 : tie.Need-returns-2
 returns-2 c = seal-refused _ _ (c .before .before .before .before .before .length-between .ensures) (c .before .before .before .enum-told .given .1) _ (c .before .before .check-seal .ensures) _ (c .enum-told4 .given .1)
-
-find-layout-requires : tie.Need-find-layout-requires
-find-layout-requires c κs = search needs
-
-enum-known-shape : tie.Need-enum-known-shape
-enum-known-shape c = search needs
-
-enum-told-5 : tie.Need-enum-told-5
-enum-told-5 c = search needs
-
-laid-requires : tie.Need-laid-requires
-laid-requires c κs = search needs
 
 returns-3 : tie.Need-returns-3
 returns-3 c = layout-refused _ _ (c .before .before .before .before .before .before .before .before .before .length-between .ensures) (c .before .before .before .before .before .before .before .enum-told .given .1) _ (c .before .before .before .before .before .before .check-seal .ensures) (c .before .before .before .before .enum-told3 .given .1) _ (c .before .before .before .find-layout .ensures) _ (c .before .enum-told5 .given .1) _ (c .laid .ensures)
@@ -57,18 +30,18 @@ pub first-fault-spec : {M : Type 1} → statement M
 first-fault-spec =
     tie.close
     (tie.spec
-    length-between-requires
+    (λ c κs. search needs)
     enum-told
-    enum-told-2
+    (λ c. search needs)
     returns
-    check-seal-requires
-    enum-told-3
-    enum-told-4
+    (λ c κs. search needs)
+    (λ c. search needs)
+    (λ c. search needs)
     returns-2
-    find-layout-requires
-    enum-known-shape
-    enum-told-5
-    laid-requires
+    (λ c κs. search needs)
+    (λ c. search needs)
+    (λ c. search needs)
+    (λ c κs. search needs)
     returns-3
     check-records-requires
     returns-4)

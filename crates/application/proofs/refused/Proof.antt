@@ -6,15 +6,6 @@ use borrow.Author.Needs.{needs}
 use Rattle.application.proofs.refused.Statement.{statement}
 use Rattle.application.proofs.refused.Tie as tie
 
-enum-known-v : tie.Need-enum-known-v
-enum-known-v c = search needs
-
-enum-told : tie.Need-enum-told
-enum-told c = search needs
-
-out-of-range-requires : tie.Need-out-of-range-requires
-out-of-range-requires c κs = search needs
-
 returns : tie.Need-returns
 returns c = sym (ap refusedAs (c .before .v .given .1))
 
@@ -22,4 +13,10 @@ returns-2 : tie.Need-returns-2
 returns-2 c = c .out-of-range .ensures ∙ sym (ap refusedAs (c .before .enum-told .given .1))
 
 pub refused-spec : {M : Type 1} → statement M
-refused-spec = tie.close (tie.spec enum-known-v enum-told out-of-range-requires returns returns-2)
+refused-spec = tie.close
+    (tie.spec
+    (λ c. search needs)
+    (λ c. search needs)
+    (λ c κs. search needs)
+    returns
+    returns-2)

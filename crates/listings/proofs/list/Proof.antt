@@ -8,10 +8,10 @@ use Rattle.listings.proofs.list.Statement.{statement}
 use Rattle.listings.proofs.list.Tie as tie
 
 abbrev Inv-loop : tie.InvT-loop
-Inv-loop f number n i₀ i = Unit {0}
+Inv-loop f number l n i₀ i = Unit {0}
 
 abbrev μ-loop : tie.MeasureT-loop
-μ-loop f number n i₀ i = n - i
+μ-loop f number l n i₀ i = n - i
 
 verdict-of-requires : tie.Need-verdict-of-requires Inv-loop μ-loop
 verdict-of-requires c κs = search needs
@@ -37,8 +37,8 @@ enum-told-2 c = search needs
 returns : tie.Need-returns Inv-loop μ-loop
 returns c = c .before .before .before .before .before .number .ensures ∙ ap numberIn (c .before .before .before .before .before .before .verdict-of .ensures)
 
-byte-at-requires : tie.Need-byte-at-requires Inv-loop μ-loop
-byte-at-requires c κs = search needs
+layout-of-requires : tie.Need-layout-of-requires Inv-loop μ-loop
+layout-of-requires c κs = search needs
 
 loop-holds : tie.Need-loop-holds Inv-loop μ-loop
 loop-holds c = search needs
@@ -84,7 +84,7 @@ list-spec =
     enum-told
     enum-told-2
     returns
-    byte-at-requires
+    layout-of-requires
     loop-holds
     mul-u16-at
     add-u16-at

@@ -19,15 +19,6 @@ abbrev μ-loop : tie.MeasureT-loop
 loop-holds : tie.Need-loop-holds Inv-loop μ-loop
 loop-holds c = refl
 
-size-of-requires : tie.Need-size-of-requires Inv-loop μ-loop
-size-of-requires c κs = search needs
-
-add-at : tie.Need-add-at Inv-loop μ-loop
-add-at c = search needs
-
-loop-less : tie.Need-loop-less Inv-loop μ-loop
-loop-less c = search needs
-
 loop-again : tie.Need-loop-again Inv-loop μ-loop
 loop-again c =
     let a = c .before .before .before .before .args in
@@ -40,4 +31,13 @@ returns c =
     seek-stop (a .f .now) (a .x) (c .before .loop .at) (omega arith) ∙ c .before .loop .inv
 
 pub starts-balise-spec : {M : Type 1} → statement M
-starts-balise-spec = tie.close (tie.spec Inv-loop μ-loop loop-holds size-of-requires add-at loop-less loop-again returns)
+starts-balise-spec = tie.close
+    (tie.spec
+    Inv-loop
+    μ-loop
+    loop-holds
+    (λ c κs. search needs)
+    (λ c. search needs)
+    (λ c. search needs)
+    loop-again
+    returns)

@@ -23,9 +23,6 @@ returns-3 c =
     let s = c .before .before .before .before .before .before .before .before in
     found-turnout (s .args .f .now) (s .args .l) (s .pre) (s .args .x) (omega arith) (omega arith)
 
-starts-balise-requires : tie.Need-starts-balise-requires
-starts-balise-requires c κs = search needs
-
 returns-4 : tie.Need-returns-4
 returns-4 c =
     let s = c .before .before .before .before .before .before .before .before .before .before in
@@ -58,7 +55,7 @@ starts-record-spec =
     returns
     returns-2
     returns-3
-    starts-balise-requires
+    (λ c κs. search needs)
     returns-4
     returns-5
     returns-6

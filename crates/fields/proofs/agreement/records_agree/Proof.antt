@@ -1,69 +1,27 @@
--- `fields::agreement::records_agree` meets its contract. The invariant: the verdict so far, then the facts of the records from `at` on, is
--- the verdict before the loop and then the facts of all records.
+-- `fields::agreement::records_agree` meets its contract.
 -- Assumes nothing.
 use Prim.Native.Nat.{_-_}
-use mathlib.Core.Path.{_≡_, _∙_, refl, sym}
-use mathlib.Core.List.{flatMap}
-use Rattle.verdict.specs.Facts.{judge}
-use Rattle.verdict.specs.Walk.{startsFrom}
-use Rattle.verdict.proofs.Checks.{judge-step, judge-stop}
-use Rattle.layout.specs.Records.{sizeAt, starts}
-use Rattle.layout.proofs.Records.{sizeAt-pos}
-use Rattle.fields.specs.Agreement.{recordAgrees}
+use mathlib.Core.Path.{refl}
+use Rattle.layout.proofs.Walking.{Walking, walking-step, walking-stop}
+use Rattle.fields.specs.Agreement.{kindAgrees}
 use borrow.Author.Needs.{needs}
 use Rattle.fields.proofs.agreement.records_agree.Statement.{statement}
 use Rattle.fields.proofs.agreement.records_agree.Tie as tie
 
 abbrev Inv-loop : tie.InvT-loop
-Inv-loop f l stop w₀ at₀ w at =
-    judge w (flatMap (recordAgrees f l) (startsFrom (sizeAt f l) (l .stop) at)) ≡ judge w₀ (flatMap (recordAgrees f l) (starts f l))
+Inv-loop f l stop w₀ at₀ w at = Walking f l (kindAgrees f) w₀ w at
 
 abbrev μ-loop : tie.MeasureT-loop
 μ-loop f l stop w₀ at₀ w at = l .stop - at
 
-loop-holds : tie.Need-loop-holds Inv-loop μ-loop
-loop-holds c = refl
-
-kind-at-requires : tie.Need-kind-at-requires Inv-loop μ-loop
-kind-at-requires c κs = search needs
-
-kind-agrees-requires : tie.Need-kind-agrees-requires Inv-loop μ-loop
-kind-agrees-requires c κs = search needs
-
-size-of-requires : tie.Need-size-of-requires Inv-loop μ-loop
-size-of-requires c κs = search needs
-
-add-at : tie.Need-add-at Inv-loop μ-loop
-add-at c = search needs
-
-loop-less : tie.Need-loop-less Inv-loop μ-loop
-loop-less c = search needs
-
 loop-again : tie.Need-loop-again Inv-loop μ-loop
 loop-again c =
-    let a = c .before .before .before .before .before .before .args in
-    let h = c .before .before .before .before .loop in
-    let kind = c .before .before .kind-at .ensures in
-    judge-step (sizeAt (a .f .now) (a .l)) (a .l .stop) (recordAgrees (a .f .now) (a .l)) (sizeAt-pos (a .f .now) (a .l)) (h .w) _ (h .at) _ (c .before .before .before .loop-test .taken)
-    (simp (c .before .kind-agrees .ensures, kind)) (simp (c .size-of .ensures .is, kind))
-    ∙ h .inv
+    walking-step (c .before .before .before .before .loop .inv) (c .before .before .before .loop-test .taken) (c .before .before .kind-at .ensures) (c .before .kind-agrees .ensures) (c .size-of .ensures)
 
 returns : tie.Need-returns Inv-loop μ-loop
-returns c =
-    let a = c .before .before .before .args in
-    sym (judge-stop (sizeAt (a .f .now) (a .l)) (a .l .stop) (recordAgrees (a .f .now) (a .l)) _ _ (c .loop-test .left)) ∙ c .before .loop .inv
+returns c = walking-stop (c .before .loop .inv) (c .loop-test .left)
 
 pub records-agree-spec : {M : Type 1} → statement M
 records-agree-spec =
     tie.close
-    (tie.spec
-    Inv-loop
-    μ-loop
-    loop-holds
-    kind-at-requires
-    kind-agrees-requires
-    size-of-requires
-    add-at
-    loop-less
-    loop-again
-    returns)
+    (tie.spec Inv-loop μ-loop (λ c. record { so = refl }) (λ c κs. search needs) (λ c κs. search needs) (λ c κs. search needs) (λ c. search needs) (λ c. search needs) loop-again returns)

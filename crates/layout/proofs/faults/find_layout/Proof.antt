@@ -8,15 +8,6 @@ use Rattle.layout.proofs.faults.find_layout.Tie as tie
 layout-of-requires : tie.Need-layout-of-requires
 layout-of-requires c κs = search needs
 
-check-layout-requires : tie.Need-check-layout-requires
-check-layout-requires c κs = search needs
-
-enum-told : tie.Need-enum-told
-enum-told c = search needs
-
-enum-known-mark : tie.Need-enum-known-mark
-enum-known-mark c = search needs
-
 returns : tie.Need-returns
 returns c = is-found _ _ _ (c .before .before .before .layout-of .ensures .0) (c .before .before .check-layout .ensures) (c .enum-told .given .1)
 
@@ -26,4 +17,10 @@ returns-2 c = is-faulty _ _ _ (c .before .before .before .before .layout-of .ens
 pub find-layout-spec : {M : Type 1} → statement M
 find-layout-spec =
     tie.close
-    (tie.spec layout-of-requires check-layout-requires enum-told enum-known-mark returns returns-2)
+    (tie.spec
+    layout-of-requires
+    (λ c κs. search needs)
+    (λ c. search needs)
+    (λ c. search needs)
+    returns
+    returns-2)

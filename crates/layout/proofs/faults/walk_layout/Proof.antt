@@ -9,7 +9,7 @@ use borrow.Author.Needs.{needs}
 use Rattle.verdict.specs.Facts.{judge}
 use Rattle.verdict.specs.Walk.{startsFrom}
 use Rattle.verdict.proofs.Checks.{judge-step, judge-stop}
-use Rattle.layout.specs.Facts.{baliseBytes, baliseLayout, walkLayout}
+use Rattle.layout.specs.Groups.{baliseBytes, baliseLayout, walkLayout}
 use Rattle.layout.proofs.Records.{baliseBytes-pos}
 use Rattle.layout.proofs.faults.walk_layout.Statement.{statement}
 use Rattle.layout.proofs.faults.walk_layout.Tie as tie
@@ -24,18 +24,6 @@ abbrev μ-loop : tie.MeasureT-loop
 loop-holds : tie.Need-loop-holds Inv-loop μ-loop
 unfolding walkLayout
 loop-holds c = refl
-
-balise-layout-requires : tie.Need-balise-layout-requires Inv-loop μ-loop
-balise-layout-requires c κs = search needs
-
-balise-bytes-requires : tie.Need-balise-bytes-requires Inv-loop μ-loop
-balise-bytes-requires c κs = search needs
-
-add-at : tie.Need-add-at Inv-loop μ-loop
-add-at c = search needs
-
-loop-less : tie.Need-loop-less Inv-loop μ-loop
-loop-less c = search needs
 
 loop-again : tie.Need-loop-again Inv-loop μ-loop
 loop-again c =
@@ -52,4 +40,14 @@ returns c =
 
 pub walk-layout-spec : {M : Type 1} → statement M
 walk-layout-spec =
-    tie.close (tie.spec Inv-loop μ-loop loop-holds balise-layout-requires balise-bytes-requires add-at loop-less loop-again returns)
+    tie.close
+    (tie.spec
+    Inv-loop
+    μ-loop
+    loop-holds
+    (λ c κs. search needs)
+    (λ c κs. search needs)
+    (λ c. search needs)
+    (λ c. search needs)
+    loop-again
+    returns)

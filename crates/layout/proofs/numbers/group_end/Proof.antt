@@ -7,9 +7,6 @@ use borrow.Author.Needs.{needs}
 use Rattle.layout.proofs.numbers.group_end.Statement.{statement}
 use Rattle.layout.proofs.numbers.group_end.Tie as tie
 
-u16-at-requires : tie.Need-u16-at-requires
-u16-at-requires c κs = search needs
-
 returns : tie.Need-returns
 unfolding groupEnd
 returns c = (simp (← c .before .u16-at .ensures .is, eq-eqb _ _ (c .if1 .taken)), omega arith)
@@ -19,4 +16,8 @@ unfolding groupEnd
 returns-2 c = (simp (← c .before .u16-at .ensures .is, ne-eqb _ _ (c .if1 .left)), omega arith)
 
 pub group-end-spec : {M : Type 1} → statement M
-group-end-spec = tie.close (tie.spec u16-at-requires returns returns-2)
+group-end-spec = tie.close
+    (tie.spec
+    (λ c κs. search needs)
+    returns
+    returns-2)

@@ -7,9 +7,6 @@ use borrow.Author.Needs.{needs}
 use Rattle.layout.proofs.numbers.or_next.Statement.{statement}
 use Rattle.layout.proofs.numbers.or_next.Tie as tie
 
-u16-at-requires : tie.Need-u16-at-requires
-u16-at-requires c κs = search needs
-
 returns : tie.Need-returns
 unfolding orNext
 returns c = (simp (← c .before .u16-at .ensures .is, eq-eqb _ _ (c .if1 .taken)), omega arith)
@@ -19,4 +16,8 @@ unfolding orNext
 returns-2 c = (simp (← c .before .u16-at .ensures .is, ne-eqb _ _ (c .if1 .left)), omega arith)
 
 pub or-next-spec : {M : Type 1} → statement M
-or-next-spec = tie.close (tie.spec u16-at-requires returns returns-2)
+or-next-spec = tie.close
+    (tie.spec
+    (λ c κs. search needs)
+    returns
+    returns-2)

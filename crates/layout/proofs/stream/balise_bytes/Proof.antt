@@ -6,9 +6,6 @@ use borrow.Author.Needs.{needs}
 use Rattle.layout.proofs.stream.balise_bytes.Statement.{statement}
 use Rattle.layout.proofs.stream.balise_bytes.Tie as tie
 
-byte-behind-requires : tie.Need-byte-behind-requires
-byte-behind-requires c κs = search needs
-
 returns : tie.Need-returns
 unfolding baliseBytes
 returns c = omega (arith, c .before .byte-behind .ensures .is, c .before .byte-behind .ensures .below)
@@ -18,4 +15,8 @@ unfolding baliseBytes
 returns-2 c = omega (arith, c .before .byte-behind .ensures .is)
 
 pub balise-bytes-spec : {M : Type 1} → statement M
-balise-bytes-spec = tie.close (tie.spec byte-behind-requires returns returns-2)
+balise-bytes-spec = tie.close
+    (tie.spec
+    (λ c κs. search needs)
+    returns
+    returns-2)

@@ -4,11 +4,11 @@ use borrow.Author.Needs.{needs}
 use Rattle.links.proofs.marks.is_first.Statement.{statement}
 use Rattle.links.proofs.marks.is_first.Tie as tie
 
-byte-behind-requires : tie.Need-byte-behind-requires
-byte-behind-requires c κs = search needs
-
 returns : tie.Need-returns
 returns c = simp (c .byte-behind .ensures .is)
 
 pub is-first-spec : {M : Type 1} → statement M
-is-first-spec = tie.close (tie.spec byte-behind-requires returns)
+is-first-spec = tie.close
+    (tie.spec
+    (λ c κs. search needs)
+    returns)

@@ -16,27 +16,6 @@ abbrev μ-loop : tie.MeasureT-loop
 loop-holds : tie.Need-loop-holds Inv-loop μ-loop
 loop-holds c = let a = c .before .args in marking-none (a .f .now) (a .l) (a .marks .now) (c .before .pre .1) (c .before .pre .2)
 
-kind-at-requires : tie.Need-kind-at-requires Inv-loop μ-loop
-kind-at-requires c κs = search needs
-
-may-link-requires : tie.Need-may-link-requires Inv-loop μ-loop
-may-link-requires c κs = search needs
-
-mark-if-requires : tie.Need-mark-if-requires Inv-loop μ-loop
-mark-if-requires c κs = search needs
-
-element-write-marks : tie.Need-element-write-marks Inv-loop μ-loop
-element-write-marks c = search needs
-
-size-of-requires : tie.Need-size-of-requires Inv-loop μ-loop
-size-of-requires c κs = search needs
-
-add-at : tie.Need-add-at Inv-loop μ-loop
-add-at c = search needs
-
-loop-less : tie.Need-loop-less Inv-loop μ-loop
-loop-less c = search needs
-
 loop-again : tie.Need-loop-again Inv-loop μ-loop
 loop-again c =
     let a = c .before .before .before .before .before .before .before .args in
@@ -56,12 +35,12 @@ mark-targets-spec =
     Inv-loop
     μ-loop
     loop-holds
-    kind-at-requires
-    may-link-requires
-    mark-if-requires
-    element-write-marks
-    size-of-requires
-    add-at
-    loop-less
+    (λ c κs. search needs)
+    (λ c κs. search needs)
+    (λ c κs. search needs)
+    (λ c. search needs)
+    (λ c κs. search needs)
+    (λ c. search needs)
+    (λ c. search needs)
     loop-again
     returns)

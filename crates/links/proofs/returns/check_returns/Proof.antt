@@ -5,9 +5,6 @@ use borrow.Author.Needs.{needs}
 use Rattle.links.proofs.returns.check_returns.Statement.{statement}
 use Rattle.links.proofs.returns.check_returns.Tie as tie
 
-is-bounded-requires : tie.Need-is-bounded-requires
-is-bounded-requires c κs = search needs
-
 returns : tie.Need-returns
 returns c = none-judged _ _ (c .before .is-bounded .ensures) (c .if1 .taken) _ _
 
@@ -18,4 +15,9 @@ returns-2 : tie.Need-returns-2
 returns-2 c = all-judged _ _ (c .before .before .is-bounded .ensures) (c .before .if1 .left) _ _ _ (c .all-returns .ensures)
 
 pub check-returns-spec : {M : Type 1} → statement M
-check-returns-spec = tie.close (tie.spec is-bounded-requires returns all-returns-requires returns-2)
+check-returns-spec = tie.close
+    (tie.spec
+    (λ c κs. search needs)
+    returns
+    all-returns-requires
+    returns-2)

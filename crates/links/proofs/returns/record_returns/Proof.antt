@@ -4,69 +4,6 @@ use borrow.Author.Needs.{needs}
 use Rattle.links.proofs.returns.record_returns.Statement.{statement}
 use Rattle.links.proofs.returns.record_returns.Tie as tie
 
-enum-told : tie.Need-enum-told
-enum-told c = search needs
-
-add-back-fact : tie.Need-add-back-fact
-add-back-fact c = search needs
-
-back-fact-requires : tie.Need-back-fact-requires
-back-fact-requires c κs = search needs
-
-enum-told-2 : tie.Need-enum-told-2
-enum-told-2 c = search needs
-
-add-back-fact-2 : tie.Need-add-back-fact-2
-add-back-fact-2 c = search needs
-
-back-fact-requires-2 : tie.Need-back-fact-requires-2
-back-fact-requires-2 c κs = search needs
-
-enum-told-3 : tie.Need-enum-told-3
-enum-told-3 c = search needs
-
-turnout-returns-requires : tie.Need-turnout-returns-requires
-turnout-returns-requires c κs = search needs
-
-enum-told-4 : tie.Need-enum-told-4
-enum-told-4 c = search needs
-
-add-two-returns : tie.Need-add-two-returns
-add-two-returns c = search needs
-
-add-two-returns-2 : tie.Need-add-two-returns-2
-add-two-returns-2 c = search needs
-
-two-returns-requires : tie.Need-two-returns-requires
-two-returns-requires c κs = search needs
-
-enum-told-5 : tie.Need-enum-told-5
-enum-told-5 c = search needs
-
-add-two-returns-3 : tie.Need-add-two-returns-3
-add-two-returns-3 c = search needs
-
-add-two-returns-4 : tie.Need-add-two-returns-4
-add-two-returns-4 c = search needs
-
-two-returns-requires-2 : tie.Need-two-returns-requires-2
-two-returns-requires-2 c κs = search needs
-
-enum-told-6 : tie.Need-enum-told-6
-enum-told-6 c = search needs
-
-add-two-returns-5 : tie.Need-add-two-returns-5
-add-two-returns-5 c = search needs
-
-add-two-returns-6 : tie.Need-add-two-returns-6
-add-two-returns-6 c = search needs
-
-two-returns-requires-3 : tie.Need-two-returns-requires-3
-two-returns-requires-3 c κs = search needs
-
-enum-told-7 : tie.Need-enum-told-7
-enum-told-7 c = search needs
-
 returns : tie.Need-returns
 returns c = simp (c .back-fact .ensures, c .before .enum-told .given .1)
 
@@ -92,27 +29,27 @@ pub record-returns-spec : {M : Type 1} → statement M
 record-returns-spec =
     tie.close
     (tie.spec
-    enum-told
-    add-back-fact
-    back-fact-requires
-    enum-told-2
-    add-back-fact-2
-    back-fact-requires-2
-    enum-told-3
-    turnout-returns-requires
-    enum-told-4
-    add-two-returns
-    add-two-returns-2
-    two-returns-requires
-    enum-told-5
-    add-two-returns-3
-    add-two-returns-4
-    two-returns-requires-2
-    enum-told-6
-    add-two-returns-5
-    add-two-returns-6
-    two-returns-requires-3
-    enum-told-7
+    (λ c. search needs)
+    (λ c. search needs)
+    (λ c κs. search needs)
+    (λ c. search needs)
+    (λ c. search needs)
+    (λ c κs. search needs)
+    (λ c. search needs)
+    (λ c κs. search needs)
+    (λ c. search needs)
+    (λ c. search needs)
+    (λ c. search needs)
+    (λ c κs. search needs)
+    (λ c. search needs)
+    (λ c. search needs)
+    (λ c. search needs)
+    (λ c κs. search needs)
+    (λ c. search needs)
+    (λ c. search needs)
+    (λ c. search needs)
+    (λ c κs. search needs)
+    (λ c. search needs)
     returns
     returns-2
     returns-3

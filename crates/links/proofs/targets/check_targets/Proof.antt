@@ -9,9 +9,6 @@ use borrow.Author.Needs.{needs}
 use Rattle.links.proofs.targets.check_targets.Statement.{statement}
 use Rattle.links.proofs.targets.check_targets.Tie as tie
 
-is-bounded-requires : tie.Need-is-bounded-requires
-is-bounded-requires c κs = search needs
-
 returns : tie.Need-returns
 returns c = none-judged _ _ (c .before .is-bounded .ensures) (c .if1 .taken) _ _
 
@@ -25,4 +22,10 @@ returns-2 : tie.Need-returns-2
 returns-2 c = all-judged _ _ (c .before .before .before .before .before .is-bounded .ensures) (c .before .before .before .before .if1 .left) _ _ _ (c .all-targets .ensures)
 
 pub check-targets-spec : {M : Type 1} → statement M
-check-targets-spec = tie.close (tie.spec is-bounded-requires returns mark-targets-requires all-targets-requires returns-2)
+check-targets-spec = tie.close
+    (tie.spec
+    (λ c κs. search needs)
+    returns
+    mark-targets-requires
+    all-targets-requires
+    returns-2)

@@ -8,15 +8,6 @@ use borrow.Author.Needs.{needs}
 use Rattle.links.proofs.targets.target_fact.Statement.{statement}
 use Rattle.links.proofs.targets.target_fact.Tie as tie
 
-u16-at-requires : tie.Need-u16-at-requires
-u16-at-requires c κs = search needs
-
-is-target-requires : tie.Need-is-target-requires
-is-target-requires c κs = search needs
-
-also-fact-requires : tie.Need-also-fact-requires
-also-fact-requires c κs = search needs
-
 returns : tie.Need-returns
 returns c =
     let a = c .before .before .before .before .args in
@@ -27,4 +18,9 @@ returns c =
 
 pub target-fact-spec : {M : Type 1} → statement M
 target-fact-spec =
-    tie.close (tie.spec u16-at-requires is-target-requires also-fact-requires returns)
+    tie.close
+    (tie.spec
+    (λ c κs. search needs)
+    (λ c κs. search needs)
+    (λ c κs. search needs)
+    returns)

@@ -4,14 +4,12 @@ use borrow.Author.Needs.{needs}
 use Rattle.links.proofs.targets.two_targets.Statement.{statement}
 use Rattle.links.proofs.targets.two_targets.Tie as tie
 
-target-fact-requires : tie.Need-target-fact-requires
-target-fact-requires c κs = search needs
-
-target-fact-requires-2 : tie.Need-target-fact-requires-2
-target-fact-requires-2 c κs = search needs
-
 returns : tie.Need-returns
 returns c = simp (c .target-fact2 .ensures, c .before .target-fact .ensures)
 
 pub two-targets-spec : {M : Type 1} → statement M
-two-targets-spec = tie.close (tie.spec target-fact-requires target-fact-requires-2 returns)
+two-targets-spec = tie.close
+    (tie.spec
+    (λ c κs. search needs)
+    (λ c κs. search needs)
+    returns)

@@ -4,14 +4,12 @@ use borrow.Author.Needs.{needs}
 use Rattle.station.proofs.spots.lies_on.Statement.{statement}
 use Rattle.station.proofs.spots.lies_on.Tie as tie
 
-in-first-requires : tie.Need-in-first-requires
-in-first-requires c κs = search needs
-
-within-track-requires : tie.Need-within-track-requires
-within-track-requires c κs = search needs
-
 returns : tie.Need-returns
 returns c = simp (c .within-track .ensures, c .before .in-first .ensures)
 
 pub lies-on-spec : {M : Type 1} → statement M
-lies-on-spec = tie.close (tie.spec in-first-requires within-track-requires returns)
+lies-on-spec = tie.close
+    (tie.spec
+    (λ c κs. search needs)
+    (λ c κs. search needs)
+    returns)

@@ -6,15 +6,6 @@ use borrow.Author.Needs.{needs}
 use Rattle.station.proofs.spots.present_in.Statement.{statement}
 use Rattle.station.proofs.spots.present_in.Tie as tie
 
-find-track-requires : tie.Need-find-track-requires
-find-track-requires c κs = search needs
-
-enum-told : tie.Need-enum-told
-enum-told c = search needs
-
-enum-told-2 : tie.Need-enum-told-2
-enum-told-2 c = search needs
-
 returns : tie.Need-returns
 returns c = sym (ap present (sym (c .before .before .find-track .ensures) ∙ c .enum-told .given .1))
 
@@ -22,4 +13,10 @@ returns-2 : tie.Need-returns-2
 returns-2 c = sym (ap present (sym (c .before .before .find-track .ensures) ∙ c .enum-told2 .given .1))
 
 pub present-in-spec : {M : Type 1} → statement M
-present-in-spec = tie.close (tie.spec find-track-requires enum-told enum-told-2 returns returns-2)
+present-in-spec = tie.close
+    (tie.spec
+    (λ c κs. search needs)
+    (λ c. search needs)
+    (λ c. search needs)
+    returns
+    returns-2)

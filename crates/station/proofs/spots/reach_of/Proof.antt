@@ -8,20 +8,8 @@ use borrow.Author.Needs.{needs}
 use Rattle.station.proofs.spots.reach_of.Statement.{statement}
 use Rattle.station.proofs.spots.reach_of.Tie as tie
 
-find-track-requires : tie.Need-find-track-requires
-find-track-requires c κs = search needs
-
-enum-known-e : tie.Need-enum-known-e
-enum-known-e c = search needs
-
 add-u32-at : tie.Need-add-u32-at
 add-u32-at c = let a = c .before .before .before .before .before .args in let h = found-place (a .f .now) (c .before .before .before .before .before .pre) (a .number) _ (sym (c .before .before .before .find-track .ensures) ∙ c .before .e .given .1) in omega arith
-
-u32-at-requires : tie.Need-u32-at-requires
-u32-at-requires c κs = search needs
-
-enum-told : tie.Need-enum-told
-enum-told c = search needs
 
 returns : tie.Need-returns
 returns c = c .u32-at .ensures .is ∙ sym (ap (reach (c .before .before .before .before .before .before .args .f .now)) (sym (c .before .before .before .before .find-track .ensures) ∙ c .before .before .e .given .1))
@@ -33,10 +21,10 @@ pub reach-of-spec : {M : Type 1} → statement M
 reach-of-spec =
     tie.close
     (tie.spec
-    find-track-requires
-    enum-known-e
+    (λ c κs. search needs)
+    (λ c. search needs)
     add-u32-at
-    u32-at-requires
-    enum-told
+    (λ c κs. search needs)
+    (λ c. search needs)
     returns
     returns-2)

@@ -8,15 +8,13 @@ use borrow.Author.Needs.{needs}
 use Rattle.station.proofs.verdicts.check_pair.Statement.{statement}
 use Rattle.station.proofs.verdicts.check_pair.Tie as tie
 
-same-station-requires : tie.Need-same-station-requires
-same-station-requires c κs = search needs
-
-records-pair-requires : tie.Need-records-pair-requires
-records-pair-requires c κs = search needs
-
 returns : tie.Need-returns
 unfolding pairFacts
 returns c = c .records-pair .ensures ∙ ap (λ (v : Judged). judge v (recordsPair (c .before .before .before .before .args .f .now) (c .before .before .before .before .args .g .now) (c .before .before .before .before .args .l))) (c .before .same-station .ensures)
 
 pub check-pair-spec : {M : Type 1} → statement M
-check-pair-spec = tie.close (tie.spec same-station-requires records-pair-requires returns)
+check-pair-spec = tie.close
+    (tie.spec
+    (λ c κs. search needs)
+    (λ c κs. search needs)
+    returns)

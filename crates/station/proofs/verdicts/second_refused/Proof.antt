@@ -8,17 +8,13 @@ use borrow.Author.Needs.{needs}
 use Rattle.station.proofs.verdicts.second_refused.Statement.{statement}
 use Rattle.station.proofs.verdicts.second_refused.Tie as tie
 
-enum-known-v : tie.Need-enum-known-v
-enum-known-v c = search needs
-
-enum-told : tie.Need-enum-told
-enum-told c = search needs
-
 returns : tie.Need-returns
 returns c = sym (ap (λ (v : Verdict). ofSecond v pair.Accepted) (c .before .v .given .1))
 
-returns-2 : tie.Need-returns-2
-returns-2 c = search needs
-
 pub second-refused-spec : {M : Type 1} → statement M
-second-refused-spec = tie.close (tie.spec enum-known-v enum-told returns returns-2)
+second-refused-spec = tie.close
+    (tie.spec
+    (λ c. search needs)
+    (λ c. search needs)
+    returns
+    (λ c. search needs))

@@ -9,14 +9,12 @@ use borrow.Author.Needs.{needs}
 use Rattle.station.proofs.verdicts.shown.Statement.{statement}
 use Rattle.station.proofs.verdicts.shown.Tie as tie
 
-shown-requires : tie.Need-shown-requires
-shown-requires c κs = search needs
-
-second-refused-requires : tie.Need-second-refused-requires
-second-refused-requires c κs = search needs
-
 returns : tie.Need-returns
 returns c = c .second-refused .ensures ∙ ap (λ (v : Verdict). ofSecond v pair.Accepted) (c .before .shown .ensures) ∙ shown-pair (c .before .before .args .v)
 
 pub shown-spec : {M : Type 1} → statement M
-shown-spec = tie.close (tie.spec shown-requires second-refused-requires returns)
+shown-spec = tie.close
+    (tie.spec
+    (λ c κs. search needs)
+    (λ c κs. search needs)
+    returns)

@@ -1,0 +1,139 @@
+-- The facts of any list of groups hold exactly where the groups stand one after the other from `due` to End.
+-- Assumes nothing.
+use Prim.Native.Nat.{ℕ, _+_, _-_, _≤_, _<_}
+use mathlib.Core.Path.{_≡_, refl, sym, _∙_, subst}
+use mathlib.Core.Bool.{Bool, true, false, cond}
+use mathlib.Core.Logic.{_↔_}
+use mathlib.Core.List.{List, [], _∷_, _++_}
+use lib.Dec.{eqb}
+use native.Mathlib.Decide.{ℕ-discrete}
+use native.Mathlib.Omega.{arith}
+use borrow.Author.Tests.{eq-eqb, ne-eqb, eqb-true, eqb-false}
+use Rattle.octets.specs.Octets.{numAt}
+use Rattle.verdict.specs.Facts.{Fact, AllHold}
+use Rattle.verdict.specs.Walk.{startsFrom}
+use Rattle.verdict.proofs.Facts.{all-append, all-each}
+use Rattle.layout.specs.declared.Made.{Made}
+use Rattle.layout.specs.declared.Made.the-variants.{Fixed, Balises}
+use Rattle.layout.specs.Layout.{orNext, groupEnd}
+use Rattle.layout.specs.Groups.{Group, groupStart, nextStart, groupLayout, baliseBytes, baliseLayout, walkLayout, madeFacts, oneGroup, groupFacts}
+use Rattle.layout.specs.Obeys.{BaliseObeys, MadeOf, Grouped, none, empty, there}
+
+module _ (off before next : ℕ) where
+  pub end-empty : off ≡ 0 → groupEnd off before next ≡ before
+  unfolding groupEnd
+  end-empty e = rw (eq-eqb off 0 e)
+
+  pub end-there : (off ≡ 0 → ⊥) → groupEnd off before next ≡ next
+  unfolding groupEnd
+  end-there n = rw (ne-eqb off 0 n)
+
+module _ (f : List ℕ) (end : ℕ) where
+  next-empty : (g : Group) (gs : List Group) → groupStart f g ≡ 0 → nextStart f end (g ∷ gs) ≡ nextStart f end gs
+  unfolding nextStart orNext
+  next-empty g gs e = rw (eq-eqb (groupStart f g) 0 e)
+
+  next-there : (g : Group) (gs : List Group) → (groupStart f g ≡ 0 → ⊥) → nextStart f end (g ∷ gs) ≡ groupStart f g
+  unfolding nextStart orNext
+  next-there g gs n = rw (ne-eqb (groupStart f g) 0 n)
+
+  -- what stands there runs to the next nonzero offset, else to End
+  pub grouped-next : {due : ℕ} {gs : List Group} → Grouped f end due gs → due ≡ nextStart f end gs
+  unfolding nextStart
+  grouped-next none = refl
+  grouped-next (empty {g = g} {gs = gs} e r) = grouped-next r ∙ sym (next-empty g gs e)
+  grouped-next (there {g = g} {gs = gs} until n e b m r) = sym e ∙ sym (next-there g gs (λ z. n (sym e ∙ z)))
+
+  -- and not beyond End
+  pub grouped-inside : {due : ℕ} {gs : List Group} → Grouped f end due gs → due ≤ end
+  grouped-inside none = omega arith
+  grouped-inside (empty e r) = grouped-inside r
+  grouped-inside (there until n e b m r) = let h = grouped-inside r in omega arith
+
+-- facts that stand only where a number is not 0
+unless-zero : (x : ℕ) (fs : List Fact) (A : Type 0) → AllHold fs ↔ A → AllHold (cond (eqb x 0) [] fs) ↔ ((x ≡ 0 → ⊥) → A)
+unfolding AllHold
+unless-zero x fs A i = by-test (eqb x 0) refl
+  where
+    by-test : (t : Bool) → eqb x 0 ≡ t → AllHold (cond t [] fs) ↔ ((x ≡ 0 → ⊥) → A)
+    by-test true e = (λ h n. absurd (n (eqb-true x 0 e)), λ h. tt)
+    by-test false e = (λ h n. i .0 h, λ h. i .1 (h (eqb-false x 0 e)))
+
+balise-iff : (f : List ℕ) (until at : ℕ) → AllHold (baliseLayout f until at) ↔ BaliseObeys f until at
+unfolding AllHold
+balise-iff f until at = (λ h. record { left = h .0; size = h .1 .0; rest = h .1 .1 .0 }, λ h. (h .left, (h .size, (h .rest, tt))))
+
+made-iff : (f : List ℕ) (field until : ℕ) (m : Made) → AllHold (madeFacts f field until m) ↔ MadeOf f (numAt 2 f field) until m
+unfolding madeFacts MadeOf AllHold walkLayout
+made-iff f field until (Fixed size) = (λ h. h .0, λ h. (h, tt))
+made-iff f field until Balises =
+    let each = all-each (baliseLayout f until) (startsFrom (baliseBytes f) until (numAt 2 f field)) in
+    (λ h at i. (balise-iff f until at) .0 (each .0 h at i), λ h. each .1 (λ at i. (balise-iff f until at) .1 (h at i)))
+
+-- one group
+module _ (f : List ℕ) (end due until : ℕ) (g : Group) where
+  one-iff : AllHold (oneGroup f end due until g) ↔ ((groupStart f g ≡ 0 → ⊥) → (groupStart f g ≡ due) × (groupStart f g < until) × (until ≤ end) × MadeOf f (groupStart f g) until (g .made))
+  unfolding oneGroup AllHold
+  one-iff =
+      let made = madeFacts f (g .field) until (g .made) in
+      let cut = all-append (groupLayout f (g .field) due until end) made in
+      let m = made-iff f (g .field) until (g .made) in
+      unless-zero (groupStart f g) (groupLayout f (g .field) due until end ++ made) ((groupStart f g ≡ due) × (groupStart f g < until) × (until ≤ end) × MadeOf f (groupStart f g) until (g .made)) (
+        λ h. let k = (cut .0 h) .0 in let above = k .1 .0 in (k .0, omega arith, k .1 .1 .0, m .0 ((cut .0 h) .1)),
+        λ h. let above = h .1 in cut .1 ((h .0, (omega arith, (h .2, tt))), m .1 (h .3)),
+      )
+
+  -- where it is right, it does not end beyond End
+  pub one-inside : AllHold (oneGroup f end due until g) → (top : ℕ) → due ≤ top → end ≤ top → groupEnd (groupStart f g) due until ≤ top
+  one-inside h top p q = by-case (ℕ-discrete (groupStart f g) 0)
+    where
+      by-case : Dec (groupStart f g ≡ 0) → groupEnd (groupStart f g) due until ≤ top
+      by-case (yes e) = let k = end-empty (groupStart f g) due until e in omega arith
+      by-case (no n) =
+          let k = end-there (groupStart f g) due until n in
+          let i = (one-iff .0 h n) .2 in
+          omega arith
+
+-- all of them
+module _ (f : List ℕ) (last end : ℕ) where
+  pub facts-grouped : (gs : List Group) (due : ℕ) → AllHold (groupFacts f last end due gs) → Grouped f end due gs
+  unfolding groupFacts AllHold
+  facts-grouped [] due h = subst (λ (d : ℕ). Grouped f end d []) (sym (h .0)) none
+  facts-grouped (g ∷ gs) due h =
+      let until = nextStart f end gs in
+      let off = groupStart f g in
+      let cut = (all-append (oneGroup f end due until g) (groupFacts f last end (groupEnd off due until) gs)) .0 h in
+      let rest = facts-grouped gs (groupEnd off due until) (cut .1) in
+      by-case (ℕ-discrete off 0) (one-iff f end due until g .0 (cut .0)) rest
+    where
+      by-case :
+          Dec (groupStart f g ≡ 0)
+          → ((groupStart f g ≡ 0 → ⊥) → (groupStart f g ≡ due) × (groupStart f g < nextStart f end gs) × (nextStart f end gs ≤ end) × MadeOf f (groupStart f g) (nextStart f end gs) (g .made))
+          → Grouped f end (groupEnd (groupStart f g) due (nextStart f end gs)) gs → Grouped f end due (g ∷ gs)
+      by-case (yes e) o r = empty e (subst (λ (d : ℕ). Grouped f end d gs) (end-empty (groupStart f g) due (nextStart f end gs) e) r)
+      by-case (no n) o r =
+          let h = o n in
+          let due-there = h .0 in
+          let above = h .1 in
+          there (nextStart f end gs) (λ z. n (due-there ∙ z)) due-there (omega arith) (subst (λ (a : ℕ). MadeOf f a (nextStart f end gs) (g .made)) due-there (h .3))
+          (subst (λ (d : ℕ). Grouped f end d gs) (end-there (groupStart f g) due (nextStart f end gs) n) r)
+
+  pub grouped-facts : {gs : List Group} {due : ℕ} → Grouped f end due gs → AllHold (groupFacts f last end due gs)
+  unfolding groupFacts AllHold
+  grouped-facts none = (refl, tt)
+  grouped-facts (empty {due = due} {g = g} {gs = gs} e r) =
+      let until = nextStart f end gs in
+      (all-append (oneGroup f end due until g) (groupFacts f last end (groupEnd (groupStart f g) due until) gs)) .1
+      (one-iff f end due until g .1 (λ n. absurd (n e)), rw (end-empty (groupStart f g) due until e) (grouped-facts r))
+  grouped-facts (there {due = due} {g = g} {gs = gs} until n e b m r) =
+      let next = nextStart f end gs in
+      let q : until ≡ next = grouped-next f end r in
+      let i = grouped-inside f end r in
+      let n′ : groupStart f g ≡ 0 → ⊥ = λ z. n (sym e ∙ z) in
+      (all-append (oneGroup f end due next g) (groupFacts f last end (groupEnd (groupStart f g) due next) gs)) .1 (
+        one-iff f end due next g .1 (λ k. (e, omega arith, omega arith, subst (λ (a : ℕ). MadeOf f a next (g .made)) (sym e) (subst (λ (b : ℕ). MadeOf f due b (g .made)) q m))),
+        rw (end-there (groupStart f g) due next n′, ← q) (grouped-facts r),
+      )
+
+  pub groups-iff : (gs : List Group) (due : ℕ) → AllHold (groupFacts f last end due gs) ↔ Grouped f end due gs
+  groups-iff gs due = (facts-grouped gs due, grouped-facts)

@@ -1,0 +1,125 @@
+-- Groups of records that follow each other without gaps (01: 'A group runs to the next nonzero group offset, else to End'). A group's
+-- offset stands in a field of the header; 0 is an empty group. A file's groups are a list in field order, `due` is where the first
+-- nonzero one must start, and `end` is End.
+-- Assumes nothing.
+use Prim.Native.Nat.{ℕ, suc, zero, _+_, _-_, _*_, max}
+use mathlib.Core.Bool.{cond}
+use mathlib.Core.List.{List, [], _∷_, _++_, flatMap}
+use lib.Dec.{eqb}
+use Rattle.octets.specs.Octets.{numAt}
+use Rattle.octets.specs.declared.Width.the-variants.{Two}
+use Rattle.verdict.specs.Facts.{Claim, same, either, Fact, fact}
+use Rattle.verdict.specs.Walk.{startsFrom}
+use Rattle.verdict.specs.declared.Reason.the-variants as reason
+use Rattle.verdict.specs.declared.Rule.the-variants as rule
+use Rattle.rules.specs.Rules.{liesBetween, isNumber, fits, whole, endsAt}
+use Rattle.records.specs.Places.{turnoutSize, baliseSize, baliseSizeByte, signalSize, jointSize, sidingSize}
+use Rattle.layout.specs.declared.Made.{Made}
+use Rattle.layout.specs.declared.Made.the-variants.{Fixed, Balises}
+use Rattle.layout.specs.declared.Grouping.{Grouping}
+use Rattle.layout.specs.declared.Grouping.the-variants.{Yard, Elements}
+use Rattle.layout.specs.Places.{sizeLeast, sizeMost}
+use Rattle.layout.specs.Layout.{orNext, groupEnd}
+
+-- ---- what a group is
+
+abbrev pub offsetSize : ℕ
+offsetSize = 2
+
+abbrev pub elementSize : ℕ
+elementSize = 14
+
+-- what the group with the index i is made of: X.2 has turnouts, balises, signals, joints and sidings, X.3 elements of one size
+unfoldable pub madeOf : Grouping → ℕ → Made
+madeOf Yard i =
+    cond (eqb i 0) (Fixed turnoutSize)
+    (cond (eqb i 1) Balises
+    (cond (eqb i 2) (Fixed signalSize)
+    (cond (eqb i 3) (Fixed jointSize) (Fixed sidingSize))))
+madeOf Elements i = Fixed elementSize
+
+-- where its offset stands, and what it is made of
+pub record Group : Type 0 where
+  pub field : ℕ
+  pub made : Made
+
+abbrev pub group : ℕ → Made → Group
+group field made = record { field = field; made = made }
+
+-- ---- where it stands
+
+abbrev pub groupStart : List ℕ → Group → ℕ
+groupStart f g = numAt 2 f (g .field)
+
+-- the next nonzero offset, else End
+unfoldable pub nextStart : List ℕ → ℕ → List Group → ℕ
+nextStart f end [] = end
+nextStart f end (g ∷ gs) = orNext (groupStart f g) (nextStart f end gs)
+
+-- where each group ends: it runs to the next nonzero offset, else to End; an empty one ends where what is before it ends
+unfoldable pub groupEnds : List ℕ → ℕ → ℕ → List Group → List ℕ
+groupEnds f end due [] = []
+groupEnds f end due (g ∷ gs) = groupEnd (groupStart f g) due (nextStart f end gs) ∷ groupEnds f end (groupEnd (groupStart f g) due (nextStart f end gs)) gs
+
+-- ---- a nonzero group, whose offset is at `field`
+
+-- It starts where what is before it ends. (This asks something of the first nonzero group alone: the end of what is before a later one
+-- is defined as its offset.) Its end is above its start, and not over End.
+abbrev pub groupLayout : List ℕ → ℕ → ℕ → ℕ → ℕ → List Fact
+groupLayout f field before until stop =
+    isNumber reason.Layout f 0 field Two before ∷ fits 0 field 2 (numAt 2 f field + 1) until ∷ fits 0 field 2 until stop ∷ []
+
+-- ---- the balises of a group, one after the other
+
+-- how many bytes the balise at a place has: its size byte, and never under 16, so that a walk goes on
+unfoldable pub baliseBytes : List ℕ → ℕ → ℕ
+baliseBytes f at = max baliseSize (numAt 1 f (at + baliseSizeByte))
+
+-- the size byte is 16, or 18 to 120
+abbrev pub rightSize : ℕ → Claim
+rightSize n = either (same n baliseSize) (liesBetween sizeLeast sizeMost n)
+
+abbrev pub sizeByte : List ℕ → ℕ → Fact
+sizeByte f at =
+    fact (rightSize (numAt 1 f (at + baliseSizeByte))) (record { reason = reason.Layout; start = at; place = at; width = 1; rule = rule.SizeByte (at + baliseSizeByte) sizeLeast sizeMost })
+
+-- 16 bytes are left of the group, the size byte is right, and the balise is not too large for the rest. (Width 0: the first and the last
+-- are about the whole balise and no field of it.)
+abbrev pub baliseLayout : List ℕ → ℕ → ℕ → List Fact
+baliseLayout f until at =
+    fits at at 0 (at + baliseSize) until ∷ sizeByte f at ∷ fits at at 0 (at + numAt 1 f (at + baliseSizeByte)) until ∷ []
+
+unfoldable pub walkLayout : List ℕ → ℕ → ℕ → List Fact
+walkLayout f from until = flatMap (baliseLayout f until) (startsFrom (baliseBytes f) until from)
+
+-- ---- the facts, in field order
+
+unfoldable pub madeFacts : List ℕ → ℕ → ℕ → Made → List Fact
+madeFacts f field until (Fixed size) = whole 0 field 2 (until - numAt 2 f field) size ∷ []
+madeFacts f field until Balises = walkLayout f (numAt 2 f field) until
+
+-- a nonzero group starts where due, its end is above its start and not over End, and it is whole records
+unfoldable pub oneGroup : List ℕ → ℕ → ℕ → ℕ → Group → List Fact
+oneGroup f end due until g = cond (eqb (groupStart f g) 0) [] (groupLayout f (g .field) due until end ++ madeFacts f (g .field) until (g .made))
+
+-- Each group in turn. At last, what came ends at End; this asks something only where no group is there, since the end of a group is
+-- defined as the next offset or End. `last` is where the record starts that ends there.
+unfoldable pub groupFacts : List ℕ → ℕ → ℕ → ℕ → List Group → List Fact
+groupFacts f last end due [] = endsAt last due end ∷ []
+groupFacts f last end due (g ∷ gs) = oneGroup f end due (nextStart f end gs) g ++ groupFacts f last end (groupEnd (groupStart f g) due (nextStart f end gs)) gs
+
+-- ---- the groups of a file: the offset of the one with the index i stands at base + 2 i
+
+-- n groups from the index i on
+unfoldable pub groupsFrom : Grouping → ℕ → ℕ → ℕ → List Group
+groupsFrom file base zero i = []
+groupsFrom file base (suc n) i = group (base + offsetSize * i) (madeOf file i) ∷ groupsFrom file base n (i + 1)
+
+-- their next nonzero offset, else End
+unfoldable pub nextFrom : List ℕ → ℕ → ℕ → ℕ → ℕ → ℕ
+nextFrom f end base zero i = end
+nextFrom f end base (suc n) i = orNext (numAt 2 f (base + offsetSize * i)) (nextFrom f end base n (i + 1))
+
+-- X.2 has five groups
+abbrev pub yardCount : ℕ
+yardCount = 5
