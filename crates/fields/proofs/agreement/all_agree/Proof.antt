@@ -5,24 +5,6 @@ use borrow.Author.Needs.{needs}
 use Rattle.fields.proofs.agreement.all_agree.Statement.{statement}
 use Rattle.fields.proofs.agreement.all_agree.Tie as tie
 
-mul-entries : tie.Need-mul-entries
-mul-entries c = search needs
-
-add-entries : tie.Need-add-entries
-add-entries c = search needs
-
-add-entries-2 : tie.Need-add-entries-2
-add-entries-2 c = search needs
-
-entries-agree-requires : tie.Need-entries-agree-requires
-entries-agree-requires c κs = search needs
-
-entries-agree-requires-2 : tie.Need-entries-agree-requires-2
-entries-agree-requires-2 c κs = search needs
-
-records-agree-requires : tie.Need-records-agree-requires
-records-agree-requires c κs = search needs
-
 returns : tie.Need-returns
 returns c =
     let a = c .before .before .before .before .before .args in
@@ -34,10 +16,10 @@ pub all-agree-spec : {M : Type 1} → statement M
 all-agree-spec =
     tie.close
     (tie.spec
-    mul-entries
-    add-entries
-    add-entries-2
-    entries-agree-requires
-    entries-agree-requires-2
-    records-agree-requires
+    (λ c. search needs)
+    (λ c. search needs)
+    (λ c. search needs)
+    (λ c κs. search needs)
+    (λ c κs. search needs)
+    (λ c κs. search needs)
     returns)

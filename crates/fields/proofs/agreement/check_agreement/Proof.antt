@@ -5,9 +5,6 @@ use borrow.Author.Needs.{needs}
 use Rattle.fields.proofs.agreement.check_agreement.Statement.{statement}
 use Rattle.fields.proofs.agreement.check_agreement.Tie as tie
 
-is-bounded-requires : tie.Need-is-bounded-requires
-is-bounded-requires c κs = search needs
-
 returns : tie.Need-returns
 returns c = none-judged _ _ (c .before .is-bounded .ensures) (c .if1 .taken) _ _
 
@@ -18,4 +15,9 @@ returns-2 : tie.Need-returns-2
 returns-2 c = all-judged _ _ (c .before .before .is-bounded .ensures) (c .before .if1 .left) _ _ _ (c .all-agree .ensures)
 
 pub check-agreement-spec : {M : Type 1} → statement M
-check-agreement-spec = tie.close (tie.spec is-bounded-requires returns all-agree-requires returns-2)
+check-agreement-spec = tie.close
+    (tie.spec
+    (λ c κs. search needs)
+    returns
+    all-agree-requires
+    returns-2)

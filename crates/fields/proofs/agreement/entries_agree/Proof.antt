@@ -25,37 +25,10 @@ loop-holds : tie.Need-loop-holds Inv-loop μ-loop
 unfolding indexes
 loop-holds c = refl
 
-mul-here : tie.Need-mul-here Inv-loop μ-loop
-mul-here c = search needs
-
-add-here : tie.Need-add-here Inv-loop μ-loop
-add-here c = search needs
-
-add-here-2 : tie.Need-add-here-2 Inv-loop μ-loop
-add-here-2 c = search needs
-
-mul-own : tie.Need-mul-own Inv-loop μ-loop
-mul-own c = search needs
-
-add-own : tie.Need-add-own Inv-loop μ-loop
-add-own c = search needs
-
-add-own-2 : tie.Need-add-own-2 Inv-loop μ-loop
-add-own-2 c = search needs
-
-same-as-requires : tie.Need-same-as-requires Inv-loop μ-loop
-same-as-requires c κs = search needs
-
-add-i : tie.Need-add-i Inv-loop μ-loop
-add-i c = search needs
-
-loop-less : tie.Need-loop-less Inv-loop μ-loop
-loop-less c = search needs
-
 loop-again : tie.Need-loop-again Inv-loop μ-loop
 loop-again c =
-    let a = c .before .before .before .before .args in
-    let h = c .before .before .loop in
+    let a = c .before .before .before .before .before .args in
+    let h = c .before .before .before .loop in
     judge-step (λ _. 1) (a .count) (entryAgrees (a .f .now) (a .entries) (a .from)) (λ x. omega arith) (h .w) _ (h .i) _ (omega arith) (c .same-as .ensures) refl ∙ h .inv
 
 returns : tie.Need-returns Inv-loop μ-loop
@@ -71,14 +44,14 @@ entries-agree-spec =
     Inv-loop
     μ-loop
     loop-holds
-    mul-here
-    add-here
-    add-here-2
-    mul-own
-    add-own
-    add-own-2
-    same-as-requires
-    add-i
-    loop-less
+    (λ c. search needs)
+    (λ c. search needs)
+    (λ c. search needs)
+    (λ c. search needs)
+    (λ c. search needs)
+    (λ c. search needs)
+    (λ c κs. search needs)
+    (λ c. search needs)
+    (λ c. search needs)
     loop-again
     returns)

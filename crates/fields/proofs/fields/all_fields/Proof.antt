@@ -5,27 +5,6 @@ use borrow.Author.Needs.{needs}
 use Rattle.fields.proofs.fields.all_fields.Statement.{statement}
 use Rattle.fields.proofs.fields.all_fields.Tie as tie
 
-mul-entries : tie.Need-mul-entries
-mul-entries c = search needs
-
-add-entries : tie.Need-add-entries
-add-entries c = search needs
-
-add-entries-2 : tie.Need-add-entries-2
-add-entries-2 c = search needs
-
-header-fields-requires : tie.Need-header-fields-requires
-header-fields-requires c κs = search needs
-
-entries-fields-requires : tie.Need-entries-fields-requires
-entries-fields-requires c κs = search needs
-
-entries-fields-requires-2 : tie.Need-entries-fields-requires-2
-entries-fields-requires-2 c κs = search needs
-
-records-fields-requires : tie.Need-records-fields-requires
-records-fields-requires c κs = search needs
-
 returns : tie.Need-returns
 returns c =
     let a = c .before .before .before .before .before .before .args in
@@ -38,11 +17,11 @@ pub all-fields-spec : {M : Type 1} → statement M
 all-fields-spec =
     tie.close
     (tie.spec
-    mul-entries
-    add-entries
-    add-entries-2
-    header-fields-requires
-    entries-fields-requires
-    entries-fields-requires-2
-    records-fields-requires
+    (λ c. search needs)
+    (λ c. search needs)
+    (λ c. search needs)
+    (λ c κs. search needs)
+    (λ c κs. search needs)
+    (λ c κs. search needs)
+    (λ c κs. search needs)
     returns)

@@ -5,9 +5,6 @@ use borrow.Author.Needs.{needs}
 use Rattle.fields.proofs.fields.check_fields.Statement.{statement}
 use Rattle.fields.proofs.fields.check_fields.Tie as tie
 
-is-bounded-requires : tie.Need-is-bounded-requires
-is-bounded-requires c κs = search needs
-
 returns : tie.Need-returns
 returns c = none-judged _ _ (c .before .is-bounded .ensures) (c .if1 .taken) _ _
 
@@ -18,4 +15,9 @@ returns-2 : tie.Need-returns-2
 returns-2 c = all-judged _ _ (c .before .before .is-bounded .ensures) (c .before .if1 .left) _ _ _ (c .all-fields .ensures)
 
 pub check-fields-spec : {M : Type 1} → statement M
-check-fields-spec = tie.close (tie.spec is-bounded-requires returns all-fields-requires returns-2)
+check-fields-spec = tie.close
+    (tie.spec
+    (λ c κs. search needs)
+    returns
+    all-fields-requires
+    returns-2)

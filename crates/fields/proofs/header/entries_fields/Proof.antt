@@ -25,24 +25,6 @@ loop-holds : tie.Need-loop-holds Inv-loop μ-loop
 unfolding indexes
 loop-holds c = refl
 
-mul-track-at : tie.Need-mul-track-at Inv-loop μ-loop
-mul-track-at c = search needs
-
-add-track-at : tie.Need-add-track-at Inv-loop μ-loop
-add-track-at c = search needs
-
-add-track-at-2 : tie.Need-add-track-at-2 Inv-loop μ-loop
-add-track-at-2 c = search needs
-
-track-at-requires : tie.Need-track-at-requires Inv-loop μ-loop
-track-at-requires c κs = search needs
-
-add-i : tie.Need-add-i Inv-loop μ-loop
-add-i c = search needs
-
-loop-less : tie.Need-loop-less Inv-loop μ-loop
-loop-less c = search needs
-
 loop-again : tie.Need-loop-again Inv-loop μ-loop
 loop-again c =
     let a = c .before .before .before .before .args in
@@ -62,11 +44,11 @@ entries-fields-spec =
     Inv-loop
     μ-loop
     loop-holds
-    mul-track-at
-    add-track-at
-    add-track-at-2
-    track-at-requires
-    add-i
-    loop-less
+    (λ c. search needs)
+    (λ c. search needs)
+    (λ c. search needs)
+    (λ c κs. search needs)
+    (λ c. search needs)
+    (λ c. search needs)
     loop-again
     returns)

@@ -5,12 +5,6 @@ use borrow.Author.Needs.{needs}
 use Rattle.fields.proofs.kinds.balise_fields.Statement.{statement}
 use Rattle.fields.proofs.kinds.balise_fields.Tie as tie
 
-fixed-fields-requires : tie.Need-fixed-fields-requires
-fixed-fields-requires c κs = search needs
-
-message-fields-requires : tie.Need-message-fields-requires
-message-fields-requires c κs = search needs
-
 returns : tie.Need-returns
 returns c =
     let a = c .before .before .before .args in
@@ -18,4 +12,8 @@ returns c =
     balise-judged (a .f .now) (a .v) (fixed .result) (c .message-fields .result) (a .at) (fixed .ensures) (c .message-fields .ensures)
 
 pub balise-fields-spec : {M : Type 1} → statement M
-balise-fields-spec = tie.close (tie.spec fixed-fields-requires message-fields-requires returns)
+balise-fields-spec = tie.close
+    (tie.spec
+    (λ c κs. search needs)
+    (λ c κs. search needs)
+    returns)

@@ -5,48 +5,6 @@ use borrow.Author.Needs.{needs}
 use Rattle.fields.proofs.kinds.kind_fields.Statement.{statement}
 use Rattle.fields.proofs.kinds.kind_fields.Tie as tie
 
-enum-told : tie.Need-enum-told
-enum-told c = search needs
-
-boundary-fields-requires : tie.Need-boundary-fields-requires
-boundary-fields-requires c κs = search needs
-
-enum-told-2 : tie.Need-enum-told-2
-enum-told-2 c = search needs
-
-boundary-fields-requires-2 : tie.Need-boundary-fields-requires-2
-boundary-fields-requires-2 c κs = search needs
-
-enum-told-3 : tie.Need-enum-told-3
-enum-told-3 c = search needs
-
-turnout-fields-requires : tie.Need-turnout-fields-requires
-turnout-fields-requires c κs = search needs
-
-enum-told-4 : tie.Need-enum-told-4
-enum-told-4 c = search needs
-
-balise-fields-requires : tie.Need-balise-fields-requires
-balise-fields-requires c κs = search needs
-
-enum-told-5 : tie.Need-enum-told-5
-enum-told-5 c = search needs
-
-signal-fields-requires : tie.Need-signal-fields-requires
-signal-fields-requires c κs = search needs
-
-enum-told-6 : tie.Need-enum-told-6
-enum-told-6 c = search needs
-
-joint-fields-requires : tie.Need-joint-fields-requires
-joint-fields-requires c κs = search needs
-
-enum-told-7 : tie.Need-enum-told-7
-enum-told-7 c = search needs
-
-siding-fields-requires : tie.Need-siding-fields-requires
-siding-fields-requires c κs = search needs
-
 returns : tie.Need-returns
 unfolding kindFields
 returns c = rw (c .before .enum-told .given .1) (c .boundary-fields .ensures)
@@ -79,20 +37,20 @@ pub kind-fields-spec : {M : Type 1} → statement M
 kind-fields-spec =
     tie.close
     (tie.spec
-    enum-told
-    boundary-fields-requires
-    enum-told-2
-    boundary-fields-requires-2
-    enum-told-3
-    turnout-fields-requires
-    enum-told-4
-    balise-fields-requires
-    enum-told-5
-    signal-fields-requires
-    enum-told-6
-    joint-fields-requires
-    enum-told-7
-    siding-fields-requires
+    (λ c. search needs)
+    (λ c κs. search needs)
+    (λ c. search needs)
+    (λ c κs. search needs)
+    (λ c. search needs)
+    (λ c κs. search needs)
+    (λ c. search needs)
+    (λ c κs. search needs)
+    (λ c. search needs)
+    (λ c κs. search needs)
+    (λ c. search needs)
+    (λ c κs. search needs)
+    (λ c. search needs)
+    (λ c κs. search needs)
     returns
     returns-2
     returns-3
