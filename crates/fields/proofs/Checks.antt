@@ -8,10 +8,12 @@ use Rattle.verdict.specs.declared.Judged.{Judged}
 use Rattle.verdict.specs.Facts.{judge}
 use Rattle.verdict.proofs.Facts.{judge-then}
 use Rattle.records.specs.Places as place
+use Rattle.records.specs.Rows.{baliseTable}
+use Rattle.fields.specs.Rows.{tableFacts}
 use Rattle.layout.specs.declared.Layout.{Layout}
 use Rattle.layout.specs.Places.{startEntriesAt, endEntriesAt}
 use Rattle.layout.specs.Records.{starts}
-use Rattle.fields.specs.Fields.{headerFields, entriesFields, messageEnd, lastByte, sizeByteOf, messageFields, fixedFields, baliseFields, recordFields, fieldFacts}
+use Rattle.fields.specs.Fields.{headerFields, entriesFields, messageEnd, lastByte, sizeByteOf, messageFields, recordFields, fieldFacts}
 use Rattle.fields.specs.Agreement.{entriesAgree, recordAgrees, agreementFacts}
 
 -- ---- a balise
@@ -29,8 +31,8 @@ module _ (f : List ℕ) (at size : ℕ) (v : Judged) (is : size ≡ sizeByteOf f
 -- ---- the checks
 
 module _ (f : List ℕ) (v x r : Judged) where
-  pub balise-judged : (at : ℕ) → x ≡ judge v (fixedFields f at) → r ≡ judge x (messageFields f at) → r ≡ judge v (baliseFields f at)
-  balise-judged at p q = judge-then v x r (fixedFields f at) (messageFields f at) p q
+  pub balise-judged : (at : ℕ) → x ≡ judge v (tableFacts f at baliseTable) → r ≡ judge x (messageFields f at) → r ≡ judge v (tableFacts f at baliseTable ++ messageFields f at)
+  balise-judged at p q = judge-then v x r (tableFacts f at baliseTable) (messageFields f at) p q
 
   module _ (l : Layout) (y : Judged) where
     pub fields-judged :

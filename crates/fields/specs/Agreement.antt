@@ -3,7 +3,6 @@
 -- Assumes nothing.
 use Prim.Native.Nat.{ℕ, _+_, _*_}
 use mathlib.Core.List.{List, [], _∷_, _++_, flatMap}
-use Rattle.octets.specs.Octets.{numAt}
 use Rattle.octets.specs.declared.Width.the-variants.{One}
 use Rattle.verdict.specs.Facts.{Fact, fact, atMost}
 use Rattle.verdict.specs.declared.Reason.the-variants as reason
@@ -11,7 +10,9 @@ use Rattle.verdict.specs.declared.Rule.the-variants as rule
 use Rattle.rules.specs.Rules.{sameAs}
 use Rattle.records.specs.declared.Kind.{Kind}
 use Rattle.records.specs.declared.Kind.the-variants as kind
+use Rattle.rules.specs.Table.{valueOf, placeIn}
 use Rattle.records.specs.Places as place
+use Rattle.records.specs.Rows as row
 use Rattle.records.specs.Tables.{placeOf, countOf}
 use Rattle.layout.specs.declared.Layout.{Layout}
 use Rattle.layout.specs.Places.{startEntriesAt, endEntriesAt}
@@ -23,7 +24,7 @@ use Rattle.fields.specs.Fields.{trackAt}
 
 -- where the track stands in the boundary with the index i, of those from `from` on
 abbrev pub ownTrackAt : ℕ → ℕ → ℕ
-ownTrackAt from i = from + place.boundarySize * i + place.boundaryTrack
+ownTrackAt from i = from + place.boundarySize * i + row.boundaryTrack .place
 
 abbrev pub entryAgrees : List ℕ → ℕ → ℕ → ℕ → List Fact
 entryAgrees f entries from i = sameAs f 0 (trackAt entries i) One (trackAt entries i) (ownTrackAt from i) ∷ []
@@ -35,12 +36,12 @@ entriesAgree f entries from count = flatMap (entryAgrees f entries from) (indexe
 
 -- the group byte of a balise
 abbrev pub groupByteOf : List ℕ → ℕ → ℕ
-groupByteOf f at = numAt 1 f (at + place.baliseGroup)
+groupByteOf f at = valueOf f at row.baliseGroup
 
 -- a balise's place is at most its count
 abbrev pub placeInCount : List ℕ → ℕ → Fact
 placeInCount f at =
-    fact (atMost (placeOf (groupByteOf f at)) (countOf (groupByteOf f at))) (record { reason = reason.Agreement; start = at; place = at + place.baliseGroup; width = 1; rule = rule.PlaceInCount })
+    fact (atMost (placeOf (groupByteOf f at)) (countOf (groupByteOf f at))) (record { reason = reason.Agreement; start = at; place = placeIn at row.baliseGroup; width = 1; rule = rule.PlaceInCount })
 
 -- only a balise has such a rule
 unfoldable pub kindAgrees : List ℕ → Kind → ℕ → List Fact

@@ -34,7 +34,7 @@ fn entries_agree(f: &[u8], entries: usize, from: usize, count: usize, v: Judged)
     let mut i = 0;
     while i < count {
         let here = entries + ENTRY_SIZE * i + ENTRY_TRACK;
-        let own = from + Boundary::SIZE * i + Boundary::TRACK;
+        let own = from + Boundary::SIZE * i + Boundary::TRACK.0;
         w = same_as(w, f, 0, here, Width::One, here, own);
         i = i + 1;
     }
@@ -46,7 +46,7 @@ fn place_in_count(v: Judged, f: &[u8], at: usize) -> Judged
     requires { ⌜ at ≤ placeMost ⌝ }
     ensures { λ r. ⌜ r ≡ judge v (placeInCount (now (f .entry)) at ∷ []) ⌝ }
 {
-    let place = at + Balise::GROUP;
+    let place = at + Balise::GROUP.0;
     let byte = byte_at(f, place);
     let ok = Balise::place_of(byte) <= Balise::count_of(byte);
     let reason = Reason::Agreement;

@@ -1,10 +1,12 @@
 // The fields of each kind of record: tables 6 to 12. A place is one of a file of at most 65,535 bytes.
 ghost use mathlib.Core.Path.{_≡_};
-ghost use mathlib.Core.List.{[], _∷_};
+ghost use mathlib.Core.List.{[], _∷_, _++_};
 ghost use Prim.Native.Nat.{_+_, _≤_, _<_};
 ghost use Rattle.verdict.specs.Facts.{judge};
 ghost use Rattle.layout.specs.Bounds.{placeMost};
-ghost use Rattle.fields.specs.Fields.{position, track, typeByte, boundaryFields, turnoutFields, lastByte, messageFields, fixedFields, baliseFields, signalFields, jointFields, sidingFields, kindFields};
+ghost use Rattle.fields.specs.Fields.{track, lastByte, messageFields, kindFields};
+ghost use Rattle.fields.specs.Rows.{tableFacts};
+ghost use Rattle.records.specs.Rows.{boundaryTable, turnoutTable, baliseTable, signalTable, jointTable, sidingTable};
 use crate::DUTY_LEAST;
 use crate::DUTY_MOST;
 use crate::FACING_MOST;
@@ -23,32 +25,17 @@ use records::Kind;
 use records::Siding;
 use records::Signal;
 use records::Turnout;
-use rules::among;
 use rules::between;
-use rules::is_number;
-use rules::part;
+use rules::field_among;
+use rules::field_between;
+use rules::field_bits;
+use rules::field_is;
 use tracks::POSITION_MOST;
 use verdict::Judged;
 use verdict::Mark;
 use verdict::Reason;
 use verdict::Rule;
 use verdict::also_fact;
-
-// A position.
-fn position_at(v: Judged, f: &[u8], start: usize, place: usize) -> Judged
-    ensures { λ r. ⌜ r ≡ judge v (position (now (f .entry)) start place ∷ []) ⌝ }
-{
-    between(
-        v,
-        f,
-        Reason::Field,
-        start,
-        place,
-        Width::Four,
-        0,
-        POSITION_MOST,
-    )
-}
 
 // A track.
 pub fn track_at(v: Judged, f: &[u8], start: usize, place: usize) -> Judged
@@ -57,75 +44,41 @@ pub fn track_at(v: Judged, f: &[u8], start: usize, place: usize) -> Judged
     between(v, f, Reason::Field, start, place, Width::One, 1, 255)
 }
 
-// The type byte of a record.
-fn type_byte(v: Judged, f: &[u8], start: usize, place: usize, n: usize) -> Judged
-    ensures { λ r. ⌜ r ≡ judge v (typeByte (now (f .entry)) start place n ∷ []) ⌝ }
-{
-    is_number(v, f, Reason::Field, start, place, Width::One, n)
-}
-
 // A boundary, whose type byte is one of two.
 fn boundary_fields(f: &[u8], low: usize, high: usize, at: usize, v: Judged) -> Judged
     requires { ⌜ at ≤ placeMost ⌝ }
-    ensures { λ r. ⌜ r ≡ judge v (boundaryFields (now (f .entry)) low high at) ⌝ }
+    ensures { λ r. ⌜ r ≡ judge v (tableFacts (now (f .entry)) at (boundaryTable low high)) ⌝ }
 {
-    let mut w = between(
-        v,
-        f,
-        Reason::Field,
-        at,
-        at + Boundary::ENTRY,
-        Width::One,
-        low,
-        high,
-    );
-    w = among(
+    let mut w = field_between(v, f, at, Boundary::ENTRY, low, high);
+    w = field_among(
         w,
         f,
         at,
-        at + Boundary::NEIGHBOUR_TYPE,
+        Boundary::NEIGHBOUR_TYPE,
         Boundary::START_UP,
         Boundary::START_DOWN,
         Boundary::END_UP,
         Boundary::END_DOWN,
         Boundary::UNKNOWN,
     );
-    w = position_at(w, f, at, at + Boundary::POSITION);
-    track_at(w, f, at, at + Boundary::TRACK)
+    w = field_between(w, f, at, Boundary::POSITION, 0, POSITION_MOST);
+    field_between(w, f, at, Boundary::TRACK, 1, 255)
 }
 
 // A turnout.
 fn turnout_fields(f: &[u8], at: usize, v: Judged) -> Judged
     requires { ⌜ at ≤ placeMost ⌝ }
-    ensures { λ r. ⌜ r ≡ judge v (turnoutFields (now (f .entry)) at) ⌝ }
+    ensures { λ r. ⌜ r ≡ judge v (tableFacts (now (f .entry)) at turnoutTable) ⌝ }
 {
-    let mut w = type_byte(v, f, at, at + Turnout::ENTRY, Turnout::TYPE);
-    w = between(
-        w,
-        f,
-        Reason::Field,
-        at,
-        at + Turnout::NUMBER,
-        Width::One,
-        1,
-        255,
-    );
-    w = between(
-        w,
-        f,
-        Reason::Field,
-        at,
-        at + Turnout::DIRECTION,
-        Width::One,
-        0,
-        1,
-    );
-    w = position_at(w, f, at, at + Turnout::TIP_POSITION);
-    w = position_at(w, f, at, at + Turnout::NORMAL_POSITION);
-    w = position_at(w, f, at, at + Turnout::REVERSE_POSITION);
-    w = track_at(w, f, at, at + Turnout::FRONT_TRACK);
-    w = track_at(w, f, at, at + Turnout::NORMAL_TRACK);
-    track_at(w, f, at, at + Turnout::REVERSE_TRACK)
+    let mut w = field_is(v, f, at, Turnout::ENTRY, Turnout::TYPE);
+    w = field_between(w, f, at, Turnout::NUMBER, 1, 255);
+    w = field_between(w, f, at, Turnout::DIRECTION, 0, 1);
+    w = field_between(w, f, at, Turnout::TIP_POSITION, 0, POSITION_MOST);
+    w = field_between(w, f, at, Turnout::NORMAL_POSITION, 0, POSITION_MOST);
+    w = field_between(w, f, at, Turnout::REVERSE_POSITION, 0, POSITION_MOST);
+    w = field_between(w, f, at, Turnout::FRONT_TRACK, 1, 255);
+    w = field_between(w, f, at, Turnout::NORMAL_TRACK, 1, 255);
+    field_between(w, f, at, Turnout::REVERSE_TRACK, 1, 255)
 }
 
 // The last of so many bytes at a place is this one.
@@ -151,7 +104,7 @@ fn message_fields(f: &[u8], at: usize, v: Judged) -> Judged
     requires { ⌜ at ≤ placeMost ⌝ }
     ensures { λ r. ⌜ r ≡ judge v (messageFields (now (f .entry)) at) ⌝ }
 {
-    let size = byte_at(f, at + Balise::SIZE_BYTE);
+    let size = byte_at(f, at + Balise::SIZE_BYTE.0);
     if size <= Balise::SIZE {
         return v;
     }
@@ -168,48 +121,30 @@ fn message_fields(f: &[u8], at: usize, v: Judged) -> Judged
 // A balise without its message.
 fn fixed_fields(f: &[u8], at: usize, v: Judged) -> Judged
     requires { ⌜ at ≤ placeMost ⌝ }
-    ensures { λ r. ⌜ r ≡ judge v (fixedFields (now (f .entry)) at) ⌝ }
+    ensures { λ r. ⌜ r ≡ judge v (tableFacts (now (f .entry)) at baliseTable) ⌝ }
 {
-    let mut w = type_byte(v, f, at, at + Balise::ENTRY, Balise::TYPE);
-    w = between(
-        w,
-        f,
-        Reason::Field,
-        at,
-        at + Balise::NUMBER,
-        Width::Three,
-        0,
-        Balise::NONE - 1,
-    );
-    w = among(
+    let mut w = field_is(v, f, at, Balise::ENTRY, Balise::TYPE);
+    w = field_between(w, f, at, Balise::NUMBER, 0, Balise::NONE - 1);
+    w = field_among(
         w,
         f,
         at,
-        at + Balise::ATTRIBUTE,
+        Balise::ATTRIBUTE,
         OPPOSITE_VIRTUAL,
         OPPOSITE_PHYSICAL,
         SAME_VIRTUAL,
         SAME_PHYSICAL,
         SAME_PHYSICAL,
     );
-    w = position_at(w, f, at, at + Balise::POSITION);
-    w = track_at(w, f, at, at + Balise::TRACK);
-    part(
-        w,
-        f,
-        at,
-        at + Balise::GROUP,
-        Balise::MIDDLE_OVER,
-        Balise::MIDDLE_MODULO,
-        0,
-        0,
-    )
+    w = field_between(w, f, at, Balise::POSITION, 0, POSITION_MOST);
+    w = field_between(w, f, at, Balise::TRACK, 1, 255);
+    field_bits(w, f, at, Balise::GROUP, Balise::MIDDLE, 0, 0)
 }
 
 // A balise.
 fn balise_fields(f: &[u8], at: usize, v: Judged) -> Judged
     requires { ⌜ at ≤ placeMost ⌝ }
-    ensures { λ r. ⌜ r ≡ judge v (baliseFields (now (f .entry)) at) ⌝ }
+    ensures { λ r. ⌜ r ≡ judge v (tableFacts (now (f .entry)) at baliseTable ++ messageFields (now (f .entry)) at) ⌝ }
 {
     let w = fixed_fields(f, at, v);
     message_fields(f, at, w)
@@ -218,64 +153,36 @@ fn balise_fields(f: &[u8], at: usize, v: Judged) -> Judged
 // A signal.
 fn signal_fields(f: &[u8], at: usize, v: Judged) -> Judged
     requires { ⌜ at ≤ placeMost ⌝ }
-    ensures { λ r. ⌜ r ≡ judge v (signalFields (now (f .entry)) at) ⌝ }
+    ensures { λ r. ⌜ r ≡ judge v (tableFacts (now (f .entry)) at signalTable) ⌝ }
 {
-    let byte = at + Signal::BYTE;
-    let mut w = type_byte(v, f, at, at + Signal::ENTRY, Signal::TYPE);
+    let mut w = field_is(v, f, at, Signal::ENTRY, Signal::TYPE);
     w = object_name(w, f, at, at + Signal::NAME, 1);
-    w = position_at(w, f, at, at + Signal::POSITION);
-    w = track_at(w, f, at, at + Signal::TRACK);
-    w = part(
-        w,
-        f,
-        at,
-        byte,
-        Signal::DIRECTION_OVER,
-        Signal::DIRECTION_MODULO,
-        0,
-        FACING_MOST,
-    );
-    w = part(
-        w,
-        f,
-        at,
-        byte,
-        Signal::MIDDLE_OVER,
-        Signal::MIDDLE_MODULO,
-        0,
-        0,
-    );
-    part(
-        w,
-        f,
-        at,
-        byte,
-        Signal::DUTY_OVER,
-        Signal::DUTY_MODULO,
-        DUTY_LEAST,
-        DUTY_MOST,
-    )
+    w = field_between(w, f, at, Signal::POSITION, 0, POSITION_MOST);
+    w = field_between(w, f, at, Signal::TRACK, 1, 255);
+    w = field_bits(w, f, at, Signal::BYTE, Signal::TOP, 0, FACING_MOST);
+    w = field_bits(w, f, at, Signal::BYTE, Signal::MIDDLE, 0, 0);
+    field_bits(w, f, at, Signal::BYTE, Signal::LOW, DUTY_LEAST, DUTY_MOST)
 }
 
 // A joint.
 fn joint_fields(f: &[u8], at: usize, v: Judged) -> Judged
     requires { ⌜ at ≤ placeMost ⌝ }
-    ensures { λ r. ⌜ r ≡ judge v (jointFields (now (f .entry)) at) ⌝ }
+    ensures { λ r. ⌜ r ≡ judge v (tableFacts (now (f .entry)) at jointTable) ⌝ }
 {
-    let mut w = type_byte(v, f, at, at + Joint::ENTRY, Joint::TYPE);
+    let mut w = field_is(v, f, at, Joint::ENTRY, Joint::TYPE);
     w = object_name(w, f, at, at + Joint::NAME, 1);
-    w = position_at(w, f, at, at + Joint::POSITION);
-    track_at(w, f, at, at + Joint::TRACK)
+    w = field_between(w, f, at, Joint::POSITION, 0, POSITION_MOST);
+    field_between(w, f, at, Joint::TRACK, 1, 255)
 }
 
 // A siding.
 fn siding_fields(f: &[u8], at: usize, v: Judged) -> Judged
     requires { ⌜ at ≤ placeMost ⌝ }
-    ensures { λ r. ⌜ r ≡ judge v (sidingFields (now (f .entry)) at) ⌝ }
+    ensures { λ r. ⌜ r ≡ judge v (tableFacts (now (f .entry)) at sidingTable) ⌝ }
 {
-    let mut w = type_byte(v, f, at, at + Siding::ENTRY, Siding::TYPE);
+    let mut w = field_is(v, f, at, Siding::ENTRY, Siding::TYPE);
     w = object_name(w, f, at, at + Siding::NAME, 1);
-    w = track_at(w, f, at, at + Siding::TRACK);
+    w = field_between(w, f, at, Siding::TRACK, 1, 255);
     w = object_name(w, f, at, at + Siding::UP_SIGNAL, 0);
     object_name(w, f, at, at + Siding::DOWN_SIGNAL, 0)
 }

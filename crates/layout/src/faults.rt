@@ -90,7 +90,7 @@ fn size_byte(f: &[u8], at: usize, v: Judged) -> Judged
     requires { ⌜ at < 2 ^ 63 ⌝ }
     ensures { λ r. ⌜ r ≡ judge v (sizeByte (now (f .entry)) at ∷ []) ⌝ }
 {
-    let field = at + Balise::SIZE_BYTE;
+    let field = at + Balise::SIZE_BYTE.0;
     let n = byte_at(f, field);
     let reason = Reason::Layout;
     let rule = Rule::SizeByte(field, SIZE_LEAST, SIZE_MOST);
@@ -113,7 +113,7 @@ fn balise_layout(f: &[u8], until: usize, at: usize, v: Judged) -> Judged
     requires { ⌜ at < 2 ^ 63 ⌝ }
     ensures { λ r. ⌜ r ≡ judge v (baliseLayout (now (f .entry)) until at) ⌝ }
 {
-    let n = byte_at(f, at + Balise::SIZE_BYTE);
+    let n = byte_at(f, at + Balise::SIZE_BYTE.0);
     let v1 = fits(v, at, at, 0, at + Balise::SIZE, until);
     let v2 = size_byte(f, at, v1);
     fits(v2, at, at, 0, at + n, until)

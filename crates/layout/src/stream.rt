@@ -43,7 +43,7 @@ pub fn balise_bytes(f: &[u8], at: usize) -> usize
     ensures { λ r. ⌜ r ≡ baliseBytes (now (f .entry)) at ⌝ }
     ensures { λ r. ⌜ (16 ≤ r) × (r < 256) ⌝ }
 {
-    let n = byte_behind(f, at, Balise::SIZE_BYTE);
+    let n = byte_behind(f, at, Balise::SIZE_BYTE.0);
     if Balise::SIZE < n { n } else { Balise::SIZE }
 }
 

@@ -1,3 +1,4 @@
 pub mod Places
+pub mod Rows
 pub mod Tables
 pub mod Records

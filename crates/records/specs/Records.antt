@@ -1,12 +1,14 @@
 -- The record of a kind that starts at a place. The kind follows from the place in the file, and is given.
 -- Assumes nothing.
-use Prim.Native.Nat.{ℕ, _+_}
-use mathlib.Core.List.{List, [], _∷_}
+use Prim.Native.Nat.{ℕ}
+use mathlib.Core.List.{List}
 use Rattle.records.specs.declared.Kind.{Kind}
 use Rattle.records.specs.declared.Kind.the-variants as kind
 use Rattle.records.specs.declared.Record.{Record}
 use Rattle.records.specs.declared.Record.the-variants as is
+use Rattle.rules.specs.Table.{linksIn}
 use Rattle.records.specs.Places as place
+use Rattle.records.specs.Rows.{tableOf}
 use Rattle.records.specs.Tables.{boundaryAt, turnoutAt, baliseAt, signalAt, jointAt, sidingAt}
 
 -- how many bytes a record of a kind has; a balise's message comes on top
@@ -21,13 +23,7 @@ sizeOf kind.Siding = place.sidingSize
 
 -- where the links of a record stand, in the order of its fields
 abbrev pub linkPlaces : Kind → ℕ → List ℕ
-linkPlaces kind.StartBoundary at = (at + place.boundaryLink) ∷ []
-linkPlaces kind.EndBoundary at = (at + place.boundaryLink) ∷ []
-linkPlaces kind.Turnout at = (at + place.turnoutFront) ∷ (at + place.turnoutNormal) ∷ (at + place.turnoutReverse) ∷ []
-linkPlaces kind.Balise at = (at + place.balisePrevious) ∷ (at + place.baliseNext) ∷ []
-linkPlaces kind.Signal at = (at + place.signalPrevious) ∷ (at + place.signalNext) ∷ []
-linkPlaces kind.Joint at = (at + place.jointPrevious) ∷ (at + place.jointNext) ∷ []
-linkPlaces kind.Siding at = []
+linkPlaces k at = linksIn at (tableOf k)
 
 -- what the bytes at a place mean, read as a record of a kind
 unfoldable pub recordAt : List ℕ → Kind → ℕ → Record

@@ -24,19 +24,21 @@ use Rattle.records.specs.declared.signals.Duty.the-variants.{Entry, Exit
 use Rattle.records.specs.declared.signals.Signal.{Signal}
 use Rattle.records.specs.declared.joints.Joint.{Joint}
 use Rattle.records.specs.declared.sidings.Siding.{Siding}
+use Rattle.rules.specs.Table.{bitsOf, valueOf, placeIn}
 use Rattle.records.specs.Places as place
+use Rattle.records.specs.Rows as row
 
 -- ---- tables 6 and 7: a boundary
 
 unfoldable pub boundaryAt : List ℕ → ℕ → Boundary
 boundaryAt f at = record {
-  entry = numAt 1 f (at + place.boundaryEntry);
-  link = numAt 2 f (at + place.boundaryLink);
-  «neighbour_station» = numAt 2 f (at + place.boundaryNeighbourStation);
-  «neighbour_type» = numAt 1 f (at + place.boundaryNeighbourType);
-  «neighbour_track» = numAt 1 f (at + place.boundaryNeighbourTrack);
-  position = numAt 4 f (at + place.boundaryPosition);
-  track = numAt 1 f (at + place.boundaryTrack);
+  entry = valueOf f at (row.boundaryEntry 0 0);
+  link = valueOf f at row.boundaryLink;
+  «neighbour_station» = valueOf f at row.boundaryNeighbourStation;
+  «neighbour_type» = valueOf f at row.boundaryNeighbourType;
+  «neighbour_track» = valueOf f at row.boundaryNeighbourTrack;
+  position = valueOf f at row.boundaryPosition;
+  track = valueOf f at row.boundaryTrack;
 }
 
 -- ---- table 8: a turnout
@@ -51,24 +53,24 @@ directionNumber Increasing = 1
 
 unfoldable pub turnoutAt : List ℕ → ℕ → Turnout
 turnoutAt f at = record {
-  number = numAt 1 f (at + place.turnoutNumber);
-  direction = directionOf (numAt 1 f (at + place.turnoutDirection));
-  «tip_position» = numAt 4 f (at + place.turnoutTipPosition);
-  «normal_position» = numAt 4 f (at + place.turnoutNormalPosition);
-  «reverse_position» = numAt 4 f (at + place.turnoutReversePosition);
-  front = numAt 2 f (at + place.turnoutFront);
-  normal = numAt 2 f (at + place.turnoutNormal);
-  reverse = numAt 2 f (at + place.turnoutReverse);
-  «front_track» = numAt 1 f (at + place.turnoutFrontTrack);
-  «normal_track» = numAt 1 f (at + place.turnoutNormalTrack);
-  «reverse_track» = numAt 1 f (at + place.turnoutReverseTrack);
+  number = valueOf f at row.turnoutNumber;
+  direction = directionOf (valueOf f at row.turnoutDirection);
+  «tip_position» = valueOf f at row.turnoutTipPosition;
+  «normal_position» = valueOf f at row.turnoutNormalPosition;
+  «reverse_position» = valueOf f at row.turnoutReversePosition;
+  front = valueOf f at row.turnoutFront;
+  normal = valueOf f at row.turnoutNormal;
+  reverse = valueOf f at row.turnoutReverse;
+  «front_track» = valueOf f at row.turnoutFrontTrack;
+  «normal_track» = valueOf f at row.turnoutNormalTrack;
+  «reverse_track» = valueOf f at row.turnoutReverseTrack;
 }
 
 -- ---- table 9: a balise
 
 -- the low two bits of the attribute byte: whether the balise stands in the data alone or lies in the track
 abbrev pub natureBits : ℕ → ℕ
-natureBits b = b / place.baliseNatureOver % place.baliseNatureModulo
+natureBits b = bitsOf row.baliseNature b
 
 unfoldable pub natureOf : ℕ → Nature
 natureOf b = cond (eqb (natureBits b) 0) Virtual Physical
@@ -79,7 +81,7 @@ natureNumber Physical = 1
 
 -- the top two bits of the attribute byte: whether the group goes against rising positions or with them
 abbrev pub wayBits : ℕ → ℕ
-wayBits b = b / place.baliseDirectionOver % place.baliseDirectionModulo
+wayBits b = bitsOf row.baliseWay b
 
 unfoldable pub wayOf : ℕ → Way
 wayOf b = cond (eqb (wayBits b) 1) Opposite Same
@@ -90,24 +92,24 @@ wayNumber Same = 2
 
 -- the low three bits of the group byte: the balise's place in its group, from 1 on
 abbrev pub placeOf : ℕ → ℕ
-placeOf b = b / place.balisePlaceOver % place.balisePlaceModulo + 1
+placeOf b = bitsOf row.balisePlace b + 1
 
 -- the top three bits of the group byte: how many balises the group has, from 1 on
 abbrev pub countOf : ℕ → ℕ
-countOf b = b / place.baliseCountOver % place.baliseCountModulo + 1
+countOf b = bitsOf row.baliseCount b + 1
 
 unfoldable pub baliseAt : List ℕ → ℕ → Balise
 baliseAt f at = record {
-  previous = numAt 2 f (at + place.balisePrevious);
-  next = numAt 2 f (at + place.baliseNext);
-  number = numAt 3 f (at + place.baliseNumber);
-  size = numAt 1 f (at + place.baliseSizeByte);
-  nature = natureOf (numAt 1 f (at + place.baliseAttribute));
-  direction = wayOf (numAt 1 f (at + place.baliseAttribute));
-  position = numAt 4 f (at + place.balisePosition);
-  track = numAt 1 f (at + place.baliseTrack);
-  place = placeOf (numAt 1 f (at + place.baliseGroup));
-  count = countOf (numAt 1 f (at + place.baliseGroup));
+  previous = valueOf f at row.balisePrevious;
+  next = valueOf f at row.baliseNext;
+  number = valueOf f at row.baliseNumber;
+  size = valueOf f at row.baliseSizeByte;
+  nature = natureOf (valueOf f at row.baliseAttribute);
+  direction = wayOf (valueOf f at row.baliseAttribute);
+  position = valueOf f at row.balisePosition;
+  track = valueOf f at row.baliseTrack;
+  place = placeOf (valueOf f at row.baliseGroup);
+  count = countOf (valueOf f at row.baliseGroup);
   message = at + place.baliseMessage;
 }
 
@@ -115,7 +117,7 @@ baliseAt f at = record {
 
 -- the top two bits of the signal byte: the direction that the signal is for
 abbrev pub facingBits : ℕ → ℕ
-facingBits b = b / place.signalDirectionOver % place.signalDirectionModulo
+facingBits b = bitsOf row.signalTop b
 
 unfoldable pub facingOf : ℕ → Facing
 facingOf b = cond (eqb (facingBits b) 0) Neither (cond (eqb (facingBits b) 1) Down Up)
@@ -127,7 +129,7 @@ facingNumber Up = 2
 
 -- the low four bits of the signal byte: what the signal is for
 abbrev pub dutyBits : ℕ → ℕ
-dutyBits b = b / place.signalDutyOver % place.signalDutyModulo
+dutyBits b = bitsOf row.signalLow b
 
 unfoldable pub dutyOf : ℕ → Duty
 dutyOf b =
@@ -145,34 +147,34 @@ dutyNumber Shunting = 5
 
 unfoldable pub signalAt : List ℕ → ℕ → Signal
 signalAt f at = record {
-  previous = numAt 2 f (at + place.signalPrevious);
-  next = numAt 2 f (at + place.signalNext);
-  name = at + place.signalName;
-  position = numAt 4 f (at + place.signalPosition);
-  track = numAt 1 f (at + place.signalTrack);
-  direction = facingOf (numAt 1 f (at + place.signalByte));
-  duty = dutyOf (numAt 1 f (at + place.signalByte));
+  previous = valueOf f at row.signalPrevious;
+  next = valueOf f at row.signalNext;
+  name = placeIn at row.signalName;
+  position = valueOf f at row.signalPosition;
+  track = valueOf f at row.signalTrack;
+  direction = facingOf (valueOf f at row.signalByte);
+  duty = dutyOf (valueOf f at row.signalByte);
 }
 
 -- ---- table 11: a joint
 
 unfoldable pub jointAt : List ℕ → ℕ → Joint
 jointAt f at = record {
-  previous = numAt 2 f (at + place.jointPrevious);
-  next = numAt 2 f (at + place.jointNext);
-  name = at + place.jointName;
-  position = numAt 4 f (at + place.jointPosition);
-  track = numAt 1 f (at + place.jointTrack);
+  previous = valueOf f at row.jointPrevious;
+  next = valueOf f at row.jointNext;
+  name = placeIn at row.jointName;
+  position = valueOf f at row.jointPosition;
+  track = valueOf f at row.jointTrack;
 }
 
 -- ---- table 12: a siding
 
 unfoldable pub sidingAt : List ℕ → ℕ → Siding
 sidingAt f at = record {
-  name = at + place.sidingName;
-  track = numAt 1 f (at + place.sidingTrack);
-  «up_balise» = numAt 3 f (at + place.sidingUpBalise);
-  «up_signal» = at + place.sidingUpSignal;
-  «down_balise» = numAt 3 f (at + place.sidingDownBalise);
-  «down_signal» = at + place.sidingDownSignal;
+  name = placeIn at row.sidingName;
+  track = valueOf f at row.sidingTrack;
+  «up_balise» = valueOf f at row.sidingUpBalise;
+  «up_signal» = placeIn at row.sidingUpSignal;
+  «down_balise» = valueOf f at row.sidingDownBalise;
+  «down_signal» = placeIn at row.sidingDownSignal;
 }

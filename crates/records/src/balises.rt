@@ -1,10 +1,10 @@
 // Balises (应答器): table 9. Two of its bytes have parts: a part of a byte is the byte divided by its OVER, modulo its MODULO.
 ghost use mathlib.Core.Path.{_≡_};
 ghost use Rattle.records.specs.Tables.{natureOf, natureNumber, wayOf, wayNumber, placeOf, countOf, baliseAt};
-use crate::byte_of;
-use crate::u16_of;
-use crate::u24_of;
-use crate::u32_of;
+use crate::number_of;
+use octets::Width;
+use rules::Bits;
+use rules::Field;
 
 // 应答器属性: the low two bits of the attribute byte.
 pub enum Nature {
@@ -103,23 +103,23 @@ impl Balise {
     pub const NONE: usize = 0xFF_FFFF;
 
     // Where each field stands, counted from the balise's start.
-    pub const ENTRY: usize = 0;
+    pub const ENTRY: Field = Field(0, Width::One);
 
-    pub const PREVIOUS: usize = 1;
+    pub const PREVIOUS: Field = Field(1, Width::Two);
 
-    pub const NEXT: usize = 3;
+    pub const NEXT: Field = Field(3, Width::Two);
 
-    pub const NUMBER: usize = 5;
+    pub const NUMBER: Field = Field(5, Width::Three);
 
-    pub const SIZE_BYTE: usize = 8;
+    pub const SIZE_BYTE: Field = Field(8, Width::One);
 
-    pub const ATTRIBUTE: usize = 9;
+    pub const ATTRIBUTE: Field = Field(9, Width::One);
 
-    pub const POSITION: usize = 10;
+    pub const POSITION: Field = Field(10, Width::Four);
 
-    pub const TRACK: usize = 14;
+    pub const TRACK: Field = Field(14, Width::One);
 
-    pub const GROUP: usize = 15;
+    pub const GROUP: Field = Field(15, Width::One);
 
     pub const MESSAGE: usize = 16;
 
@@ -137,9 +137,7 @@ impl Balise {
 
     pub const PLACE_MODULO: usize = 8;
 
-    pub const MIDDLE_OVER: usize = 8;
-
-    pub const MIDDLE_MODULO: usize = 4;
+    pub const MIDDLE: Bits = Bits(8, 4);
 
     pub const COUNT_OVER: usize = 32;
 
@@ -163,17 +161,17 @@ impl Balise {
     pub fn read(s: &[u8], at: u16) -> Self
         ensures { λ r. ⌜ r ≡ baliseAt (now (s .entry)) at ⌝ }
     {
-        let attribute = byte_of(s, at, Self::ATTRIBUTE);
-        let group = byte_of(s, at, Self::GROUP);
+        let attribute = number_of(s, at, Self::ATTRIBUTE);
+        let group = number_of(s, at, Self::GROUP);
         Balise {
-            previous: u16_of(s, at, Self::PREVIOUS),
-            next: u16_of(s, at, Self::NEXT),
-            number: u24_of(s, at, Self::NUMBER),
-            size: byte_of(s, at, Self::SIZE_BYTE),
+            previous: number_of(s, at, Self::PREVIOUS),
+            next: number_of(s, at, Self::NEXT),
+            number: number_of(s, at, Self::NUMBER),
+            size: number_of(s, at, Self::SIZE_BYTE),
             nature: Nature::of(attribute),
             direction: Way::of(attribute),
-            position: u32_of(s, at, Self::POSITION),
-            track: byte_of(s, at, Self::TRACK),
+            position: number_of(s, at, Self::POSITION),
+            track: number_of(s, at, Self::TRACK),
             place: Self::place_of(group),
             count: Self::count_of(group),
             message: at as usize + Self::MESSAGE,

@@ -1,9 +1,9 @@
 // Data boundaries (数据边界): table 6 for the start, table 7 for the end, with the same fields.
 ghost use mathlib.Core.Path.{_≡_};
 ghost use Rattle.records.specs.Tables.{boundaryAt};
-use crate::byte_of;
-use crate::u16_of;
-use crate::u32_of;
+use crate::number_of;
+use octets::Width;
+use rules::Field;
 
 pub struct Boundary {
     // 条目类型: the type byte as it stands: which line the boundary is on, and whether it starts or ends it
@@ -39,32 +39,32 @@ impl Boundary {
     pub const UNKNOWN: usize = 0x55;
 
     // Where each field stands, counted from the boundary's start.
-    pub const ENTRY: usize = 0;
+    pub const ENTRY: Field = Field(0, Width::One);
 
-    pub const LINK: usize = 1;
+    pub const LINK: Field = Field(1, Width::Two);
 
-    pub const NEIGHBOUR_STATION: usize = 3;
+    pub const NEIGHBOUR_STATION: Field = Field(3, Width::Two);
 
-    pub const NEIGHBOUR_TYPE: usize = 5;
+    pub const NEIGHBOUR_TYPE: Field = Field(5, Width::One);
 
-    pub const NEIGHBOUR_TRACK: usize = 6;
+    pub const NEIGHBOUR_TRACK: Field = Field(6, Width::One);
 
-    pub const POSITION: usize = 7;
+    pub const POSITION: Field = Field(7, Width::Four);
 
-    pub const TRACK: usize = 11;
+    pub const TRACK: Field = Field(11, Width::One);
 
     // The boundary that starts at a place.
     pub fn read(s: &[u8], at: u16) -> Self
         ensures { λ r. ⌜ r ≡ boundaryAt (now (s .entry)) at ⌝ }
     {
         Boundary {
-            entry: byte_of(s, at, Self::ENTRY),
-            link: u16_of(s, at, Self::LINK),
-            neighbour_station: u16_of(s, at, Self::NEIGHBOUR_STATION),
-            neighbour_type: byte_of(s, at, Self::NEIGHBOUR_TYPE),
-            neighbour_track: byte_of(s, at, Self::NEIGHBOUR_TRACK),
-            position: u32_of(s, at, Self::POSITION),
-            track: byte_of(s, at, Self::TRACK),
+            entry: number_of(s, at, Self::ENTRY),
+            link: number_of(s, at, Self::LINK),
+            neighbour_station: number_of(s, at, Self::NEIGHBOUR_STATION),
+            neighbour_type: number_of(s, at, Self::NEIGHBOUR_TYPE),
+            neighbour_track: number_of(s, at, Self::NEIGHBOUR_TRACK),
+            position: number_of(s, at, Self::POSITION),
+            track: number_of(s, at, Self::TRACK),
         }
     }
 }

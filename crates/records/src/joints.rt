@@ -1,9 +1,9 @@
 // Insulated rail joints (绝缘节): table 11.
 ghost use mathlib.Core.Path.{_≡_};
 ghost use Rattle.records.specs.Tables.{jointAt};
-use crate::byte_of;
-use crate::u16_of;
-use crate::u32_of;
+use crate::number_of;
+use octets::Width;
+use rules::Field;
 
 pub struct Joint {
     // 上一个数据对象的字节偏移: the object before it on its track
@@ -26,28 +26,28 @@ impl Joint {
     pub const TYPE: usize = 0xC6;
 
     // Where each field stands, counted from the joint's start.
-    pub const ENTRY: usize = 0;
+    pub const ENTRY: Field = Field(0, Width::One);
 
-    pub const PREVIOUS: usize = 1;
+    pub const PREVIOUS: Field = Field(1, Width::Two);
 
-    pub const NEXT: usize = 3;
+    pub const NEXT: Field = Field(3, Width::Two);
 
     pub const NAME: usize = 5;
 
-    pub const POSITION: usize = 13;
+    pub const POSITION: Field = Field(13, Width::Four);
 
-    pub const TRACK: usize = 17;
+    pub const TRACK: Field = Field(17, Width::One);
 
     // The joint that starts at a place.
     pub fn read(s: &[u8], at: u16) -> Self
         ensures { λ r. ⌜ r ≡ jointAt (now (s .entry)) at ⌝ }
     {
         Joint {
-            previous: u16_of(s, at, Self::PREVIOUS),
-            next: u16_of(s, at, Self::NEXT),
+            previous: number_of(s, at, Self::PREVIOUS),
+            next: number_of(s, at, Self::NEXT),
             name: at as usize + Self::NAME,
-            position: u32_of(s, at, Self::POSITION),
-            track: byte_of(s, at, Self::TRACK),
+            position: number_of(s, at, Self::POSITION),
+            track: number_of(s, at, Self::TRACK),
         }
     }
 }

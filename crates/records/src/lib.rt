@@ -4,12 +4,10 @@
 // for every file and every place.
 ghost use mathlib.Core.Path.{_≡_};
 ghost use Prim.Native.Nat.{_+_, _<_};
-ghost use Rattle.octets.specs.Octets.{numAt};
+ghost use Rattle.octets.specs.Octets.{bytesOf, numAt};
 ghost use Rattle.records.specs.Records.{sizeOf, recordAt};
-use octets::byte_at;
-use octets::u16_at;
-use octets::u24_at;
-use octets::u32_at;
+use rules::Field;
+use rules::field_number;
 
 mod balises;
 mod boundaries;
@@ -86,34 +84,10 @@ impl Record {
     }
 }
 
-// The field of one byte that stands k bytes behind a record's start.
-fn byte_of(s: &[u8], at: u16, k: usize) -> usize
-    requires { ⌜ k < 256 ⌝ }
-    ensures { λ r. ⌜ r ≡ numAt 1 (now (s .entry)) (at + k) ⌝ }
+// The number of a field.
+fn number_of(s: &[u8], at: u16, k: Field) -> usize
+    requires { ⌜ k .0 < 256 ⌝ }
+    ensures { λ r. ⌜ r ≡ numAt (bytesOf (k .1)) (now (s .entry)) (at + k .0) ⌝ }
 {
-    byte_at(s, at as usize + k)
-}
-
-// The field of two bytes.
-fn u16_of(s: &[u8], at: u16, k: usize) -> usize
-    requires { ⌜ k < 256 ⌝ }
-    ensures { λ r. ⌜ r ≡ numAt 2 (now (s .entry)) (at + k) ⌝ }
-{
-    u16_at(s, at as usize + k)
-}
-
-// The field of three bytes.
-fn u24_of(s: &[u8], at: u16, k: usize) -> usize
-    requires { ⌜ k < 256 ⌝ }
-    ensures { λ r. ⌜ r ≡ numAt 3 (now (s .entry)) (at + k) ⌝ }
-{
-    u24_at(s, at as usize + k)
-}
-
-// The field of four bytes.
-fn u32_of(s: &[u8], at: u16, k: usize) -> usize
-    requires { ⌜ k < 256 ⌝ }
-    ensures { λ r. ⌜ r ≡ numAt 4 (now (s .entry)) (at + k) ⌝ }
-{
-    u32_at(s, at as usize + k)
+    field_number(s, at as usize, k)
 }

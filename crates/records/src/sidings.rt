@@ -1,8 +1,9 @@
 // Sidings (股道): table 12. A siding is no object of its track: it has no link and no position.
 ghost use mathlib.Core.Path.{_≡_};
 ghost use Rattle.records.specs.Tables.{sidingAt};
-use crate::byte_of;
-use crate::u24_of;
+use crate::number_of;
+use octets::Width;
+use rules::Field;
 
 pub struct Siding {
     // 股道名称: where its name of 8 bytes stands
@@ -27,17 +28,17 @@ impl Siding {
     pub const TYPE: usize = 0xCC;
 
     // Where each field stands, counted from the siding's start.
-    pub const ENTRY: usize = 0;
+    pub const ENTRY: Field = Field(0, Width::One);
 
     pub const NAME: usize = 1;
 
-    pub const TRACK: usize = 9;
+    pub const TRACK: Field = Field(9, Width::One);
 
-    pub const UP_BALISE: usize = 10;
+    pub const UP_BALISE: Field = Field(10, Width::Three);
 
     pub const UP_SIGNAL: usize = 13;
 
-    pub const DOWN_BALISE: usize = 21;
+    pub const DOWN_BALISE: Field = Field(21, Width::Three);
 
     pub const DOWN_SIGNAL: usize = 24;
 
@@ -47,10 +48,10 @@ impl Siding {
     {
         Siding {
             name: at as usize + Self::NAME,
-            track: byte_of(s, at, Self::TRACK),
-            up_balise: u24_of(s, at, Self::UP_BALISE),
+            track: number_of(s, at, Self::TRACK),
+            up_balise: number_of(s, at, Self::UP_BALISE),
             up_signal: at as usize + Self::UP_SIGNAL,
-            down_balise: u24_of(s, at, Self::DOWN_BALISE),
+            down_balise: number_of(s, at, Self::DOWN_BALISE),
             down_signal: at as usize + Self::DOWN_SIGNAL,
         }
     }

@@ -1,9 +1,11 @@
 // Signals (信号机): table 10. The signal byte has parts: a part of a byte is the byte divided by its OVER, modulo its MODULO.
 ghost use mathlib.Core.Path.{_≡_};
 ghost use Rattle.records.specs.Tables.{facingOf, facingNumber, dutyOf, dutyNumber, signalAt};
-use crate::byte_of;
-use crate::u16_of;
-use crate::u32_of;
+use crate::number_of;
+use octets::Width;
+use rules::Bits;
+use rules::Field;
+use rules::bits_of;
 
 // 信号机方向: the direction that a signal is for, the top two bits of the signal byte.
 pub enum Facing {
@@ -20,7 +22,7 @@ impl Facing {
     pub fn of(b: usize) -> Self
         ensures { λ r. ⌜ r ≡ facingOf b ⌝ }
     {
-        match b / Signal::DIRECTION_OVER % Signal::DIRECTION_MODULO {
+        match bits_of(b, Signal::TOP) {
             0 => Facing::Neither,
             1 => Facing::Down,
             _ => Facing::Up,
@@ -58,7 +60,7 @@ impl Duty {
     pub fn of(b: usize) -> Self
         ensures { λ r. ⌜ r ≡ dutyOf b ⌝ }
     {
-        match b / Signal::DUTY_OVER % Signal::DUTY_MODULO {
+        match bits_of(b, Signal::LOW) {
             1 => Duty::Entry,
             2 => Duty::Exit,
             3 => Duty::Passing,
@@ -105,45 +107,39 @@ impl Signal {
     // The type byte.
     pub const TYPE: usize = 0xC3;
 
-    // Where each field stands, counted from the signal's start.
-    pub const ENTRY: usize = 0;
+    // The fields: where each stands, counted from the signal's start, and its width; the name has 8 bytes.
+    pub const ENTRY: Field = Field(0, Width::One);
 
-    pub const PREVIOUS: usize = 1;
+    pub const PREVIOUS: Field = Field(1, Width::Two);
 
-    pub const NEXT: usize = 3;
+    pub const NEXT: Field = Field(3, Width::Two);
 
     pub const NAME: usize = 5;
 
-    pub const POSITION: usize = 13;
+    pub const POSITION: Field = Field(13, Width::Four);
 
-    pub const TRACK: usize = 17;
+    pub const TRACK: Field = Field(17, Width::One);
 
-    pub const BYTE: usize = 18;
+    pub const BYTE: Field = Field(18, Width::One);
 
     // The parts of the signal byte; the middle one is 0.
-    pub const DUTY_OVER: usize = 1;
+    pub const TOP: Bits = Bits(64, 4);
 
-    pub const DUTY_MODULO: usize = 16;
+    pub const MIDDLE: Bits = Bits(16, 4);
 
-    pub const MIDDLE_OVER: usize = 16;
-
-    pub const MIDDLE_MODULO: usize = 4;
-
-    pub const DIRECTION_OVER: usize = 64;
-
-    pub const DIRECTION_MODULO: usize = 4;
+    pub const LOW: Bits = Bits(1, 16);
 
     // The signal that starts at a place.
     pub fn read(s: &[u8], at: u16) -> Self
         ensures { λ r. ⌜ r ≡ signalAt (now (s .entry)) at ⌝ }
     {
-        let byte = byte_of(s, at, Self::BYTE);
+        let byte = number_of(s, at, Self::BYTE);
         Signal {
-            previous: u16_of(s, at, Self::PREVIOUS),
-            next: u16_of(s, at, Self::NEXT),
+            previous: number_of(s, at, Self::PREVIOUS),
+            next: number_of(s, at, Self::NEXT),
             name: at as usize + Self::NAME,
-            position: u32_of(s, at, Self::POSITION),
-            track: byte_of(s, at, Self::TRACK),
+            position: number_of(s, at, Self::POSITION),
+            track: number_of(s, at, Self::TRACK),
             direction: Facing::of(byte),
             duty: Duty::of(byte),
         }

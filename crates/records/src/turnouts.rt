@@ -1,9 +1,9 @@
 // Turnouts (道岔): table 8.
 ghost use mathlib.Core.Path.{_≡_};
 ghost use Rattle.records.specs.Tables.{directionOf, directionNumber, turnoutAt};
-use crate::byte_of;
-use crate::u16_of;
-use crate::u32_of;
+use crate::number_of;
+use octets::Width;
+use rules::Field;
 
 // 方向: the direction in which a turnout opens, on the track of its tip.
 pub enum Direction {
@@ -67,47 +67,47 @@ impl Turnout {
     // The type byte.
     pub const TYPE: usize = 0x06;
 
-    // Where each field stands, counted from the turnout's start.
-    pub const ENTRY: usize = 0;
+    // The fields: where each stands, counted from the turnout's start, and its width.
+    pub const ENTRY: Field = Field(0, Width::One);
 
-    pub const NUMBER: usize = 1;
+    pub const NUMBER: Field = Field(1, Width::One);
 
-    pub const DIRECTION: usize = 2;
+    pub const DIRECTION: Field = Field(2, Width::One);
 
-    pub const TIP_POSITION: usize = 3;
+    pub const TIP_POSITION: Field = Field(3, Width::Four);
 
-    pub const NORMAL_POSITION: usize = 7;
+    pub const NORMAL_POSITION: Field = Field(7, Width::Four);
 
-    pub const REVERSE_POSITION: usize = 11;
+    pub const REVERSE_POSITION: Field = Field(11, Width::Four);
 
-    pub const FRONT: usize = 15;
+    pub const FRONT: Field = Field(15, Width::Two);
 
-    pub const NORMAL: usize = 17;
+    pub const NORMAL: Field = Field(17, Width::Two);
 
-    pub const REVERSE: usize = 19;
+    pub const REVERSE: Field = Field(19, Width::Two);
 
-    pub const FRONT_TRACK: usize = 21;
+    pub const FRONT_TRACK: Field = Field(21, Width::One);
 
-    pub const NORMAL_TRACK: usize = 22;
+    pub const NORMAL_TRACK: Field = Field(22, Width::One);
 
-    pub const REVERSE_TRACK: usize = 23;
+    pub const REVERSE_TRACK: Field = Field(23, Width::One);
 
     // The turnout that starts at a place.
     pub fn read(s: &[u8], at: u16) -> Self
         ensures { λ r. ⌜ r ≡ turnoutAt (now (s .entry)) at ⌝ }
     {
         Turnout {
-            number: byte_of(s, at, Self::NUMBER),
-            direction: Direction::of(byte_of(s, at, Self::DIRECTION)),
-            tip_position: u32_of(s, at, Self::TIP_POSITION),
-            normal_position: u32_of(s, at, Self::NORMAL_POSITION),
-            reverse_position: u32_of(s, at, Self::REVERSE_POSITION),
-            front: u16_of(s, at, Self::FRONT),
-            normal: u16_of(s, at, Self::NORMAL),
-            reverse: u16_of(s, at, Self::REVERSE),
-            front_track: byte_of(s, at, Self::FRONT_TRACK),
-            normal_track: byte_of(s, at, Self::NORMAL_TRACK),
-            reverse_track: byte_of(s, at, Self::REVERSE_TRACK),
+            number: number_of(s, at, Self::NUMBER),
+            direction: Direction::of(number_of(s, at, Self::DIRECTION)),
+            tip_position: number_of(s, at, Self::TIP_POSITION),
+            normal_position: number_of(s, at, Self::NORMAL_POSITION),
+            reverse_position: number_of(s, at, Self::REVERSE_POSITION),
+            front: number_of(s, at, Self::FRONT),
+            normal: number_of(s, at, Self::NORMAL),
+            reverse: number_of(s, at, Self::REVERSE),
+            front_track: number_of(s, at, Self::FRONT_TRACK),
+            normal_track: number_of(s, at, Self::NORMAL_TRACK),
+            reverse_track: number_of(s, at, Self::REVERSE_TRACK),
         }
     }
 }

@@ -4,14 +4,12 @@ use borrow.Author.Needs.{needs}
 use Rattle.rules.proofs.among.Statement.{statement}
 use Rattle.rules.proofs.among.Tie as tie
 
-byte-at-requires : tie.Need-byte-at-requires
-byte-at-requires c κs = search needs
-
-also-fact-requires : tie.Need-also-fact-requires
-also-fact-requires c κs = search needs
-
 returns : tie.Need-returns
 returns c = simp (c .also-fact .ensures, c .before .byte-at .ensures .is)
 
 pub among-spec : {M : Type 1} → statement M
-among-spec = tie.close (tie.spec byte-at-requires also-fact-requires returns)
+among-spec = tie.close
+    (tie.spec
+    (λ c κs. search needs)
+    (λ c κs. search needs)
+    returns)

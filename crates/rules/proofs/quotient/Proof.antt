@@ -7,14 +7,12 @@ use borrow.Author.Needs.{needs}
 use Rattle.rules.proofs.quotient.Statement.{statement}
 use Rattle.rules.proofs.quotient.Tie as tie
 
-div-result : tie.Need-div-result
-div-result c = search needs
-
 returns : tie.Need-returns
 returns c = sym (ap (λ (d : ℕ). (c .before .args .x) / d) (c .if1 .taken) ∙ div-zero (c .before .args .x))
 
-returns-2 : tie.Need-returns-2
-returns-2 c = search needs
-
 pub quotient-spec : {M : Type 1} → statement M
-quotient-spec = tie.close (tie.spec div-result returns returns-2)
+quotient-spec = tie.close
+    (tie.spec
+    (λ c. search needs)
+    returns
+    (λ c. search needs))

@@ -7,14 +7,12 @@ use borrow.Author.Needs.{needs}
 use Rattle.rules.proofs.rest.Statement.{statement}
 use Rattle.rules.proofs.rest.Tie as tie
 
-rem-result : tie.Need-rem-result
-rem-result c = search needs
-
 returns : tie.Need-returns
 returns c = sym (ap (λ (d : ℕ). (c .before .args .x) % d) (c .if1 .taken) ∙ mod-zero (c .before .args .x))
 
-returns-2 : tie.Need-returns-2
-returns-2 c = search needs
-
 pub rest-spec : {M : Type 1} → statement M
-rest-spec = tie.close (tie.spec rem-result returns returns-2)
+rest-spec = tie.close
+    (tie.spec
+    (λ c. search needs)
+    returns
+    (λ c. search needs))

@@ -4,14 +4,12 @@ use borrow.Author.Needs.{needs}
 use Rattle.rules.proofs.whole.Statement.{statement}
 use Rattle.rules.proofs.whole.Tie as tie
 
-rest-requires : tie.Need-rest-requires
-rest-requires c κs = search needs
-
-also-fact-requires : tie.Need-also-fact-requires
-also-fact-requires c κs = search needs
-
 returns : tie.Need-returns
 returns c = simp (c .also-fact .ensures, c .before .rest .ensures)
 
 pub whole-spec : {M : Type 1} → statement M
-whole-spec = tie.close (tie.spec rest-requires also-fact-requires returns)
+whole-spec = tie.close
+    (tie.spec
+    (λ c κs. search needs)
+    (λ c κs. search needs)
+    returns)

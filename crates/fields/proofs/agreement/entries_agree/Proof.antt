@@ -27,8 +27,8 @@ loop-holds c = refl
 
 loop-again : tie.Need-loop-again Inv-loop μ-loop
 loop-again c =
-    let a = c .before .before .before .before .args in
-    let h = c .before .before .loop in
+    let a = c .before .before .before .before .before .args in
+    let h = c .before .before .before .loop in
     judge-step (λ _. 1) (a .count) (entryAgrees (a .f .now) (a .entries) (a .from)) (λ x. omega arith) (h .w) _ (h .i) _ (omega arith) (c .same-as .ensures) refl ∙ h .inv
 
 returns : tie.Need-returns Inv-loop μ-loop

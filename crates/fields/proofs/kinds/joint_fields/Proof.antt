@@ -5,18 +5,15 @@ use Rattle.fields.proofs.kinds.joint_fields.Statement.{statement}
 use Rattle.fields.proofs.kinds.joint_fields.Tie as tie
 
 returns : tie.Need-returns
-returns c = simp (c .track-at .ensures, c .before .position-at .ensures, c .before .before .object-name .ensures, c .before .before .before .type-byte .ensures)
+returns c = simp (c .field-between2 .ensures, c .before .field-between .ensures, c .before .before .object-name .ensures, c .before .before .before .field-is .ensures)
 
 pub joint-fields-spec : {M : Type 1} → statement M
 joint-fields-spec =
     tie.close
     (tie.spec
-    (λ c. search needs)
     (λ c κs. search needs)
     (λ c. search needs)
     (λ c κs. search needs)
-    (λ c. search needs)
     (λ c κs. search needs)
-    (λ c. search needs)
     (λ c κs. search needs)
     returns)

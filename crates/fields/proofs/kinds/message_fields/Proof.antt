@@ -7,12 +7,12 @@ use Rattle.fields.proofs.kinds.message_fields.Tie as tie
 
 returns : tie.Need-returns
 returns c =
-    let a = c .before .before .before .args in
+    let a = c .before .before .before .before .args in
     no-message (a .f .now) (a .at) (c .before .byte-at .result) (a .v) (c .before .byte-at .ensures .is) (c .if1 .taken)
 
 returns-2 : tie.Need-returns-2
 returns-2 c =
-    let a = c .before .before .before .before .args in
+    let a = c .before .before .before .before .before .args in
     let size = c .before .before .byte-at in
     message-judged (a .f .now) (a .at) (size .result) (a .v) (size .ensures .is) (c .last-byte .result) (c .before .if1 .left) (c .last-byte .ensures)
 

@@ -5,20 +5,16 @@ use Rattle.fields.proofs.kinds.signal_fields.Statement.{statement}
 use Rattle.fields.proofs.kinds.signal_fields.Tie as tie
 
 returns : tie.Need-returns
-returns c = simp (c .part3 .ensures, c .before .part2 .ensures, c .before .before .part .ensures, c .before .before .before .track-at .ensures, c .before .before .before .before .position-at .ensures, c .before .before .before .before .before .object-name .ensures, c .before .before .before .before .before .before .type-byte .ensures)
+returns c = simp (c .field-bits3 .ensures, c .before .field-bits2 .ensures, c .before .before .field-bits .ensures, c .before .before .before .field-between2 .ensures, c .before .before .before .before .field-between .ensures, c .before .before .before .before .before .object-name .ensures, c .before .before .before .before .before .before .field-is .ensures)
 
 pub signal-fields-spec : {M : Type 1} → statement M
 signal-fields-spec =
     tie.close
     (tie.spec
-    (λ c. search needs)
-    (λ c. search needs)
     (λ c κs. search needs)
     (λ c. search needs)
     (λ c κs. search needs)
-    (λ c. search needs)
     (λ c κs. search needs)
-    (λ c. search needs)
     (λ c κs. search needs)
     (λ c κs. search needs)
     (λ c κs. search needs)

@@ -5,48 +5,6 @@ use borrow.Author.Needs.{needs}
 use Rattle.records.proofs.Record.read.Statement.{statement}
 use Rattle.records.proofs.Record.read.Tie as tie
 
-enum-told : tie.Need-enum-told
-enum-told c = search needs
-
-read-requires : tie.Need-read-requires
-read-requires c κs = search needs
-
-enum-told-2 : tie.Need-enum-told-2
-enum-told-2 c = search needs
-
-read-requires-2 : tie.Need-read-requires-2
-read-requires-2 c κs = search needs
-
-enum-told-3 : tie.Need-enum-told-3
-enum-told-3 c = search needs
-
-read-requires-3 : tie.Need-read-requires-3
-read-requires-3 c κs = search needs
-
-enum-told-4 : tie.Need-enum-told-4
-enum-told-4 c = search needs
-
-read-requires-4 : tie.Need-read-requires-4
-read-requires-4 c κs = search needs
-
-enum-told-5 : tie.Need-enum-told-5
-enum-told-5 c = search needs
-
-read-requires-5 : tie.Need-read-requires-5
-read-requires-5 c κs = search needs
-
-enum-told-6 : tie.Need-enum-told-6
-enum-told-6 c = search needs
-
-read-requires-6 : tie.Need-read-requires-6
-read-requires-6 c κs = search needs
-
-enum-told-7 : tie.Need-enum-told-7
-enum-told-7 c = search needs
-
-read-requires-7 : tie.Need-read-requires-7
-read-requires-7 c κs = search needs
-
 returns : tie.Need-returns
 unfolding recordAt
 returns c = simp (c .read .ensures, c .before .enum-told .given .1)
@@ -79,20 +37,20 @@ pub read-spec : {M : Type 1} → statement M
 read-spec =
     tie.close
     (tie.spec
-    enum-told
-    read-requires
-    enum-told-2
-    read-requires-2
-    enum-told-3
-    read-requires-3
-    enum-told-4
-    read-requires-4
-    enum-told-5
-    read-requires-5
-    enum-told-6
-    read-requires-6
-    enum-told-7
-    read-requires-7
+    (λ c. search needs)
+    (λ c κs. search needs)
+    (λ c. search needs)
+    (λ c κs. search needs)
+    (λ c. search needs)
+    (λ c κs. search needs)
+    (λ c. search needs)
+    (λ c κs. search needs)
+    (λ c. search needs)
+    (λ c κs. search needs)
+    (λ c. search needs)
+    (λ c κs. search needs)
+    (λ c. search needs)
+    (λ c κs. search needs)
     returns
     returns-2
     returns-3

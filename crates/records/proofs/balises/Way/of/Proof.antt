@@ -14,4 +14,7 @@ unfolding wayOf
 returns-2 c = simp (ne-eqb _ _ (c .match .rest .1))
 
 pub of-spec : {M : Type 1} → statement M
-of-spec = tie.close (tie.spec returns returns-2)
+of-spec = tie.close
+    (tie.spec
+    returns
+    returns-2)

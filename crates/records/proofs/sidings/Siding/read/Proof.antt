@@ -5,34 +5,18 @@ use borrow.Author.Needs.{needs}
 use Rattle.records.proofs.sidings.Siding.read.Statement.{statement}
 use Rattle.records.proofs.sidings.Siding.read.Tie as tie
 
-add-t4 : tie.Need-add-t4
-add-t4 c = search needs
-
-byte-of-requires : tie.Need-byte-of-requires
-byte-of-requires c κs = search needs
-
-u24-of-requires : tie.Need-u24-of-requires
-u24-of-requires c κs = search needs
-
-add-t8 : tie.Need-add-t8
-add-t8 c = search needs
-
-u24-of-requires-2 : tie.Need-u24-of-requires-2
-u24-of-requires-2 c κs = search needs
-
-add-t11 : tie.Need-add-t11
-add-t11 c = search needs
-
 returns : tie.Need-returns
 unfolding sidingAt
-returns c =
-    simp (
-      c .u24-of2 .ensures,
-      c .before .u24-of .ensures,
-      c .before .before .byte-of .ensures,
-    )
+returns c = simp (c .number-of3 .ensures, c .before .number-of2 .ensures, c .before .before .number-of .ensures)
 
 pub read-spec : {M : Type 1} → statement M
 read-spec =
     tie.close
-    (tie.spec add-t4 byte-of-requires u24-of-requires add-t8 u24-of-requires-2 add-t11 returns)
+    (tie.spec
+    (λ c. search needs)
+    (λ c κs. search needs)
+    (λ c κs. search needs)
+    (λ c. search needs)
+    (λ c κs. search needs)
+    (λ c. search needs)
+    returns)

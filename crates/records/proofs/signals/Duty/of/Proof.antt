@@ -1,5 +1,6 @@
 -- `records::signals::Duty::of` meets its contract.
 -- Assumes nothing.
+use borrow.Author.Needs.{needs}
 use borrow.Author.Tests.{ne-eqb}
 use Rattle.records.specs.Tables.{dutyOf}
 use Rattle.records.proofs.signals.Duty.of.Statement.{statement}
@@ -7,23 +8,30 @@ use Rattle.records.proofs.signals.Duty.of.Tie as tie
 
 returns : tie.Need-returns
 unfolding dutyOf
-returns c = simp (c .match .keys1)
+returns c = simp (← c .before .bits-of .ensures, c .match .keys1)
 
 returns-2 : tie.Need-returns-2
 unfolding dutyOf
-returns-2 c = simp (c .match .keys2)
+returns-2 c = simp (← c .before .bits-of .ensures, c .match .keys2)
 
 returns-3 : tie.Need-returns-3
 unfolding dutyOf
-returns-3 c = simp (c .match .keys3)
+returns-3 c = simp (← c .before .bits-of .ensures, c .match .keys3)
 
 returns-4 : tie.Need-returns-4
 unfolding dutyOf
-returns-4 c = simp (c .match .keys4)
+returns-4 c = simp (← c .before .bits-of .ensures, c .match .keys4)
 
 returns-5 : tie.Need-returns-5
 unfolding dutyOf
-returns-5 c = simp (ne-eqb _ _ (c .match .rest .0 .0 .0 .1), ne-eqb _ _ (c .match .rest .0 .0 .1), ne-eqb _ _ (c .match .rest .0 .1), ne-eqb _ _ (c .match .rest .1))
+returns-5 c = simp (← c .before .bits-of .ensures, ne-eqb _ _ (c .match .rest .0 .0 .0 .1), ne-eqb _ _ (c .match .rest .0 .0 .1), ne-eqb _ _ (c .match .rest .0 .1), ne-eqb _ _ (c .match .rest .1))
 
 pub of-spec : {M : Type 1} → statement M
-of-spec = tie.close (tie.spec returns returns-2 returns-3 returns-4 returns-5)
+of-spec = tie.close
+    (tie.spec
+    (λ c κs. search needs)
+    returns
+    returns-2
+    returns-3
+    returns-4
+    returns-5)
