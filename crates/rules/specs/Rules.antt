@@ -23,8 +23,11 @@ liesBetween low high x = both (atMost low x) (atMost x high)
 abbrev pub Between : ℕ → ℕ → ℕ → Type 0
 Between low high x = (low ≤ x) × (x ≤ high)
 
-abbrev pub isAmong : ℕ → ℕ → ℕ → ℕ → ℕ → ℕ → Claim
-isAmong a b c d e x = either (same x a) (either (same x b) (either (same x c) (either (same x d) (same x e))))
+abbrev pub isAmongFour : ℕ → ℕ → ℕ → ℕ → ℕ → Claim
+isAmongFour a b c d x = either (same x a) (either (same x b) (either (same x c) (same x d)))
+
+abbrev pub isAmongFive : ℕ → ℕ → ℕ → ℕ → ℕ → ℕ → Claim
+isAmongFive a b c d e x = either (same x a) (either (same x b) (either (same x c) (either (same x d) (same x e))))
 
 -- ---- the constructors
 
@@ -42,21 +45,6 @@ isNumber r f start place w x =
 abbrev pub between : Reason → List ℕ → ℕ → ℕ → Width → ℕ → ℕ → Fact
 between r f start place w low high =
     fact (liesBetween low high (numAt (bytesOf w) f place)) (record { reason = r; start = start; place = place; width = bytesOf w; rule = rule.Between low high })
-
--- the signed number of a field is at most so far from 0
-abbrev pub within : List ℕ → ℕ → ℕ → Width → ℕ → Fact
-within f start place w limit =
-    fact (atMost (natAbs (signedAt (bytesOf w) f place)) limit) (record { reason = Field; start = start; place = place; width = bytesOf w; rule = rule.Within limit })
-
--- the byte of a field is one of five
-abbrev pub among : List ℕ → ℕ → ℕ → ℕ → ℕ → ℕ → ℕ → ℕ → Fact
-among f start place a b c d e =
-    fact (isAmong a b c d e (numAt 1 f place)) (record { reason = Field; start = start; place = place; width = 1; rule = rule.Among a b c d e })
-
--- some bits of a field's byte, as a number, lie between two numbers
-abbrev pub part : List ℕ → ℕ → ℕ → ℕ → ℕ → ℕ → ℕ → Fact
-part f start place over modulo low high =
-    fact (liesBetween low high (numAt 1 f place / over % modulo)) (record { reason = Field; start = start; place = place; width = 1; rule = rule.Part over modulo low high })
 
 -- what ends at `reach` fits into a room that ends at `room`
 abbrev pub fits : ℕ → ℕ → ℕ → ℕ → ℕ → Fact
@@ -96,7 +84,8 @@ claimOf f other width place (rule.LengthBetween low high) = liesBetween low high
 claimOf f other width place (rule.Is n) = same (numAt width f place) n
 claimOf f other width place (rule.Between low high) = liesBetween low high (numAt width f place)
 claimOf f other width place (rule.Within limit) = atMost (natAbs (signedAt width f place)) limit
-claimOf f other width place (rule.Among a b c d e) = isAmong a b c d e (numAt width f place)
+claimOf f other width place (rule.AmongFour a b c d) = isAmongFour a b c d (numAt width f place)
+claimOf f other width place (rule.AmongFive a b c d e) = isAmongFive a b c d e (numAt width f place)
 claimOf f other width place (rule.Part over modulo low high) = liesBetween low high (numAt width f place / over % modulo)
 claimOf f other width place (rule.Fits reach room) = atMost reach room
 claimOf f other width place (rule.Whole bytes size) = same (bytes % size) 0

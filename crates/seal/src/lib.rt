@@ -5,6 +5,8 @@ ghost use Rattle.verdict.specs.Facts.{judge};
 ghost use Rattle.seal.specs.Seal.{endOf, sealFacts};
 use octets::Width;
 use rules::is_number;
+use tables::Field;
+use tables::number_is;
 use verdict::Judged;
 use verdict::Reason;
 
@@ -12,15 +14,23 @@ use verdict::Reason;
 pub const MOST_LENGTH: usize = 65535;
 
 // Where the file type, the two versions and the station stand.
-pub const TYPE: usize = 0;
+pub const TYPE: Field = Field(0, Width::One);
 
-pub const STRUCTURE: usize = 1;
+pub const STRUCTURE: Field = Field(1, Width::Two);
 
-pub const DATA: usize = 3;
+pub const DATA: Field = Field(3, Width::Two);
 
-pub const STATION: usize = 5;
+pub const STATION: Field = Field(5, Width::Two);
 
-// The bytes of the checksum, which stands behind End.
+// Where the header starts, and the greatest number of a version or a station, which has two bytes.
+pub const HEADER: u32 = 0;
+
+pub const NUMBER_MOST: usize = 65535;
+
+// The structure version that is read.
+pub const STRUCTURE_DUE: usize = 1;
+
+// The bytes of the checksum, which stands after End.
 pub const CHECKSUM_SIZE: usize = 4;
 
 // 'End': the length without the checksum; 0 where there is no room for it.
@@ -34,12 +44,12 @@ pub fn end_of(f: &[u8]) -> usize
 }
 
 // The verdict so far, then the checksum, the file type and the structure version.
-pub fn check_seal(f: &[u8], kind: usize, v: Judged) -> Judged
+pub fn check_seal(v: Judged, f: &[u8], kind: usize) -> Judged
     ensures { λ r. ⌜ r ≡ judge v (sealFacts (now (f .entry)) kind) ⌝ }
 {
     let end = end_of(f);
     let sum = checksum::of_first(f, end);
-    let v1 = is_number(v, f, Reason::Checksum, 0, end, Width::Four, sum);
-    let v2 = is_number(v1, f, Reason::FileType, 0, TYPE, Width::One, kind);
-    is_number(v2, f, Reason::Structure, 0, STRUCTURE, Width::Two, 1)
+    let mut w = is_number(v, f, Reason::Checksum, 0, end, Width::Four, sum);
+    w = number_is(w, f, Reason::FileType, HEADER, TYPE, kind);
+    number_is(w, f, Reason::Structure, HEADER, STRUCTURE, STRUCTURE_DUE)
 }

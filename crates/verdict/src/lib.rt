@@ -57,8 +57,10 @@ pub enum Rule {
     Between(usize, usize),
     // the number, read as signed, is at most this far from 0
     Within(usize),
+    // the number is one of these four
+    AmongFour(usize, usize, usize, usize),
     // the number is one of these five
-    Among(usize, usize, usize, usize, usize),
+    AmongFive(usize, usize, usize, usize, usize),
     // the number divided by the first, modulo the second, lies between the other two
     Part(usize, usize, usize, usize),
     // the first number, where something ends, is at most the second, where its room ends

@@ -9,17 +9,22 @@ use lib.IntN.{natAbs}
 use Rattle.octets.specs.Octets.{numAt, signedAt}
 use Rattle.verdict.specs.Facts.{Claim, same, atMost, Fact, fact}
 use Rattle.verdict.specs.declared.Reason.the-variants as reason
+use Rattle.verdict.specs.declared.Mark.{Mark}
 use Rattle.verdict.specs.declared.Rule.{Rule}
 use Rattle.verdict.specs.declared.Rule.the-variants as rule
-use Rattle.rules.specs.Rules.{liesBetween, isAmong, Between}
-use Rattle.rules.specs.Table.{Part, bits, Values, any, link, exactly, between, within, among, name, parts, Row}
+use Rattle.rules.specs.Rules.{liesBetween, isAmongFour, isAmongFive, Between}
+use Rattle.tables.specs.Table.{Part, bits, Values, any, link, exactly, between, within, amongFour, amongFive, named, parts, Row}
 use Rattle.names.specs.Names.{objectName, ObjectName}
 
 -- ---- as facts
 
--- a claim on the field that stands k bytes behind `at` and has w bytes
+-- the mark of a rule of the field that stands k bytes after `at` and has w bytes
+abbrev pub fieldMark : ℕ → ℕ → ℕ → Rule → Mark
+fieldMark at k w r = record { reason = reason.Field; start = at; place = at + k; width = w; rule = r }
+
+-- a claim on that field
 abbrev pub asked : ℕ → ℕ → ℕ → Claim → Rule → Fact
-asked at k w c r = fact c (record { reason = reason.Field; start = at; place = at + k; width = w; rule = r })
+asked at k w c r = fact c (fieldMark at k w r)
 
 abbrev pub partFacts : List ℕ → ℕ → ℕ → ℕ → List Part → List Fact
 partFacts f at k w [] = []
@@ -32,8 +37,9 @@ valueFacts f at k w link = []
 valueFacts f at k w (exactly n) = asked at k w (same (numAt w f (at + k)) n) (rule.Is n) ∷ []
 valueFacts f at k w (between low high) = asked at k w (liesBetween low high (numAt w f (at + k))) (rule.Between low high) ∷ []
 valueFacts f at k w (within limit) = asked at k w (atMost (natAbs (signedAt w f (at + k))) limit) (rule.Within limit) ∷ []
-valueFacts f at k w (among a b c d e) = asked at k w (isAmong a b c d e (numAt w f (at + k))) (rule.Among a b c d e) ∷ []
-valueFacts f at k w (name least) = asked at k w (objectName f (at + k) least) (rule.ObjectName least) ∷ []
+valueFacts f at k w (amongFour a b c d) = asked at k w (isAmongFour a b c d (numAt w f (at + k))) (rule.AmongFour a b c d) ∷ []
+valueFacts f at k w (amongFive a b c d e) = asked at k w (isAmongFive a b c d e (numAt w f (at + k))) (rule.AmongFive a b c d e) ∷ []
+valueFacts f at k w (named least) = asked at k w (objectName f (at + k) least) (rule.ObjectName least) ∷ []
 valueFacts f at k w (parts ps) = partFacts f at k w ps
 
 abbrev pub rowFacts : List ℕ → ℕ → Row → List Fact
@@ -57,8 +63,9 @@ Allowed f p w link = Unit {0}
 Allowed f p w (exactly n) = numAt w f p ≡ n
 Allowed f p w (between low high) = Between low high (numAt w f p)
 Allowed f p w (within limit) = natAbs (signedAt w f p) ≤ limit
-Allowed f p w (among a b c d e) = (numAt w f p ≡ a) ⊎ ((numAt w f p ≡ b) ⊎ ((numAt w f p ≡ c) ⊎ ((numAt w f p ≡ d) ⊎ (numAt w f p ≡ e))))
-Allowed f p w (name least) = ObjectName f p least
+Allowed f p w (amongFour a b c d) = (numAt w f p ≡ a) ⊎ ((numAt w f p ≡ b) ⊎ ((numAt w f p ≡ c) ⊎ (numAt w f p ≡ d)))
+Allowed f p w (amongFive a b c d e) = (numAt w f p ≡ a) ⊎ ((numAt w f p ≡ b) ⊎ ((numAt w f p ≡ c) ⊎ ((numAt w f p ≡ d) ⊎ (numAt w f p ≡ e))))
+Allowed f p w (named least) = ObjectName f p least
 Allowed f p w (parts ps) = HasParts (numAt w f p) ps
 
 -- a row's field has one of its values

@@ -21,9 +21,9 @@ use Rattle.verdict.specs.declared.Rule.the-variants as rule
 use Rattle.rules.specs.Rules.{says}
 use Rattle.names.specs.Names.{objectName}
 use Rattle.verdict.proofs.Orders.{le-or-lt}
-use Rattle.rules.specs.Table.{Part, bits, Values, any, link, exactly, between, within, among, name, parts, Row, tiles}
+use Rattle.tables.specs.Table.{Part, bits, Values, any, link, exactly, between, within, amongFour, amongFive, named, parts, Row, tiles}
 use Rattle.names.proofs.Names.{object-name-iff}
-use Rattle.fields.specs.Rows.{partFacts, valueFacts, rowFacts, tableFacts, HasParts, Allowed, RowObeys, TableObeys, RowAtFault, LowestAtFault, Tiled, done, next, InRow}
+use Rattle.tables.specs.Rows.{partFacts, valueFacts, rowFacts, tableFacts, HasParts, Allowed, RowObeys, TableObeys, RowAtFault, LowestAtFault, Tiled, done, next, InRow}
 
 -- ---- the facts hold exactly where the fields obey
 
@@ -40,8 +40,9 @@ module _ (f : List ℕ) (at : ℕ) where
   values-iff k w (exactly n) = (λ h. h .0, λ h. (h, tt))
   values-iff k w (between low high) = (λ h. h .0, λ h. (h, tt))
   values-iff k w (within limit) = (λ h. h .0, λ h. (h, tt))
-  values-iff k w (among a b c d e) = (λ h. h .0, λ h. (h, tt))
-  values-iff k w (name least) = let n = object-name-iff f (at + k) least in (λ h. n .0 (h .0), λ h. (n .1 h, tt))
+  values-iff k w (amongFour a b c d) = (λ h. h .0, λ h. (h, tt))
+  values-iff k w (amongFive a b c d e) = (λ h. h .0, λ h. (h, tt))
+  values-iff k w (named least) = let n = object-name-iff f (at + k) least in (λ h. n .0 (h .0), λ h. (n .1 h, tt))
   values-iff k w (parts ps) = parts-iff k w ps
 
   pub row-iff : (r : Row) → AllHold (rowFacts f at r) ↔ RowObeys f at r
@@ -77,11 +78,12 @@ values-at f at k w link = tt
 values-at f at k w (exactly n) = (refl, tt)
 values-at f at k w (between low high) = (refl, tt)
 values-at f at k w (within limit) = (refl, tt)
-values-at f at k w (among a b c d e) = (refl, tt)
-values-at f at k w (name least) = (refl, tt)
+values-at f at k w (amongFour a b c d) = (refl, tt)
+values-at f at k w (amongFive a b c d e) = (refl, tt)
+values-at f at k w (named least) = (refl, tt)
 values-at f at k w (parts ps) = parts-at f at k w ps
 
--- facts of one place refuse there, or all hold and the facts behind them refuse
+-- facts of one place refuse there, or all hold and the facts after them refuse
 first-at : (p : ℕ) (fs rest : List Fact) (m : Mark) → AllAt p fs → firstFault (fs ++ rest) ≡ Refused m
     → ((AllHold fs → ⊥) × (m .place ≡ p)) ⊎ (AllHold fs × (firstFault rest ≡ Refused m))
 unfolding firstFault AllHold
@@ -95,9 +97,9 @@ first-at p (fact c n ∷ fs) rest m a e = go (test c) (agrees c) e (first-at p f
         ⊎-elim (λ (x : (AllHold fs → ⊥) × (m .place ≡ p)). inl (λ g. x .0 (g .1), x .1)) (λ (x : AllHold fs × (firstFault rest ≡ Refused m)). inr ((h, x .0), x .1)) (ih e)
     go false h e ih = let x : n ≡ m = cc in inl (λ g. h (g .0), ap (λ (i : Mark). i .place) (sym x) ∙ a .0)
 
--- a field of a table stands behind the table's start
-fault-behind : (f : List ℕ) (at from end : ℕ) (t : List Row) → Tiled from t end → (q : ℕ) → RowAtFault f at t q → at + from ≤ q
-fault-behind f at from end t d q x = go (x .which) (x .there) d (x .stands)
+-- a field of a table stands after the table's start
+fault-after : (f : List ℕ) (at from end : ℕ) (t : List Row) → Tiled from t end → (q : ℕ) → RowAtFault f at t q → at + from ≤ q
+fault-after f at from end t d q x = go (x .which) (x .there) d (x .stands)
   where
     go : {from : ℕ} {t : List Row} (r : Row) → List·Memᴰ r t → Tiled from t end → q ≡ at + r .place → at + from ≤ q
     go r m done e = absurd (List·Memᴰ·not-nil m)
@@ -114,7 +116,7 @@ lowest-at-fault f at from end (r ∷ rs) m (next p d) e =
     here : (AllHold (rowFacts f at r) → ⊥) × (m .place ≡ at + r .place) → LowestAtFault f at (r ∷ rs) (m .place)
     here x = record {
       fault = record { which = r; there = List·Memᴰ·head refl; stands = x .1; fails = λ o. x .0 ((row-iff f at r) .1 o) };
-      least = λ q g. let y = fault-behind f at from end (r ∷ rs) (next p d) q g in let z = x .1 in omega arith;
+      least = λ q g. let y = fault-after f at from end (r ∷ rs) (next p d) q g in let z = x .1 in omega arith;
     }
 
     later : (firstFault (tableFacts f at rs) ≡ Refused m → LowestAtFault f at rs (m .place)) → AllHold (rowFacts f at r) × (firstFault (tableFacts f at rs) ≡ Refused m) → LowestAtFault f at (r ∷ rs) (m .place)
@@ -203,8 +205,9 @@ module _ (f : List ℕ) (other : Mark → Claim) (at : ℕ)
   values-marked k w (exactly n) = (refl, tt)
   values-marked k w (between low high) = (refl, tt)
   values-marked k w (within limit) = (refl, tt)
-  values-marked k w (among a b c d e) = (refl, tt)
-  values-marked k w (name least) = (names k w least, tt)
+  values-marked k w (amongFour a b c d) = (refl, tt)
+  values-marked k w (amongFive a b c d e) = (refl, tt)
+  values-marked k w (named least) = (names k w least, tt)
   values-marked k w (parts ps) = parts-marked k w ps
 
   -- LAW: for any table
