@@ -6,10 +6,10 @@ use mathlib.Core.Bool.{cond}
 use native.Mathlib.Omega.{arith}
 use lib.Dec.{eqb}
 use Rattle.records.specs.declared.balises.Nature.the-variants.{Virtual, Physical}
-use Rattle.records.specs.declared.balises.Way.the-variants.{Opposite, Same}
+use Rattle.records.specs.declared.balises.GroupDirection.the-variants.{Opposite, Same}
 use Rattle.records.specs.declared.signals.Facing.the-variants.{Neither, Down, Up}
 use Rattle.records.specs.declared.signals.Duty.the-variants.{Entry, Exit, Passing, Route, Shunting}
-use Rattle.records.specs.Tables.{directionOf, directionNumber, natureBits, natureOf, natureNumber, wayBits, wayOf, wayNumber, facingBits, facingOf, facingNumber, dutyBits, dutyOf, dutyNumber}
+use Rattle.records.specs.Tables.{directionOf, directionNumber, natureBits, natureOf, natureNumber, groupDirectionBits, groupDirectionOf, groupDirectionNumber, facingBits, facingOf, facingNumber, dutyBits, dutyOf, dutyNumber}
 
 pub direction-kept : (b : ℕ) → b ≤ 1 → directionNumber (directionOf b) ≡ b
 unfolding directionOf
@@ -26,15 +26,15 @@ pub nature-kept : (b : ℕ) → natureBits b ≤ 1 → natureNumber (natureOf b)
 unfolding natureOf
 nature-kept b h = nature _ h
 
-way : (n : ℕ) → 1 ≤ n → n ≤ 2 → wayNumber (cond (eqb n 1) Opposite Same) ≡ n
-way zero l h = omega arith
-way (suc zero) l h = refl
-way (suc (suc zero)) l h = refl
-way (suc (suc (suc n))) l h = omega arith
+group-direction : (n : ℕ) → 1 ≤ n → n ≤ 2 → groupDirectionNumber (cond (eqb n 1) Opposite Same) ≡ n
+group-direction zero l h = omega arith
+group-direction (suc zero) l h = refl
+group-direction (suc (suc zero)) l h = refl
+group-direction (suc (suc (suc n))) l h = omega arith
 
-pub way-kept : (b : ℕ) → 1 ≤ wayBits b → wayBits b ≤ 2 → wayNumber (wayOf b) ≡ wayBits b
-unfolding wayOf
-way-kept b l h = way _ l h
+pub group-direction-kept : (b : ℕ) → 1 ≤ groupDirectionBits b → groupDirectionBits b ≤ 2 → groupDirectionNumber (groupDirectionOf b) ≡ groupDirectionBits b
+unfolding groupDirectionOf
+group-direction-kept b l h = group-direction _ l h
 
 facing : (n : ℕ) → n ≤ 2 → facingNumber (cond (eqb n 0) Neither (cond (eqb n 1) Down Up)) ≡ n
 facing zero h = refl

@@ -3,7 +3,7 @@
 -- Assumes nothing.
 use mathlib.Core.Path.{_≡_, refl}
 use mathlib.Core.Bool.{true}
-use Rattle.rules.specs.Table.{tiles}
+use Rattle.tables.specs.Table.{tiles}
 use Rattle.records.specs.declared.Kind.{Kind}
 use Rattle.records.specs.declared.Kind.the-variants as kind
 use Rattle.records.specs.Places as place
@@ -19,5 +19,5 @@ whole kind.Signal = refl
 whole kind.Joint = refl
 whole kind.Siding = refl
 
-pub message-behind : place.baliseMessage ≡ place.baliseSize
-message-behind = refl
+pub message-after : place.baliseMessage ≡ place.baliseSize
+message-after = refl

@@ -6,7 +6,7 @@ use Rattle.records.specs.declared.Kind.{Kind}
 use Rattle.records.specs.declared.Kind.the-variants as kind
 use Rattle.records.specs.declared.Record.{Record}
 use Rattle.records.specs.declared.Record.the-variants as is
-use Rattle.rules.specs.Table.{linksIn}
+use Rattle.tables.specs.Table.{linksIn}
 use Rattle.records.specs.Places as place
 use Rattle.records.specs.Rows.{tableOf}
 use Rattle.records.specs.Tables.{boundaryAt, turnoutAt, baliseAt, signalAt, jointAt, sidingAt}

@@ -1,9 +1,9 @@
--- The standard's tables, a row for each field in the page's order: its place in the record, how many bytes it has, and what may stand in
--- it (01, 'X.2, fixed application'). Everything else that is said of a field follows from its row.
+-- The standard's tables 6 to 12, a row for each field in the page's order: its name, its place in the record, how many bytes it has, and
+-- what may stand in it (01, 'X.2, fixed application'). Everything else that is said of a field follows from its row.
 -- Assumes nothing.
 use Prim.Native.Nat.{ℕ, _-_}
 use mathlib.Core.List.{List, [], _∷_}
-use Rattle.rules.specs.Table.{Part, bits, Values, any, link, exactly, between, among, name, parts, Row, row}
+use Rattle.tables.specs.Table.{Part, bits, Values, any, link, exactly, between, amongFour, amongFive, named, parts, Row, row}
 use Rattle.records.specs.declared.Kind.{Kind}
 use Rattle.records.specs.declared.Kind.the-variants as kind
 use Rattle.records.specs.Places as place
@@ -18,25 +18,25 @@ tracks = between 1 255
 -- ---- tables 6 and 7: a boundary, whose type byte is one of two
 
 abbrev pub boundaryEntry : ℕ → ℕ → Row
-boundaryEntry low high = row 0 1 (between low high)
+boundaryEntry low high = row "type" 0 1 (between low high)
 
 abbrev pub boundaryLink : Row
-boundaryLink = row 1 2 link
+boundaryLink = row "link" 1 2 link
 
 abbrev pub boundaryNeighbourStation : Row
-boundaryNeighbourStation = row 3 2 any
+boundaryNeighbourStation = row "neighbour_station" 3 2 any
 
 abbrev pub boundaryNeighbourType : Row
-boundaryNeighbourType = row 5 1 (among place.boundaryStartUp place.boundaryStartDown place.boundaryEndUp place.boundaryEndDown place.boundaryUnknown)
+boundaryNeighbourType = row "neighbour_type" 5 1 (amongFive place.boundaryStartUp place.boundaryStartDown place.boundaryEndUp place.boundaryEndDown place.boundaryUnknown)
 
 abbrev pub boundaryNeighbourTrack : Row
-boundaryNeighbourTrack = row 6 1 any
+boundaryNeighbourTrack = row "neighbour_track" 6 1 any
 
 abbrev pub boundaryPosition : Row
-boundaryPosition = row 7 4 positions
+boundaryPosition = row "position" 7 4 positions
 
 abbrev pub boundaryTrack : Row
-boundaryTrack = row 11 1 tracks
+boundaryTrack = row "track" 11 1 tracks
 
 abbrev pub boundaryTable : ℕ → ℕ → List Row
 boundaryTable low high = boundaryEntry low high ∷ boundaryLink ∷ boundaryNeighbourStation ∷ boundaryNeighbourType ∷ boundaryNeighbourTrack ∷ boundaryPosition ∷ boundaryTrack ∷ []
@@ -44,40 +44,40 @@ boundaryTable low high = boundaryEntry low high ∷ boundaryLink ∷ boundaryNei
 -- ---- table 8: a turnout
 
 abbrev pub turnoutEntry : Row
-turnoutEntry = row 0 1 (exactly place.turnoutType)
+turnoutEntry = row "type" 0 1 (exactly place.turnoutType)
 
 abbrev pub turnoutNumber : Row
-turnoutNumber = row 1 1 (between 1 255)
+turnoutNumber = row "number" 1 1 (between 1 255)
 
 abbrev pub turnoutDirection : Row
-turnoutDirection = row 2 1 (between 0 1)
+turnoutDirection = row "direction" 2 1 (between 0 1)
 
 abbrev pub turnoutTipPosition : Row
-turnoutTipPosition = row 3 4 positions
+turnoutTipPosition = row "tip_position" 3 4 positions
 
 abbrev pub turnoutNormalPosition : Row
-turnoutNormalPosition = row 7 4 positions
+turnoutNormalPosition = row "normal_position" 7 4 positions
 
 abbrev pub turnoutReversePosition : Row
-turnoutReversePosition = row 11 4 positions
+turnoutReversePosition = row "reverse_position" 11 4 positions
 
 abbrev pub turnoutFront : Row
-turnoutFront = row 15 2 link
+turnoutFront = row "front" 15 2 link
 
 abbrev pub turnoutNormal : Row
-turnoutNormal = row 17 2 link
+turnoutNormal = row "normal" 17 2 link
 
 abbrev pub turnoutReverse : Row
-turnoutReverse = row 19 2 link
+turnoutReverse = row "reverse" 19 2 link
 
 abbrev pub turnoutFrontTrack : Row
-turnoutFrontTrack = row 21 1 tracks
+turnoutFrontTrack = row "front_track" 21 1 tracks
 
 abbrev pub turnoutNormalTrack : Row
-turnoutNormalTrack = row 22 1 tracks
+turnoutNormalTrack = row "normal_track" 22 1 tracks
 
 abbrev pub turnoutReverseTrack : Row
-turnoutReverseTrack = row 23 1 tracks
+turnoutReverseTrack = row "reverse_track" 23 1 tracks
 
 abbrev pub turnoutTable : List Row
 turnoutTable = turnoutEntry ∷ turnoutNumber ∷ turnoutDirection ∷ turnoutTipPosition ∷ turnoutNormalPosition ∷ turnoutReversePosition ∷ turnoutFront ∷ turnoutNormal ∷ turnoutReverse ∷ turnoutFrontTrack ∷ turnoutNormalTrack ∷ turnoutReverseTrack ∷ []
@@ -88,11 +88,11 @@ turnoutTable = turnoutEntry ∷ turnoutNumber ∷ turnoutDirection ∷ turnoutTi
 abbrev pub baliseNature : Part
 baliseNature = bits 1 4 0 1
 
-abbrev pub baliseWay : Part
-baliseWay = bits 64 4 1 2
+abbrev pub baliseGroupDirection : Part
+baliseGroupDirection = bits 64 4 1 2
 
-abbrev pub balisePlace : Part
-balisePlace = bits 1 8 0 7
+abbrev pub baliseRank : Part
+baliseRank = bits 1 8 0 7
 
 abbrev pub baliseMiddle : Part
 baliseMiddle = bits 8 4 0 0
@@ -101,31 +101,31 @@ abbrev pub baliseCount : Part
 baliseCount = bits 32 8 0 7
 
 abbrev pub baliseEntry : Row
-baliseEntry = row 0 1 (exactly place.baliseType)
+baliseEntry = row "type" 0 1 (exactly place.baliseType)
 
 abbrev pub balisePrevious : Row
-balisePrevious = row 1 2 link
+balisePrevious = row "previous" 1 2 link
 
 abbrev pub baliseNext : Row
-baliseNext = row 3 2 link
+baliseNext = row "next" 3 2 link
 
 abbrev pub baliseNumber : Row
-baliseNumber = row 5 3 (between 0 (place.baliseNone - 1))
+baliseNumber = row "number" 5 3 (between 0 (place.baliseNone - 1))
 
 abbrev pub baliseSizeByte : Row
-baliseSizeByte = row place.baliseSizeByte 1 any
+baliseSizeByte = row "size" place.baliseSizeByte 1 any
 
 abbrev pub baliseAttribute : Row
-baliseAttribute = row 9 1 (among 0x40 0x41 0x80 0x81 0x81)
+baliseAttribute = row "attribute" 9 1 (amongFour 0x40 0x41 0x80 0x81)
 
 abbrev pub balisePosition : Row
-balisePosition = row 10 4 positions
+balisePosition = row "position" 10 4 positions
 
 abbrev pub baliseTrack : Row
-baliseTrack = row 14 1 tracks
+baliseTrack = row "track" 14 1 tracks
 
 abbrev pub baliseGroup : Row
-baliseGroup = row 15 1 (parts (baliseMiddle ∷ []))
+baliseGroup = row "group" 15 1 (parts (baliseMiddle ∷ []))
 
 abbrev pub baliseTable : List Row
 baliseTable = baliseEntry ∷ balisePrevious ∷ baliseNext ∷ baliseNumber ∷ baliseSizeByte ∷ baliseAttribute ∷ balisePosition ∷ baliseTrack ∷ baliseGroup ∷ []
@@ -143,25 +143,25 @@ abbrev pub signalLow : Part
 signalLow = bits 1 16 1 5
 
 abbrev pub signalEntry : Row
-signalEntry = row 0 1 (exactly place.signalType)
+signalEntry = row "type" 0 1 (exactly place.signalType)
 
 abbrev pub signalPrevious : Row
-signalPrevious = row 1 2 link
+signalPrevious = row "previous" 1 2 link
 
 abbrev pub signalNext : Row
-signalNext = row 3 2 link
+signalNext = row "next" 3 2 link
 
 abbrev pub signalName : Row
-signalName = row 5 8 (name 1)
+signalName = row "name" 5 8 (named 1)
 
 abbrev pub signalPosition : Row
-signalPosition = row 13 4 positions
+signalPosition = row "position" 13 4 positions
 
 abbrev pub signalTrack : Row
-signalTrack = row 17 1 tracks
+signalTrack = row "track" 17 1 tracks
 
 abbrev pub signalByte : Row
-signalByte = row 18 1 (parts (signalTop ∷ signalMiddle ∷ signalLow ∷ []))
+signalByte = row "signal" 18 1 (parts (signalTop ∷ signalMiddle ∷ signalLow ∷ []))
 
 abbrev pub signalTable : List Row
 signalTable = signalEntry ∷ signalPrevious ∷ signalNext ∷ signalName ∷ signalPosition ∷ signalTrack ∷ signalByte ∷ []
@@ -169,22 +169,22 @@ signalTable = signalEntry ∷ signalPrevious ∷ signalNext ∷ signalName ∷ s
 -- ---- table 11: a joint
 
 abbrev pub jointEntry : Row
-jointEntry = row 0 1 (exactly place.jointType)
+jointEntry = row "type" 0 1 (exactly place.jointType)
 
 abbrev pub jointPrevious : Row
-jointPrevious = row 1 2 link
+jointPrevious = row "previous" 1 2 link
 
 abbrev pub jointNext : Row
-jointNext = row 3 2 link
+jointNext = row "next" 3 2 link
 
 abbrev pub jointName : Row
-jointName = row 5 8 (name 1)
+jointName = row "name" 5 8 (named 1)
 
 abbrev pub jointPosition : Row
-jointPosition = row 13 4 positions
+jointPosition = row "position" 13 4 positions
 
 abbrev pub jointTrack : Row
-jointTrack = row 17 1 tracks
+jointTrack = row "track" 17 1 tracks
 
 abbrev pub jointTable : List Row
 jointTable = jointEntry ∷ jointPrevious ∷ jointNext ∷ jointName ∷ jointPosition ∷ jointTrack ∷ []
@@ -192,25 +192,25 @@ jointTable = jointEntry ∷ jointPrevious ∷ jointNext ∷ jointName ∷ jointP
 -- ---- table 12: a siding
 
 abbrev pub sidingEntry : Row
-sidingEntry = row 0 1 (exactly place.sidingType)
+sidingEntry = row "type" 0 1 (exactly place.sidingType)
 
 abbrev pub sidingName : Row
-sidingName = row 1 8 (name 1)
+sidingName = row "name" 1 8 (named 1)
 
 abbrev pub sidingTrack : Row
-sidingTrack = row 9 1 tracks
+sidingTrack = row "track" 9 1 tracks
 
 abbrev pub sidingUpBalise : Row
-sidingUpBalise = row 10 3 any
+sidingUpBalise = row "up_balise" 10 3 any
 
 abbrev pub sidingUpSignal : Row
-sidingUpSignal = row 13 8 (name 0)
+sidingUpSignal = row "up_signal" 13 8 (named 0)
 
 abbrev pub sidingDownBalise : Row
-sidingDownBalise = row 21 3 any
+sidingDownBalise = row "down_balise" 21 3 any
 
 abbrev pub sidingDownSignal : Row
-sidingDownSignal = row 24 8 (name 0)
+sidingDownSignal = row "down_signal" 24 8 (named 0)
 
 abbrev pub sidingTable : List Row
 sidingTable = sidingEntry ∷ sidingName ∷ sidingTrack ∷ sidingUpBalise ∷ sidingUpSignal ∷ sidingDownBalise ∷ sidingDownSignal ∷ []

@@ -14,8 +14,8 @@ use Rattle.records.specs.declared.turnouts.Direction.the-variants.{Decre
 use Rattle.records.specs.declared.turnouts.Turnout.{Turnout}
 use Rattle.records.specs.declared.balises.Nature.{Nature}
 use Rattle.records.specs.declared.balises.Nature.the-variants.{Virtual, Physical}
-use Rattle.records.specs.declared.balises.Way.{Way}
-use Rattle.records.specs.declared.balises.Way.the-variants.{Opposite, Same}
+use Rattle.records.specs.declared.balises.GroupDirection.{GroupDirection}
+use Rattle.records.specs.declared.balises.GroupDirection.the-variants.{Opposite, Same}
 use Rattle.records.specs.declared.balises.Balise.{Balise}
 use Rattle.records.specs.declared.signals.Facing.{Facing}
 use Rattle.records.specs.declared.signals.Facing.the-variants.{Neither, Down, Up}
@@ -24,7 +24,7 @@ use Rattle.records.specs.declared.signals.Duty.the-variants.{Entry, Exit
 use Rattle.records.specs.declared.signals.Signal.{Signal}
 use Rattle.records.specs.declared.joints.Joint.{Joint}
 use Rattle.records.specs.declared.sidings.Siding.{Siding}
-use Rattle.rules.specs.Table.{bitsOf, valueOf, placeIn}
+use Rattle.tables.specs.Table.{bitsOf, valueOf, placeIn}
 use Rattle.records.specs.Places as place
 use Rattle.records.specs.Rows as row
 
@@ -80,19 +80,19 @@ natureNumber Virtual = 0
 natureNumber Physical = 1
 
 -- the top two bits of the attribute byte: whether the group goes against rising positions or with them
-abbrev pub wayBits : ℕ → ℕ
-wayBits b = bitsOf row.baliseWay b
+abbrev pub groupDirectionBits : ℕ → ℕ
+groupDirectionBits b = bitsOf row.baliseGroupDirection b
 
-unfoldable pub wayOf : ℕ → Way
-wayOf b = cond (eqb (wayBits b) 1) Opposite Same
+unfoldable pub groupDirectionOf : ℕ → GroupDirection
+groupDirectionOf b = cond (eqb (groupDirectionBits b) 1) Opposite Same
 
-abbrev pub wayNumber : Way → ℕ
-wayNumber Opposite = 1
-wayNumber Same = 2
+abbrev pub groupDirectionNumber : GroupDirection → ℕ
+groupDirectionNumber Opposite = 1
+groupDirectionNumber Same = 2
 
--- the low three bits of the group byte: the balise's place in its group, from 1 on
-abbrev pub placeOf : ℕ → ℕ
-placeOf b = bitsOf row.balisePlace b + 1
+-- the low three bits of the group byte: the balise's rank in its group, from 1 on (01 calls it its place)
+abbrev pub rankOf : ℕ → ℕ
+rankOf b = bitsOf row.baliseRank b + 1
 
 -- the top three bits of the group byte: how many balises the group has, from 1 on
 abbrev pub countOf : ℕ → ℕ
@@ -105,10 +105,10 @@ baliseAt f at = record {
   number = valueOf f at row.baliseNumber;
   size = valueOf f at row.baliseSizeByte;
   nature = natureOf (valueOf f at row.baliseAttribute);
-  direction = wayOf (valueOf f at row.baliseAttribute);
+  direction = groupDirectionOf (valueOf f at row.baliseAttribute);
   position = valueOf f at row.balisePosition;
   track = valueOf f at row.baliseTrack;
-  place = placeOf (valueOf f at row.baliseGroup);
+  rank = rankOf (valueOf f at row.baliseGroup);
   count = countOf (valueOf f at row.baliseGroup);
   message = at + place.baliseMessage;
 }

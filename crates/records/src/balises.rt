@@ -1,10 +1,11 @@
-// Balises (应答器): table 9. Two of its bytes have parts: a part of a byte is the byte divided by its OVER, modulo its MODULO.
+// Balises (应答器): table 9. Two of its bytes have parts.
 ghost use mathlib.Core.Path.{_≡_};
-ghost use Rattle.records.specs.Tables.{natureOf, natureNumber, wayOf, wayNumber, placeOf, countOf, baliseAt};
-use crate::number_of;
+ghost use Rattle.records.specs.Tables.{natureOf, natureNumber, groupDirectionOf, groupDirectionNumber, rankOf, countOf, baliseAt};
 use octets::Width;
-use rules::Bits;
-use rules::Field;
+use tables::Bits;
+use tables::Field;
+use tables::bits_of;
+use tables::number_of;
 
 // 应答器属性: the low two bits of the attribute byte.
 pub enum Nature {
@@ -19,7 +20,7 @@ impl Nature {
     pub fn of(b: usize) -> Self
         ensures { λ r. ⌜ r ≡ natureOf b ⌝ }
     {
-        match b / Balise::NATURE_OVER % Balise::NATURE_MODULO {
+        match bits_of(b, Balise::NATURE) {
             0 => Nature::Virtual,
             _ => Nature::Physical,
         }
@@ -38,31 +39,31 @@ impl Nature {
 
 // 所在应答器组方向与位置坐标增加方向关系: the direction of the balise's group against that of rising positions, the top two bits of the
 // attribute byte.
-pub enum Way {
+pub enum GroupDirection {
     // 1: 相反, against rising positions
     Opposite,
     // 2: 相同, with rising positions
     Same,
 }
 
-impl Way {
-    // The way that an attribute byte gives. Every number but 1 counts as 2; an accepted file has no other.
+impl GroupDirection {
+    // The direction that an attribute byte gives. Every number but 1 counts as 2; an accepted file has no other.
     pub fn of(b: usize) -> Self
-        ensures { λ r. ⌜ r ≡ wayOf b ⌝ }
+        ensures { λ r. ⌜ r ≡ groupDirectionOf b ⌝ }
     {
-        match b / Balise::DIRECTION_OVER % Balise::DIRECTION_MODULO {
-            1 => Way::Opposite,
-            _ => Way::Same,
+        match bits_of(b, Balise::GROUP_DIRECTION) {
+            1 => GroupDirection::Opposite,
+            _ => GroupDirection::Same,
         }
     }
 
     // The table's number.
     pub fn number(self) -> usize
-        ensures { λ r. ⌜ r ≡ wayNumber self ⌝ }
+        ensures { λ r. ⌜ r ≡ groupDirectionNumber self ⌝ }
     {
         match self {
-            Way::Opposite => 1,
-            Way::Same => 2,
+            GroupDirection::Opposite => 1,
+            GroupDirection::Same => 2,
         }
     }
 }
@@ -78,14 +79,14 @@ pub struct Balise {
     pub size: usize,
     // 应答器属性: whether it is virtual or physical
     pub nature: Nature,
-    // 所在应答器组方向与位置坐标增加方向关系: the way of its group
-    pub direction: Way,
+    // 所在应答器组方向与位置坐标增加方向关系: the direction of its group
+    pub direction: GroupDirection,
     // 应答器位置: the position of its middle, in centimetres
     pub position: usize,
     // 应答器所在轨道号: its track
     pub track: usize,
-    // 本应答器在应答器组中的位置: its place in its group, 1 to 8
-    pub place: usize,
+    // 本应答器在应答器组中的位置: its rank in its group, 1 to 8; 01 calls it its place
+    pub rank: usize,
     // 应答器组中所包含的应答器数量: how many balises its group has, 1 to 8
     pub count: usize,
     // 应答器报文: where its message stands; a message has size - 16 bytes
@@ -123,56 +124,49 @@ impl Balise {
 
     pub const MESSAGE: usize = 16;
 
-    // The parts of the attribute byte.
-    pub const NATURE_OVER: usize = 1;
+    // The parts of the attribute byte; what lies between them is 0.
+    pub const NATURE: Bits = Bits(1, 4);
 
-    pub const NATURE_MODULO: usize = 4;
-
-    pub const DIRECTION_OVER: usize = 64;
-
-    pub const DIRECTION_MODULO: usize = 4;
+    pub const GROUP_DIRECTION: Bits = Bits(64, 4);
 
     // The parts of the group byte; the middle one is 0.
-    pub const PLACE_OVER: usize = 1;
-
-    pub const PLACE_MODULO: usize = 8;
+    pub const RANK: Bits = Bits(1, 8);
 
     pub const MIDDLE: Bits = Bits(8, 4);
 
-    pub const COUNT_OVER: usize = 32;
+    pub const COUNT: Bits = Bits(32, 8);
 
-    pub const COUNT_MODULO: usize = 8;
-
-    // The place that a group byte gives, 1 to 8.
-    pub fn place_of(b: usize) -> usize
-        ensures { λ r. ⌜ r ≡ placeOf b ⌝ }
+    // The rank that a group byte gives, 1 to 8.
+    pub fn rank_of(b: usize) -> usize
+        ensures { λ r. ⌜ r ≡ rankOf b ⌝ }
     {
-        b / Self::PLACE_OVER % Self::PLACE_MODULO + 1
+        bits_of(b, Self::RANK) + 1
     }
 
     // The count that a group byte gives, 1 to 8.
     pub fn count_of(b: usize) -> usize
         ensures { λ r. ⌜ r ≡ countOf b ⌝ }
     {
-        b / Self::COUNT_OVER % Self::COUNT_MODULO + 1
+        bits_of(b, Self::COUNT) + 1
     }
 
     // The balise that starts at a place.
     pub fn read(s: &[u8], at: u16) -> Self
         ensures { λ r. ⌜ r ≡ baliseAt (now (s .entry)) at ⌝ }
     {
-        let attribute = number_of(s, at, Self::ATTRIBUTE);
-        let group = number_of(s, at, Self::GROUP);
+        let start = at as u32;
+        let attribute = number_of(s, start, Self::ATTRIBUTE);
+        let group = number_of(s, start, Self::GROUP);
         Balise {
-            previous: number_of(s, at, Self::PREVIOUS),
-            next: number_of(s, at, Self::NEXT),
-            number: number_of(s, at, Self::NUMBER),
-            size: number_of(s, at, Self::SIZE_BYTE),
+            previous: number_of(s, start, Self::PREVIOUS),
+            next: number_of(s, start, Self::NEXT),
+            number: number_of(s, start, Self::NUMBER),
+            size: number_of(s, start, Self::SIZE_BYTE),
             nature: Nature::of(attribute),
-            direction: Way::of(attribute),
-            position: number_of(s, at, Self::POSITION),
-            track: number_of(s, at, Self::TRACK),
-            place: Self::place_of(group),
+            direction: GroupDirection::of(attribute),
+            position: number_of(s, start, Self::POSITION),
+            track: number_of(s, start, Self::TRACK),
+            rank: Self::rank_of(group),
             count: Self::count_of(group),
             message: at as usize + Self::MESSAGE,
         }

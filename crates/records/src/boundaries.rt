@@ -1,9 +1,9 @@
 // Data boundaries (数据边界): table 6 for the start, table 7 for the end, with the same fields.
 ghost use mathlib.Core.Path.{_≡_};
 ghost use Rattle.records.specs.Tables.{boundaryAt};
-use crate::number_of;
 use octets::Width;
-use rules::Field;
+use tables::Field;
+use tables::number_of;
 
 pub struct Boundary {
     // 条目类型: the type byte as it stands: which line the boundary is on, and whether it starts or ends it
@@ -57,14 +57,15 @@ impl Boundary {
     pub fn read(s: &[u8], at: u16) -> Self
         ensures { λ r. ⌜ r ≡ boundaryAt (now (s .entry)) at ⌝ }
     {
+        let start = at as u32;
         Boundary {
-            entry: number_of(s, at, Self::ENTRY),
-            link: number_of(s, at, Self::LINK),
-            neighbour_station: number_of(s, at, Self::NEIGHBOUR_STATION),
-            neighbour_type: number_of(s, at, Self::NEIGHBOUR_TYPE),
-            neighbour_track: number_of(s, at, Self::NEIGHBOUR_TRACK),
-            position: number_of(s, at, Self::POSITION),
-            track: number_of(s, at, Self::TRACK),
+            entry: number_of(s, start, Self::ENTRY),
+            link: number_of(s, start, Self::LINK),
+            neighbour_station: number_of(s, start, Self::NEIGHBOUR_STATION),
+            neighbour_type: number_of(s, start, Self::NEIGHBOUR_TYPE),
+            neighbour_track: number_of(s, start, Self::NEIGHBOUR_TRACK),
+            position: number_of(s, start, Self::POSITION),
+            track: number_of(s, start, Self::TRACK),
         }
     }
 }

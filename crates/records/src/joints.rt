@@ -1,9 +1,11 @@
 // Insulated rail joints (绝缘节): table 11.
 ghost use mathlib.Core.Path.{_≡_};
 ghost use Rattle.records.specs.Tables.{jointAt};
-use crate::number_of;
 use octets::Width;
-use rules::Field;
+use tables::Field;
+use tables::NameField;
+use tables::name_place;
+use tables::number_of;
 
 pub struct Joint {
     // 上一个数据对象的字节偏移: the object before it on its track
@@ -32,7 +34,7 @@ impl Joint {
 
     pub const NEXT: Field = Field(3, Width::Two);
 
-    pub const NAME: usize = 5;
+    pub const NAME: NameField = NameField(5);
 
     pub const POSITION: Field = Field(13, Width::Four);
 
@@ -42,12 +44,13 @@ impl Joint {
     pub fn read(s: &[u8], at: u16) -> Self
         ensures { λ r. ⌜ r ≡ jointAt (now (s .entry)) at ⌝ }
     {
+        let start = at as u32;
         Joint {
-            previous: number_of(s, at, Self::PREVIOUS),
-            next: number_of(s, at, Self::NEXT),
-            name: at as usize + Self::NAME,
-            position: number_of(s, at, Self::POSITION),
-            track: number_of(s, at, Self::TRACK),
+            previous: number_of(s, start, Self::PREVIOUS),
+            next: number_of(s, start, Self::NEXT),
+            name: name_place(start, Self::NAME),
+            position: number_of(s, start, Self::POSITION),
+            track: number_of(s, start, Self::TRACK),
         }
     }
 }

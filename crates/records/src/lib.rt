@@ -3,11 +3,7 @@
 // the type byte. A place is a 16-bit number, as every offset in the file is, and a byte past the end counts as 0: each reading answers
 // for every file and every place.
 ghost use mathlib.Core.Path.{_≡_};
-ghost use Prim.Native.Nat.{_+_, _<_};
-ghost use Rattle.octets.specs.Octets.{bytesOf, numAt};
 ghost use Rattle.records.specs.Records.{sizeOf, recordAt};
-use rules::Field;
-use rules::field_number;
 
 mod balises;
 mod boundaries;
@@ -17,8 +13,8 @@ mod signals;
 mod turnouts;
 
 pub use balises::Balise;
+pub use balises::GroupDirection;
 pub use balises::Nature;
-pub use balises::Way;
 pub use boundaries::Boundary;
 pub use joints::Joint;
 pub use sidings::Siding;
@@ -82,12 +78,4 @@ impl Record {
             Kind::Siding => Record::Siding(Siding::read(s, at)),
         }
     }
-}
-
-// The number of a field.
-fn number_of(s: &[u8], at: u16, k: Field) -> usize
-    requires { ⌜ k .0 < 256 ⌝ }
-    ensures { λ r. ⌜ r ≡ numAt (bytesOf (k .1)) (now (s .entry)) (at + k .0) ⌝ }
-{
-    field_number(s, at as usize, k)
 }

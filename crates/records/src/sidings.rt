@@ -1,9 +1,11 @@
 // Sidings (股道): table 12. A siding is no object of its track: it has no link and no position.
 ghost use mathlib.Core.Path.{_≡_};
 ghost use Rattle.records.specs.Tables.{sidingAt};
-use crate::number_of;
 use octets::Width;
-use rules::Field;
+use tables::Field;
+use tables::NameField;
+use tables::name_place;
+use tables::number_of;
 
 pub struct Siding {
     // 股道名称: where its name of 8 bytes stands
@@ -30,29 +32,30 @@ impl Siding {
     // Where each field stands, counted from the siding's start.
     pub const ENTRY: Field = Field(0, Width::One);
 
-    pub const NAME: usize = 1;
+    pub const NAME: NameField = NameField(1);
 
     pub const TRACK: Field = Field(9, Width::One);
 
     pub const UP_BALISE: Field = Field(10, Width::Three);
 
-    pub const UP_SIGNAL: usize = 13;
+    pub const UP_SIGNAL: NameField = NameField(13);
 
     pub const DOWN_BALISE: Field = Field(21, Width::Three);
 
-    pub const DOWN_SIGNAL: usize = 24;
+    pub const DOWN_SIGNAL: NameField = NameField(24);
 
     // The siding that starts at a place.
     pub fn read(s: &[u8], at: u16) -> Self
         ensures { λ r. ⌜ r ≡ sidingAt (now (s .entry)) at ⌝ }
     {
+        let start = at as u32;
         Siding {
-            name: at as usize + Self::NAME,
-            track: number_of(s, at, Self::TRACK),
-            up_balise: number_of(s, at, Self::UP_BALISE),
-            up_signal: at as usize + Self::UP_SIGNAL,
-            down_balise: number_of(s, at, Self::DOWN_BALISE),
-            down_signal: at as usize + Self::DOWN_SIGNAL,
+            name: name_place(start, Self::NAME),
+            track: number_of(s, start, Self::TRACK),
+            up_balise: number_of(s, start, Self::UP_BALISE),
+            up_signal: name_place(start, Self::UP_SIGNAL),
+            down_balise: number_of(s, start, Self::DOWN_BALISE),
+            down_signal: name_place(start, Self::DOWN_SIGNAL),
         }
     }
 }

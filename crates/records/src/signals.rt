@@ -1,11 +1,13 @@
-// Signals (信号机): table 10. The signal byte has parts: a part of a byte is the byte divided by its OVER, modulo its MODULO.
+// Signals (信号机): table 10. The signal byte has parts.
 ghost use mathlib.Core.Path.{_≡_};
 ghost use Rattle.records.specs.Tables.{facingOf, facingNumber, dutyOf, dutyNumber, signalAt};
-use crate::number_of;
 use octets::Width;
-use rules::Bits;
-use rules::Field;
-use rules::bits_of;
+use tables::Bits;
+use tables::Field;
+use tables::NameField;
+use tables::bits_of;
+use tables::name_place;
+use tables::number_of;
 
 // 信号机方向: the direction that a signal is for, the top two bits of the signal byte.
 pub enum Facing {
@@ -114,7 +116,7 @@ impl Signal {
 
     pub const NEXT: Field = Field(3, Width::Two);
 
-    pub const NAME: usize = 5;
+    pub const NAME: NameField = NameField(5);
 
     pub const POSITION: Field = Field(13, Width::Four);
 
@@ -133,13 +135,14 @@ impl Signal {
     pub fn read(s: &[u8], at: u16) -> Self
         ensures { λ r. ⌜ r ≡ signalAt (now (s .entry)) at ⌝ }
     {
-        let byte = number_of(s, at, Self::BYTE);
+        let start = at as u32;
+        let byte = number_of(s, start, Self::BYTE);
         Signal {
-            previous: number_of(s, at, Self::PREVIOUS),
-            next: number_of(s, at, Self::NEXT),
-            name: at as usize + Self::NAME,
-            position: number_of(s, at, Self::POSITION),
-            track: number_of(s, at, Self::TRACK),
+            previous: number_of(s, start, Self::PREVIOUS),
+            next: number_of(s, start, Self::NEXT),
+            name: name_place(start, Self::NAME),
+            position: number_of(s, start, Self::POSITION),
+            track: number_of(s, start, Self::TRACK),
             direction: Facing::of(byte),
             duty: Duty::of(byte),
         }

@@ -1,9 +1,9 @@
 // Turnouts (道岔): table 8.
 ghost use mathlib.Core.Path.{_≡_};
 ghost use Rattle.records.specs.Tables.{directionOf, directionNumber, turnoutAt};
-use crate::number_of;
 use octets::Width;
-use rules::Field;
+use tables::Field;
+use tables::number_of;
 
 // 方向: the direction in which a turnout opens, on the track of its tip.
 pub enum Direction {
@@ -96,18 +96,19 @@ impl Turnout {
     pub fn read(s: &[u8], at: u16) -> Self
         ensures { λ r. ⌜ r ≡ turnoutAt (now (s .entry)) at ⌝ }
     {
+        let start = at as u32;
         Turnout {
-            number: number_of(s, at, Self::NUMBER),
-            direction: Direction::of(number_of(s, at, Self::DIRECTION)),
-            tip_position: number_of(s, at, Self::TIP_POSITION),
-            normal_position: number_of(s, at, Self::NORMAL_POSITION),
-            reverse_position: number_of(s, at, Self::REVERSE_POSITION),
-            front: number_of(s, at, Self::FRONT),
-            normal: number_of(s, at, Self::NORMAL),
-            reverse: number_of(s, at, Self::REVERSE),
-            front_track: number_of(s, at, Self::FRONT_TRACK),
-            normal_track: number_of(s, at, Self::NORMAL_TRACK),
-            reverse_track: number_of(s, at, Self::REVERSE_TRACK),
+            number: number_of(s, start, Self::NUMBER),
+            direction: Direction::of(number_of(s, start, Self::DIRECTION)),
+            tip_position: number_of(s, start, Self::TIP_POSITION),
+            normal_position: number_of(s, start, Self::NORMAL_POSITION),
+            reverse_position: number_of(s, start, Self::REVERSE_POSITION),
+            front: number_of(s, start, Self::FRONT),
+            normal: number_of(s, start, Self::NORMAL),
+            reverse: number_of(s, start, Self::REVERSE),
+            front_track: number_of(s, start, Self::FRONT_TRACK),
+            normal_track: number_of(s, start, Self::NORMAL_TRACK),
+            reverse_track: number_of(s, start, Self::REVERSE_TRACK),
         }
     }
 }

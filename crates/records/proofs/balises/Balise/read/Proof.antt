@@ -7,7 +7,7 @@ use Rattle.records.proofs.balises.Balise.read.Tie as tie
 
 returns : tie.Need-returns
 unfolding baliseAt
-returns c = simp (c .count-of .ensures, c .before .place-of .ensures, c .before .before .number-of8 .ensures, c .before .before .before .number-of7 .ensures, c .before .before .before .before .of2 .ensures, c .before .before .before .before .before .of .ensures, c .before .before .before .before .before .before .number-of6 .ensures, c .before .before .before .before .before .before .before .number-of5 .ensures, c .before .before .before .before .before .before .before .before .number-of4 .ensures, c .before .before .before .before .before .before .before .before .before .number-of3 .ensures, c .before .before .before .before .before .before .before .before .before .before .number-of2 .ensures, c .before .before .before .before .before .before .before .before .before .before .before .number-of .ensures)
+returns c = simp (c .count-of .ensures, c .before .rank-of .ensures, c .before .before .number-of8 .ensures .is, c .before .before .before .number-of7 .ensures .is, c .before .before .before .before .of2 .ensures, c .before .before .before .before .before .of .ensures, c .before .before .before .before .before .before .number-of6 .ensures .is, c .before .before .before .before .before .before .before .number-of5 .ensures .is, c .before .before .before .before .before .before .before .before .number-of4 .ensures .is, c .before .before .before .before .before .before .before .before .before .number-of3 .ensures .is, c .before .before .before .before .before .before .before .before .before .before .number-of2 .ensures .is, c .before .before .before .before .before .before .before .before .before .before .before .number-of .ensures .is)
 
 pub read-spec : {M : Type 1} → statement M
 read-spec =

@@ -7,7 +7,7 @@ use Rattle.records.proofs.boundaries.Boundary.read.Tie as tie
 
 returns : tie.Need-returns
 unfolding boundaryAt
-returns c = simp (c .number-of7 .ensures, c .before .number-of6 .ensures, c .before .before .number-of5 .ensures, c .before .before .before .number-of4 .ensures, c .before .before .before .before .number-of3 .ensures, c .before .before .before .before .before .number-of2 .ensures, c .before .before .before .before .before .before .number-of .ensures)
+returns c = simp (c .number-of7 .ensures .is, c .before .number-of6 .ensures .is, c .before .before .number-of5 .ensures .is, c .before .before .before .number-of4 .ensures .is, c .before .before .before .before .number-of3 .ensures .is, c .before .before .before .before .before .number-of2 .ensures .is, c .before .before .before .before .before .before .number-of .ensures .is)
 
 pub read-spec : {M : Type 1} → statement M
 read-spec =

@@ -7,7 +7,7 @@ use Rattle.records.proofs.joints.Joint.read.Tie as tie
 
 returns : tie.Need-returns
 unfolding jointAt
-returns c = simp (c .number-of4 .ensures, c .before .number-of3 .ensures, c .before .before .number-of2 .ensures, c .before .before .before .number-of .ensures)
+returns c = simp (c .number-of4 .ensures .is, c .before .number-of3 .ensures .is, c .before .before .name-place .ensures, c .before .before .before .number-of2 .ensures .is, c .before .before .before .before .number-of .ensures .is)
 
 pub read-spec : {M : Type 1} → statement M
 read-spec =
@@ -15,7 +15,7 @@ read-spec =
     (tie.spec
     (λ c κs. search needs)
     (λ c κs. search needs)
-    (λ c. search needs)
+    (λ c κs. search needs)
     (λ c κs. search needs)
     (λ c κs. search needs)
     returns)

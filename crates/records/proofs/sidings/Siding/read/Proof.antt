@@ -7,16 +7,16 @@ use Rattle.records.proofs.sidings.Siding.read.Tie as tie
 
 returns : tie.Need-returns
 unfolding sidingAt
-returns c = simp (c .number-of3 .ensures, c .before .number-of2 .ensures, c .before .before .number-of .ensures)
+returns c = simp (c .name-place3 .ensures, c .before .number-of3 .ensures .is, c .before .before .name-place2 .ensures, c .before .before .before .number-of2 .ensures .is, c .before .before .before .before .number-of .ensures .is, c .before .before .before .before .before .name-place .ensures)
 
 pub read-spec : {M : Type 1} → statement M
 read-spec =
     tie.close
     (tie.spec
-    (λ c. search needs)
     (λ c κs. search needs)
     (λ c κs. search needs)
-    (λ c. search needs)
     (λ c κs. search needs)
-    (λ c. search needs)
+    (λ c κs. search needs)
+    (λ c κs. search needs)
+    (λ c κs. search needs)
     returns)

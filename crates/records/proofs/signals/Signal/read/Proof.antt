@@ -7,7 +7,7 @@ use Rattle.records.proofs.signals.Signal.read.Tie as tie
 
 returns : tie.Need-returns
 unfolding signalAt
-returns c = simp (c .of2 .ensures, c .before .of .ensures, c .before .before .number-of5 .ensures, c .before .before .before .number-of4 .ensures, c .before .before .before .before .number-of3 .ensures, c .before .before .before .before .before .number-of2 .ensures, c .before .before .before .before .before .before .number-of .ensures)
+returns c = simp (c .of2 .ensures, c .before .of .ensures, c .before .before .number-of5 .ensures .is, c .before .before .before .number-of4 .ensures .is, c .before .before .before .before .name-place .ensures, c .before .before .before .before .before .number-of3 .ensures .is, c .before .before .before .before .before .before .number-of2 .ensures .is, c .before .before .before .before .before .before .before .number-of .ensures .is)
 
 pub read-spec : {M : Type 1} → statement M
 read-spec =
@@ -16,7 +16,7 @@ read-spec =
     (λ c κs. search needs)
     (λ c κs. search needs)
     (λ c κs. search needs)
-    (λ c. search needs)
+    (λ c κs. search needs)
     (λ c κs. search needs)
     (λ c κs. search needs)
     (λ c κs. search needs)
