@@ -1,3 +1,4 @@
 pub mod Numbers
 pub mod Whole
 pub mod Ties
+pub mod Linked

@@ -1,11 +1,13 @@
 -- The record of a kind that starts at a place. The kind follows from the place in the file, and is given.
 -- Assumes nothing.
 use Prim.Native.Nat.{ℕ}
-use mathlib.Core.List.{List}
+use mathlib.Core.List.{List, [], _∷_}
 use Rattle.records.specs.declared.Kind.{Kind}
 use Rattle.records.specs.declared.Kind.the-variants as kind
 use Rattle.records.specs.declared.Record.{Record}
 use Rattle.records.specs.declared.Record.the-variants as is
+use Rattle.records.specs.declared.Links.{Links}
+use Rattle.records.specs.declared.Links.the-variants.{Nothing, One, Two, Three}
 use Rattle.tables.specs.Table.{linksIn}
 use Rattle.records.specs.Places as place
 use Rattle.records.specs.Rows.{tableOf}
@@ -24,6 +26,23 @@ sizeOf kind.Siding = place.sidingSize
 -- where the links of a record stand, in the order of its fields
 abbrev pub linkPlaces : Kind → ℕ → List ℕ
 linkPlaces k at = linksIn at (tableOf k)
+
+-- the same as a value: no record has more than three links
+abbrev pub asLinks : List ℕ → Links
+asLinks [] = Nothing
+asLinks (p ∷ []) = One p
+asLinks (p ∷ q ∷ []) = Two p q
+asLinks (p ∷ q ∷ r ∷ ps) = Three p q r
+
+abbrev pub linksOf : Kind → ℕ → Links
+linksOf k at = asLinks (linkPlaces k at)
+
+-- and the list of such a value
+abbrev pub placesIn : Links → List ℕ
+placesIn Nothing = []
+placesIn (One p) = p ∷ []
+placesIn (Two p q) = p ∷ q ∷ []
+placesIn (Three p q r) = p ∷ q ∷ r ∷ []
 
 -- what the bytes at a place mean, read as a record of a kind
 unfoldable pub recordAt : List ℕ → Kind → ℕ → Record

@@ -3,7 +3,8 @@
 // the type byte. A place is a 16-bit number, as every offset in the file is, and a byte past the end counts as 0: each reading answers
 // for every file and every place.
 ghost use mathlib.Core.Path.{_≡_};
-ghost use Rattle.records.specs.Records.{sizeOf, recordAt};
+ghost use Rattle.records.specs.Records.{sizeOf, linksOf, recordAt};
+use tables::place_of;
 
 mod balises;
 mod boundaries;
@@ -50,6 +51,44 @@ impl Kind {
             Kind::Siding => Siding::SIZE,
         }
     }
+
+    // Where the links stand of the record of the kind at a place: a boundary has one, a turnout three (front, normal, reverse), balise,
+    // signal and joint two (previous, next), a siding none.
+    pub fn links(self, at: u32) -> Links
+        ensures { λ r. ⌜ r ≡ linksOf self at ⌝ }
+    {
+        match self {
+            Kind::StartBoundary => Links::One(place_of(at, Boundary::LINK)),
+            Kind::EndBoundary => Links::One(place_of(at, Boundary::LINK)),
+            Kind::Turnout => {
+                let front = place_of(at, Turnout::FRONT);
+                let normal = place_of(at, Turnout::NORMAL);
+                let reverse = place_of(at, Turnout::REVERSE);
+                Links::Three(front, normal, reverse)
+            }
+            Kind::Balise => {
+                let previous = place_of(at, Balise::PREVIOUS);
+                Links::Two(previous, place_of(at, Balise::NEXT))
+            }
+            Kind::Signal => {
+                let previous = place_of(at, Signal::PREVIOUS);
+                Links::Two(previous, place_of(at, Signal::NEXT))
+            }
+            Kind::Joint => {
+                let previous = place_of(at, Joint::PREVIOUS);
+                Links::Two(previous, place_of(at, Joint::NEXT))
+            }
+            Kind::Siding => Links::Nothing,
+        }
+    }
+}
+
+// Where the links of a record stand, in the order of its fields (01, 'Links').
+pub enum Links {
+    Nothing,
+    One(usize),
+    Two(usize, usize),
+    Three(usize, usize, usize),
 }
 
 // A record, decoded.
