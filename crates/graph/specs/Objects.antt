@@ -1,32 +1,35 @@
 -- What stands at a place of an X.2 file, as far as its links go (01, 'Links'): a boundary has one, a turnout three (front, normal, reverse),
 -- a balise, signal or joint two (previous, next), a siding none. The kind follows from the region that the place lies in.
 -- Assumes nothing.
-use Prim.Native.Nat.{ℕ, _+_, _-_, _%_}
+use Prim.Native.Nat.{ℕ, _-_, _%_}
 use mathlib.Core.Bool.{Bool, true, false, _&&_}
 use mathlib.Core.List.{List, [], _∷_}
 use lib.Dec.{eqb, leb, ltb}
 use Rattle.octets.specs.Octets.{numAt}
 use Rattle.records.specs.declared.Kind.{Kind}
-use Rattle.records.specs.declared.Kind.the-variants as kind
+use Rattle.records.specs.declared.Links.{Links}
+use Rattle.records.specs.declared.Links.the-variants as links
+use Rattle.records.specs.Records.{linkFields}
 use Rattle.records.specs.Places as place
 use Rattle.layout.specs.declared.Layout.{Layout}
 use Rattle.layout.specs.Records.{kindAt}
 use Rattle.graph.specs.declared.Object.{Object}
 use Rattle.graph.specs.declared.Object.the-variants.{Boundary, Plain, Turnout, Nothing}
 
--- the link that stands k bytes behind a record's start
-abbrev pub linkAt : List ℕ → ℕ → ℕ → ℕ
-linkAt f at k = numAt 2 f (at + k)
+-- the link at a place
+abbrev pub linkAt : List ℕ → ℕ → ℕ
+linkAt f p = numAt 2 f p
+
+-- the object whose links stand at some places
+abbrev pub viewOf : List ℕ → Links → Object
+viewOf f links.Nothing = Nothing
+viewOf f (links.One p) = Boundary (linkAt f p)
+viewOf f (links.Two p q) = Plain (record { previous = linkAt f p; next = linkAt f q })
+viewOf f (links.Three p q r) = Turnout (record { front = linkAt f p; normal = linkAt f q; reverse = linkAt f r })
 
 -- the record of a kind that starts at a place
 unfoldable pub viewAt : List ℕ → Kind → ℕ → Object
-viewAt f kind.StartBoundary at = Boundary (linkAt f at place.boundaryLink)
-viewAt f kind.EndBoundary at = Boundary (linkAt f at place.boundaryLink)
-viewAt f kind.Turnout at = Turnout (record { front = linkAt f at place.turnoutFront; normal = linkAt f at place.turnoutNormal; reverse = linkAt f at place.turnoutReverse })
-viewAt f kind.Balise at = Plain (record { previous = linkAt f at place.balisePrevious; next = linkAt f at place.baliseNext })
-viewAt f kind.Signal at = Plain (record { previous = linkAt f at place.signalPrevious; next = linkAt f at place.signalNext })
-viewAt f kind.Joint at = Plain (record { previous = linkAt f at place.jointPrevious; next = linkAt f at place.jointNext })
-viewAt f kind.Siding at = Nothing
+viewAt f k at = viewOf f (linkFields k at)
 
 -- the object that starts at a place
 unfoldable pub objectAt : List ℕ → Layout → ℕ → Object

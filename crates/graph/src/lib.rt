@@ -2,19 +2,13 @@
 // graph. The kind follows from the region that the place lies in, and a number past the end of the file counts as 0, so everything here
 // answers for every file, every layout and every place.
 ghost use mathlib.Core.Path.{_≡_};
-ghost use Prim.Native.Nat.{_+_, _<_};
-ghost use Rattle.octets.specs.Octets.{numAt};
-ghost use Rattle.graph.specs.Objects.{objectAt, boundaryAt, edgeLink};
+ghost use Rattle.graph.specs.Objects.{linkAt, viewOf, objectAt, boundaryAt, edgeLink};
 ghost use Rattle.graph.specs.Ways.{onwardOf};
 use layout::Layout;
 use layout::kind_at;
 use octets::u16_at;
-use records::Balise;
 use records::Boundary;
-use records::Joint;
-use records::Kind;
-use records::Signal;
-use records::Turnout;
+use records::Links;
 
 // The links of a balise, a signal or a joint, which are plain objects.
 pub struct PlainLinks {
@@ -70,23 +64,30 @@ impl Object {
     }
 }
 
-// The link that stands k bytes behind a record's start.
-fn link_at(f: &[u8], at: u16, k: usize) -> u16
-    requires { ⌜ k < 256 ⌝ }
-    ensures { λ r. ⌜ r ≡ numAt 2 (now (f .entry)) (at + k) ⌝ }
+// The link at a place.
+fn link_at(f: &[u8], p: usize) -> u16
+    ensures { λ r. ⌜ r ≡ linkAt (now (f .entry)) p ⌝ }
 {
-    u16_at(f, at as usize + k) as u16
+    u16_at(f, p) as u16
 }
 
-// The links of a plain object, which stand so many bytes behind its start.
-fn plain_at(f: &[u8], at: u16, previous: usize, next: usize) -> Object
-    requires { ⌜ (previous < 256) × (next < 256) ⌝ }
-    ensures { λ r. ⌜ r ≡ Object.Plain (record { previous = numAt 2 (now (f .entry)) (at + previous); next = numAt 2 (now (f .entry)) (at + next) }) ⌝ }
+// The object whose links stand at some places: a boundary has one, a plain object two, a turnout three.
+fn view(f: &[u8], links: Links) -> Object
+    ensures { λ r. ⌜ r ≡ viewOf (now (f .entry)) links ⌝ }
 {
-    Object::Plain(PlainLinks {
-        previous: link_at(f, at, previous),
-        next: link_at(f, at, next),
-    })
+    match links {
+        Links::Nothing => Object::Nothing,
+        Links::One(p) => Object::Boundary(link_at(f, p)),
+        Links::Two(p, q) => Object::Plain(PlainLinks {
+            previous: link_at(f, p),
+            next: link_at(f, q),
+        }),
+        Links::Three(p, q, r) => Object::Turnout(TurnoutLinks {
+            front: link_at(f, p),
+            normal: link_at(f, q),
+            reverse: link_at(f, r),
+        }),
+    }
 }
 
 // The object that starts at a place.
@@ -94,19 +95,7 @@ pub fn object_at(f: &[u8], l: Layout, at: u16) -> Object
     ensures { λ r. ⌜ r ≡ objectAt (now (f .entry)) l at ⌝ }
 {
     let k = kind_at(l, at as usize);
-    match k {
-        Kind::StartBoundary => Object::Boundary(link_at(f, at, Boundary::LINK)),
-        Kind::EndBoundary => Object::Boundary(link_at(f, at, Boundary::LINK)),
-        Kind::Turnout => Object::Turnout(TurnoutLinks {
-            front: link_at(f, at, Turnout::FRONT),
-            normal: link_at(f, at, Turnout::NORMAL),
-            reverse: link_at(f, at, Turnout::REVERSE),
-        }),
-        Kind::Balise => plain_at(f, at, Balise::PREVIOUS, Balise::NEXT),
-        Kind::Signal => plain_at(f, at, Signal::PREVIOUS, Signal::NEXT),
-        Kind::Joint => plain_at(f, at, Joint::PREVIOUS, Joint::NEXT),
-        Kind::Siding => Object::Nothing,
-    }
+    view(f, k.links(at as u32))
 }
 
 // Whether a boundary starts at a place.

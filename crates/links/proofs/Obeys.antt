@@ -12,8 +12,8 @@ use Rattle.records.specs.declared.Kind.the-variants as kind
 use Rattle.records.specs.Records.{linkPlaces}
 use Rattle.layout.specs.declared.Layout.{Layout}
 use Rattle.layout.specs.Records.{kindAt, starts}
-use Rattle.links.specs.Links.{linkAt, linkable, named, isTarget, target, targets, linked, recordTargets, targetsOf, targetFacts, linksTo, back, apart, aparts, returns, returnsOf, returnFacts}
-use Rattle.links.specs.Obeys.{Linkable, Place, LinksTo, HasLink, Distinct, TargetsObey, ReturnsObey}
+use Rattle.links.specs.Links.{linkAt, linkable, named, isTarget, target, targets, linked, recordTargets, targetFacts, linksTo, back, distinct, distinctFrom, returns, recordReturns, returnFacts}
+use Rattle.links.specs.Obeys.{Linkable, Target, LinksTo, HasLink, Distinct, TargetsObey, ReturnsObey}
 
 linkable-iff : (f : List ℕ) (k : Kind) (at : ℕ) → Holds (linkable f k at) ↔ Linkable f k at
 linkable-iff f kind.StartBoundary at = (λ h. h, λ h. h)
@@ -36,7 +36,7 @@ linked-iff f kind.Siding at = (λ h. h, λ h. h)
 
 module _ (f : List ℕ) (l : Layout) where
   -- x names a record that may be linked to
-  pub target-iff : (x : ℕ) → Holds (isTarget f l x) ↔ Place f l x
+  pub target-iff : (x : ℕ) → Holds (isTarget f l x) ↔ Target f l x
   unfolding isTarget
   target-iff x = (
     λ h. record {
@@ -50,7 +50,7 @@ module _ (f : List ℕ) (l : Layout) where
 
   -- what is asked of the link at p, of the record at `at`
   abbrev Aimed : ℕ → ℕ → Type 0
-  Aimed at p = (linkAt f p ≡ 0 → ⊥) → (linkAt f p ≡ at → ⊥) × Place f l (linkAt f p)
+  Aimed at p = (linkAt f p ≡ 0 → ⊥) → (linkAt f p ≡ at → ⊥) × Target f l (linkAt f p)
 
   aimed-iff : (at p : ℕ) → ((linkAt f p ≡ 0) ⊎ ((linkAt f p ≡ at → ⊥) × Holds (isTarget f l (linkAt f p)))) ↔ Aimed at p
   aimed-iff at p =
@@ -67,7 +67,7 @@ module _ (f : List ℕ) (l : Layout) where
         λ h. ((aimed-iff at p) .1 (h p (List·Memᴰ·head refl)), ih .1 (λ q m. h q (List·Memᴰ·tail m))),
       )
 
-  record-targets-iff : (at : ℕ) → AllHold (targetsOf f l at) ↔ (HasLink f (kindAt l at) at × ((p : ℕ) → List·Memᴰ p (linkPlaces (kindAt l at) at) → Aimed at p))
+  record-targets-iff : (at : ℕ) → AllHold (recordTargets f l (kindAt l at) at) ↔ (HasLink f (kindAt l at) at × ((p : ℕ) → List·Memᴰ p (linkPlaces (kindAt l at) at) → Aimed at p))
   record-targets-iff at =
       let cut = all-append (linked f (kindAt l at) at) (targets f l at (linkPlaces (kindAt l at) at)) in
       let a = linked-iff f (kindAt l at) at in
@@ -78,7 +78,7 @@ module _ (f : List ℕ) (l : Layout) where
   pub targets-iff : AllHold (targetFacts f l) ↔ TargetsObey f l
   unfolding targetFacts
   targets-iff =
-      let each = all-each (targetsOf f l) (starts f l) in (
+      let each = all-each (λ at. recordTargets f l (kindAt l at) at) (starts f l) in (
         λ h. record {
           boundaries = λ at m. ((record-targets-iff at) .0 (each .0 h at m)) .0;
           others = λ at m p k n. (((record-targets-iff at) .0 (each .0 h at m)) .1 p k n) .0;
@@ -107,11 +107,11 @@ module _ (f : List ℕ) (l : Layout) where
       let k = links-iff (kindAt l (linkAt f p)) (linkAt f p) at in
       (λ h n. k .0 (u .0 h n), λ h. u .1 (λ n. k .1 (h n)))
 
-  aparts-iff : (at p : ℕ) (qs : List ℕ) → AllHold (aparts f at p qs) ↔ ((linkAt f p ≡ 0 → ⊥) → NoneOf qs (linkAt f p))
+  distinctFrom-iff : (at p : ℕ) (qs : List ℕ) → AllHold (distinctFrom f at p qs) ↔ ((linkAt f p ≡ 0 → ⊥) → NoneOf qs (linkAt f p))
   unfolding AllHold
-  aparts-iff at p [] = (λ h n q m. absurd (List·Memᴰ·not-nil m), λ h. tt)
-  aparts-iff at p (r ∷ rs) =
-      let ih = aparts-iff at p rs in
+  distinctFrom-iff at p [] = (λ h n q m. absurd (List·Memᴰ·not-nil m), λ h. tt)
+  distinctFrom-iff at p (r ∷ rs) =
+      let ih = distinctFrom-iff at p rs in
       let u = unless (linkAt f p) (linkAt f r ≡ linkAt f p → ⊥) in (
         λ h n q m. ⊎-elim (λ (e : q ≡ r). λ (w : linkAt f q ≡ linkAt f p). u .0 (h .0) n (subst (λ (z : ℕ). linkAt f z ≡ linkAt f p) e w)) (λ (m′ : List·Memᴰ q rs). ih .0 (h .1) n q m′) (List·Memᴰ·cases-cons m),
         λ h. (u .1 (λ n. h n r (List·Memᴰ·head refl)), ih .1 (λ n q m. h n q (List·Memᴰ·tail m))),
@@ -122,18 +122,18 @@ module _ (f : List ℕ) (l : Layout) where
   returns-list at before [] = (λ h. (λ p m. absurd (List·Memᴰ·not-nil m), tt), λ h. tt)
   returns-list at before (p ∷ ps) =
       let ih = returns-list at (before ++ (p ∷ [])) ps in
-      let cut = all-append (aparts f at p before) (returns f l at (before ++ (p ∷ [])) ps) in (
+      let cut = all-append (distinctFrom f at p before) (returns f l at (before ++ (p ∷ [])) ps) in (
         λ h.
             let rest = cut .0 (h .1) in
             let more = ih .0 (rest .1) in (
-              λ q m. ⊎-elim (λ (e : q ≡ p). subst (Back at before) (sym e) (λ n. ((back-iff at p) .0 (h .0) n, (aparts-iff at p before) .0 (rest .0) n)))
+              λ q m. ⊎-elim (λ (e : q ≡ p). subst (Back at before) (sym e) (λ n. ((back-iff at p) .0 (h .0) n, (distinctFrom-iff at p before) .0 (rest .0) n)))
                   (λ (m′ : List·Memᴰ q ps). fewer q (more .0 q m′)) (List·Memᴰ·cases-cons m),
               (λ q m n. ((more .0 q m) n) .1 p (Memᴰ·append-right before (List·Memᴰ·head refl)), more .1),
             ),
         λ h. (
           (back-iff at p) .1 (λ n. (h .0 p (List·Memᴰ·head refl) n) .0),
           cut .1 (
-            (aparts-iff at p before) .1 (λ n. (h .0 p (List·Memᴰ·head refl) n) .1),
+            (distinctFrom-iff at p before) .1 (λ n. (h .0 p (List·Memᴰ·head refl) n) .1),
             ih .1 (λ q m. further q (h .0 q (List·Memᴰ·tail m)) (h .1 .0 q m), h .1 .1),
           ),
         ),
@@ -154,8 +154,8 @@ module _ (f : List ℕ) (l : Layout) where
   pub returns-iff : AllHold (returnFacts f l) ↔ ReturnsObey f l
   unfolding returnFacts
   returns-iff =
-      let each = all-each (returnsOf f l) (starts f l) in
-      let list : (at : ℕ) → AllHold (returnsOf f l at) ↔ (((p : ℕ) → List·Memᴰ p (linkPlaces (kindAt l at) at) → Back at [] p) × Distinct f (linkPlaces (kindAt l at) at)) =
+      let each = all-each (λ at. recordReturns f l (kindAt l at) at) (starts f l) in
+      let list : (at : ℕ) → AllHold (recordReturns f l (kindAt l at) at) ↔ (((p : ℕ) → List·Memᴰ p (linkPlaces (kindAt l at) at) → Back at [] p) × Distinct f (linkPlaces (kindAt l at) at)) =
       λ at. returns-list at [] (linkPlaces (kindAt l at) at)
       in (
         λ h. record {

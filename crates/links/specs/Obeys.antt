@@ -6,24 +6,23 @@ use mathlib.Core.List.{List, [], _∷_, List·Memᴰ}
 use Rattle.octets.specs.Octets.{numAt}
 use Rattle.records.specs.declared.Kind.{Kind}
 use Rattle.records.specs.declared.Kind.the-variants as kind
-use Rattle.records.specs.Places as place
 use Rattle.records.specs.Records.{linkPlaces}
 use Rattle.layout.specs.declared.Layout.{Layout}
 use Rattle.layout.specs.Records.{kindAt, starts}
 use Rattle.links.specs.Links.{linkAt}
 
--- a record may be linked to: no siding, and of balises only place 1
+-- a record may be linked to: no siding, and of balises only the first of its group (01: place 1), by the low three bits of the group byte
 abbrev pub Linkable : List ℕ → Kind → ℕ → Type 0
 Linkable f kind.StartBoundary at = Unit {0}
 Linkable f kind.EndBoundary at = Unit {0}
 Linkable f kind.Turnout at = Unit {0}
-Linkable f kind.Balise at = numAt 1 f (at + place.baliseGroup) / place.balisePlaceOver % place.balisePlaceModulo ≡ 0
+Linkable f kind.Balise at = numAt 1 f (at + 15) / 1 % 8 ≡ 0
 Linkable f kind.Signal at = Unit {0}
 Linkable f kind.Joint at = Unit {0}
 Linkable f kind.Siding at = ⊥
 
--- the record that starts at x may be linked to
-pub record Place (f : List ℕ) (l : Layout) (x : ℕ) : Type 0 where
+-- x is a target: a record starts there that may be linked to
+pub record Target (f : List ℕ) (l : Layout) (x : ℕ) : Type 0 where
   pub record-there : List·Memᴰ x (starts f l)
   pub may : Linkable f (kindAt l x) x
 
@@ -35,8 +34,8 @@ pub record LinksTo (f : List ℕ) (k : Kind) (x at : ℕ) : Type 0 where
 
 -- a boundary has a link
 abbrev pub HasLink : List ℕ → Kind → ℕ → Type 0
-HasLink f kind.StartBoundary at = (1 ≤ linkAt f (at + place.boundaryLink)) × (linkAt f (at + place.boundaryLink) ≤ 65535)
-HasLink f kind.EndBoundary at = (1 ≤ linkAt f (at + place.boundaryLink)) × (linkAt f (at + place.boundaryLink) ≤ 65535)
+HasLink f kind.StartBoundary at = (1 ≤ linkAt f (at + 1)) × (linkAt f (at + 1) ≤ 65535)
+HasLink f kind.EndBoundary at = (1 ≤ linkAt f (at + 1)) × (linkAt f (at + 1) ≤ 65535)
 HasLink f kind.Turnout at = Unit {0}
 HasLink f kind.Balise at = Unit {0}
 HasLink f kind.Signal at = Unit {0}
@@ -51,7 +50,7 @@ Distinct f (p ∷ ps) = ((q : ℕ) → List·Memᴰ q ps → (linkAt f q ≡ 0 �
 pub record TargetsObey (f : List ℕ) (l : Layout) : Type 0 where
   pub boundaries : (at : ℕ) → List·Memᴰ at (starts f l) → HasLink f (kindAt l at) at
   pub others : (at : ℕ) → List·Memᴰ at (starts f l) → (p : ℕ) → List·Memᴰ p (linkPlaces (kindAt l at) at) → (linkAt f p ≡ 0 → ⊥) → linkAt f p ≡ at → ⊥
-  pub places : (at : ℕ) → List·Memᴰ at (starts f l) → (p : ℕ) → List·Memᴰ p (linkPlaces (kindAt l at) at) → (linkAt f p ≡ 0 → ⊥) → Place f l (linkAt f p)
+  pub places : (at : ℕ) → List·Memᴰ at (starts f l) → (p : ℕ) → List·Memᴰ p (linkPlaces (kindAt l at) at) → (linkAt f p ≡ 0 → ⊥) → Target f l (linkAt f p)
 
 pub record ReturnsObey (f : List ℕ) (l : Layout) : Type 0 where
   pub returned :

@@ -11,24 +11,25 @@ ghost use Rattle.links.specs.Marks.{cells, markOf, markIf, markAt, Blank
 use layout::Layout;
 use layout::kind_at;
 use layout::size_of;
-use octets::byte_behind;
 use records::Balise;
 use records::Kind;
+use tables::bits_of;
+use tables::number_of;
 
 // How many places a cell has, and how many cells hold all places of a file.
 pub const CELL: usize = 8;
 
 pub const CELLS: usize = 8192;
 
-// Of balises only place 1 is linked to.
-fn is_first(f: &[u8], at: usize) -> bool
+// Of balises only the first of its group is linked to.
+fn is_first(f: &[u8], at: u32) -> bool
     ensures { λ r. ⌜ r ≡ test (linkable (now (f .entry)) Kind.Balise at) ⌝ }
 {
-    byte_behind(f, at, Balise::GROUP) / Balise::PLACE_OVER % Balise::PLACE_MODULO == 0
+    bits_of(number_of(f, at, Balise::GROUP), Balise::RANK) == 0
 }
 
 // Whether the record of a kind at a place may be linked to.
-fn may_link(f: &[u8], k: Kind, at: usize) -> bool
+fn may_link(f: &[u8], k: Kind, at: u32) -> bool
     ensures { λ r. ⌜ r ≡ test (linkable (now (f .entry)) k at) ⌝ }
 {
     match k {
@@ -65,7 +66,7 @@ pub fn mark_targets(f: &[u8], l: Layout, marks: &mut [u8; CELLS])
     let mut at = l.header;
     while at < stop {
         let k = kind_at(l, at);
-        let mark = mark_if(may_link(f, k, at), at);
+        let mark = mark_if(may_link(f, k, at as u32), at);
         marks[at / CELL] = mark;
         at = at + size_of(f, k, at);
     }

@@ -1,132 +1,108 @@
 // The returns of the links, and doubled links: 9 in 01's table.
 ghost use mathlib.Core.Path.{_≡_};
 ghost use mathlib.Core.List.{[], _∷_};
-ghost use Prim.Native.Nat.{_+_, _≤_, _<_};
-ghost use mathlib.Core.Bool.{false, _||_};
-ghost use lib.Dec.{eqb};
 ghost use Rattle.verdict.specs.Facts.{judge, test};
-ghost use Rattle.layout.specs.Bounds.{placeMost, Bounded, ifBounded};
-ghost use Rattle.links.specs.Links.{linkAt, linksTo, back, apart, returns, recordReturns, returnFacts};
+ghost use Rattle.records.specs.Records.{placesIn};
+ghost use Rattle.layout.specs.Bounds.{Bounded, ifBounded};
+ghost use Rattle.links.specs.Links.{someNames, returnMark, back, distinct, returns, recordReturns, returnFacts};
 use layout::Layout;
 use layout::is_bounded;
 use layout::kind_at;
 use layout::size_of;
 use octets::u16_at;
-use records::Balise;
-use records::Boundary;
-use records::Joint;
 use records::Kind;
-use records::Signal;
-use records::Turnout;
+use records::LINK_SIZE;
+use records::Links;
 use verdict::Judged;
 use verdict::Mark;
 use verdict::Reason;
 use verdict::Rule;
 use verdict::also_fact;
 
-// Whether one of two links names a place.
-fn either_names(f: &[u8], p: usize, q: usize, at: usize) -> bool
-    ensures { λ r. ⌜ r ≡ (eqb (linkAt (now (f .entry)) p) at || (eqb (linkAt (now (f .entry)) q) at || false)) ⌝ }
+// Whether one of some links names a place.
+fn some_names(f: &[u8], links: Links, at: usize) -> bool
+    ensures { λ r. ⌜ r ≡ test (someNames (now (f .entry)) (placesIn links) at) ⌝ }
 {
-    (u16_at(f, p) == at) | ((u16_at(f, q) == at) | false)
-}
-
-// Whether a record of a kind at x has a link that names a place.
-fn links_to(f: &[u8], k: Kind, x: usize, at: usize) -> bool
-    requires { ⌜ x ≤ placeMost ⌝ }
-    ensures { λ r. ⌜ r ≡ test (linksTo (now (f .entry)) k x at) ⌝ }
-{
-    match k {
-        Kind::StartBoundary => u16_at(f, x + Boundary::LINK) == at,
-        Kind::EndBoundary => u16_at(f, x + Boundary::LINK) == at,
-        Kind::Turnout => {
-            (u16_at(f, x + Turnout::FRONT) == at)
-                | either_names(f, x + Turnout::NORMAL, x + Turnout::REVERSE, at)
+    match links {
+        Links::Nothing => false,
+        Links::One(p) => u16_at(f, p) == at,
+        Links::Two(p, q) => (u16_at(f, p) == at) | (u16_at(f, q) == at),
+        Links::Three(p, q, r) => {
+            (u16_at(f, p) == at) | ((u16_at(f, q) == at) | (u16_at(f, r) == at))
         }
-        Kind::Balise => either_names(f, x + Balise::PREVIOUS, x + Balise::NEXT, at),
-        Kind::Signal => either_names(f, x + Signal::PREVIOUS, x + Signal::NEXT, at),
-        Kind::Joint => either_names(f, x + Joint::PREVIOUS, x + Joint::NEXT, at),
-        Kind::Siding => false,
     }
 }
 
-// The return of the link at p, of the record at `at`.
-fn back_fact(f: &[u8], l: Layout, at: usize, p: usize, v: Judged) -> Judged
+// The mark of a rule of the link at p, of the record at `at`.
+fn return_mark(at: u32, p: usize, rule: Rule) -> Mark
+    ensures { λ r. ⌜ r ≡ returnMark at p rule ⌝ }
+{
+    let reason = Reason::Return;
+    Mark {
+        reason,
+        start: at as usize,
+        place: p,
+        width: LINK_SIZE,
+        rule,
+    }
+}
+
+// The link at p, of the record at `at`, is returned.
+fn back_fact(v: Judged, f: &[u8], l: Layout, at: u32, p: usize) -> Judged
     ensures { λ r. ⌜ r ≡ judge v (back (now (f .entry)) l at p ∷ []) ⌝ }
 {
     let x = u16_at(f, p);
-    let returned = links_to(f, kind_at(l, x), x, at);
-    let reason = Reason::Return;
-    let rule = Rule::IsReturned;
-    let mark = Mark {
-        reason,
-        start: at,
-        place: p,
-        width: 2,
-        rule,
-    };
+    let k = kind_at(l, x);
+    let returned = some_names(f, k.links(x as u32), at as usize);
+    let mark = return_mark(at, p, Rule::IsReturned);
     also_fact(v, (x == 0) | returned, mark)
 }
 
 // The link at p is another one than the link at q.
-fn apart_fact(f: &[u8], at: usize, p: usize, q: usize, v: Judged) -> Judged
-    ensures { λ r. ⌜ r ≡ judge v (apart (now (f .entry)) at p q ∷ []) ⌝ }
+fn distinct_fact(v: Judged, f: &[u8], at: u32, p: usize, q: usize) -> Judged
+    ensures { λ r. ⌜ r ≡ judge v (distinct (now (f .entry)) at p q ∷ []) ⌝ }
 {
     let x = u16_at(f, p);
     let y = u16_at(f, q);
-    let reason = Reason::Return;
-    let rule = Rule::NotDoubled(q);
-    let mark = Mark {
-        reason,
-        start: at,
-        place: p,
-        width: 2,
-        rule,
-    };
+    let mark = return_mark(at, p, Rule::NotDoubled(q));
     also_fact(v, (x == 0) | (y != x), mark)
 }
 
-// The returns of two links.
-fn two_returns(f: &[u8], l: Layout, at: usize, p: usize, q: usize, v: Judged) -> Judged
+// The returns of two links, the first links of a record.
+fn two_returns(v: Judged, f: &[u8], l: Layout, at: u32, p: usize, q: usize) -> Judged
     ensures { λ r. ⌜ r ≡ judge v (returns (now (f .entry)) l at [] (p ∷ q ∷ [])) ⌝ }
 {
-    let v1 = back_fact(f, l, at, p, v);
-    let v2 = back_fact(f, l, at, q, v1);
-    apart_fact(f, at, q, p, v2)
+    let mut w = back_fact(v, f, l, at, p);
+    w = back_fact(w, f, l, at, q);
+    distinct_fact(w, f, at, q, p)
 }
 
-// The returns of a turnout's links.
-fn turnout_returns(f: &[u8], l: Layout, at: usize, v: Judged) -> Judged
-    requires { ⌜ at ≤ placeMost ⌝ }
-    ensures { λ r. ⌜ r ≡ judge v (recordReturns (now (f .entry)) l Kind.Turnout at) ⌝ }
+// The returns of a record's links.
+fn link_returns(v: Judged, f: &[u8], l: Layout, at: u32, links: Links) -> Judged
+    ensures { λ r. ⌜ r ≡ judge v (returns (now (f .entry)) l at [] (placesIn links)) ⌝ }
 {
-    let front = at + Turnout::FRONT;
-    let normal = at + Turnout::NORMAL;
-    let reverse = at + Turnout::REVERSE;
-    let v1 = two_returns(f, l, at, front, normal, v);
-    let v2 = back_fact(f, l, at, reverse, v1);
-    let v3 = apart_fact(f, at, reverse, front, v2);
-    apart_fact(f, at, reverse, normal, v3)
-}
-
-// The returns of one record's links.
-fn record_returns(f: &[u8], l: Layout, k: Kind, at: usize, v: Judged) -> Judged
-    requires { ⌜ at ≤ placeMost ⌝ }
-    ensures { λ r. ⌜ r ≡ judge v (recordReturns (now (f .entry)) l k at) ⌝ }
-{
-    match k {
-        Kind::StartBoundary => back_fact(f, l, at, at + Boundary::LINK, v),
-        Kind::EndBoundary => back_fact(f, l, at, at + Boundary::LINK, v),
-        Kind::Turnout => turnout_returns(f, l, at, v),
-        Kind::Balise => two_returns(f, l, at, at + Balise::PREVIOUS, at + Balise::NEXT, v),
-        Kind::Signal => two_returns(f, l, at, at + Signal::PREVIOUS, at + Signal::NEXT, v),
-        Kind::Joint => two_returns(f, l, at, at + Joint::PREVIOUS, at + Joint::NEXT, v),
-        Kind::Siding => v,
+    match links {
+        Links::Nothing => v,
+        Links::One(p) => back_fact(v, f, l, at, p),
+        Links::Two(p, q) => two_returns(v, f, l, at, p, q),
+        Links::Three(p, q, r) => {
+            let w = two_returns(v, f, l, at, p, q);
+            let u = back_fact(w, f, l, at, r);
+            let t = distinct_fact(u, f, at, r, p);
+            distinct_fact(t, f, at, r, q)
+        }
     }
 }
 
+// The returns of one record's links.
+fn record_returns(v: Judged, f: &[u8], l: Layout, k: Kind, at: u32) -> Judged
+    ensures { λ r. ⌜ r ≡ judge v (recordReturns (now (f .entry)) l k at) ⌝ }
+{
+    link_returns(v, f, l, at, k.links(at))
+}
+
 // The returns of every record's links.
-fn all_returns(f: &[u8], l: Layout, v: Judged) -> Judged
+fn all_returns(v: Judged, f: &[u8], l: Layout) -> Judged
     requires { ⌜ Bounded l ⌝ }
     ensures { λ r. ⌜ r ≡ judge v (returnFacts (now (f .entry)) l) ⌝ }
 {
@@ -135,18 +111,18 @@ fn all_returns(f: &[u8], l: Layout, v: Judged) -> Judged
     let mut at = l.header;
     while at < stop {
         let k = kind_at(l, at);
-        w = record_returns(f, l, k, at, w);
+        w = record_returns(w, f, l, k, at as u32);
         at = at + size_of(f, k, at);
     }
     w
 }
 
 // The verdict so far, then the returns of all links. A layout that no file has is not looked at.
-pub fn check_returns(f: &[u8], l: Layout, v: Judged) -> Judged
+pub fn check_returns(v: Judged, f: &[u8], l: Layout) -> Judged
     ensures { λ r. ⌜ r ≡ judge v (ifBounded l (returnFacts (now (f .entry)) l)) ⌝ }
 {
     if !is_bounded(l) {
         return v;
     }
-    all_returns(f, l, v)
+    all_returns(v, f, l)
 }

@@ -1,10 +1,10 @@
 // The targets of the links: 8 in 01's table.
 ghost use mathlib.Core.Path.{_≡_};
 ghost use mathlib.Core.List.{[], _∷_};
-ghost use Prim.Native.Nat.{_+_, _≤_, _<_};
 ghost use Rattle.verdict.specs.Facts.{judge};
-ghost use Rattle.layout.specs.Bounds.{placeMost, Bounded, ifBounded};
-ghost use Rattle.links.specs.Links.{target, targets, recordTargets, targetFacts};
+ghost use Rattle.records.specs.Records.{placesIn};
+ghost use Rattle.layout.specs.Bounds.{Bounded, ifBounded};
+ghost use Rattle.links.specs.Links.{target, linked, targets, recordTargets, targetFacts};
 ghost use Rattle.links.specs.Marks.{Targets};
 use crate::marks::CELLS;
 use crate::marks::is_target;
@@ -13,15 +13,13 @@ use layout::Layout;
 use layout::is_bounded;
 use layout::kind_at;
 use layout::size_of;
-use octets::Width;
 use octets::u16_at;
-use records::Balise;
 use records::Boundary;
-use records::Joint;
 use records::Kind;
-use records::Signal;
-use records::Turnout;
-use rules::between;
+use records::LINK_SIZE;
+use records::Links;
+use seal::NUMBER_MOST;
+use tables::number_between;
 use verdict::Judged;
 use verdict::Mark;
 use verdict::Reason;
@@ -29,97 +27,81 @@ use verdict::Rule;
 use verdict::also_fact;
 
 // The target of the link at p, of the record at `at`.
-fn target_fact(f: &[u8], l: Layout, marks: &[u8; CELLS], at: usize, p: usize, v: Judged) -> Judged
+fn target_fact(v: Judged, f: &[u8], l: Layout, marks: &[u8; CELLS], at: u32, p: usize) -> Judged
     requires { ⌜ Targets (now f) l (now marks) ⌝ }
     ensures { λ r. ⌜ r ≡ judge v (target (now (f .entry)) l at p ∷ []) ⌝ }
 {
     let x = u16_at(f, p);
+    let start = at as usize;
     let reason = Reason::Target;
     let rule = Rule::NamesObject;
     let mark = Mark {
         reason,
-        start: at,
+        start,
         place: p,
-        width: 2,
+        width: LINK_SIZE,
         rule,
     };
-    also_fact(v, (x == 0) | ((x != at) & is_target(marks, x)), mark)
+    also_fact(v, (x == 0) | ((x != start) & is_target(marks, x)), mark)
 }
 
-// The targets of two links.
-fn two_targets(
-    f: &[u8],
-    l: Layout,
-    marks: &[u8; CELLS],
-    at: usize,
-    p: usize,
-    q: usize,
-    v: Judged,
-) -> Judged
-    requires { ⌜ Targets (now f) l (now marks) ⌝ }
-    ensures { λ r. ⌜ r ≡ judge v (targets (now (f .entry)) l at (p ∷ q ∷ [])) ⌝ }
-{
-    let w = target_fact(f, l, marks, at, p, v);
-    target_fact(f, l, marks, at, q, w)
-}
-
-// The link of a boundary is not 0, and its target.
-fn boundary_targets(f: &[u8], l: Layout, marks: &[u8; CELLS], at: usize, v: Judged) -> Judged
-    requires { ⌜ Targets (now f) l (now marks) × (at ≤ placeMost) ⌝ }
-    ensures { λ r. ⌜ r ≡ judge v (recordTargets (now (f .entry)) l Kind.StartBoundary at) ⌝ }
-{
-    let w = between(
-        v,
-        f,
-        Reason::Target,
-        at,
-        at + Boundary::LINK,
-        Width::Two,
-        1,
-        65535,
-    );
-    target_fact(f, l, marks, at, at + Boundary::LINK, w)
-}
-
-// The targets of a turnout's links.
-fn turnout_targets(f: &[u8], l: Layout, marks: &[u8; CELLS], at: usize, v: Judged) -> Judged
-    requires { ⌜ Targets (now f) l (now marks) × (at ≤ placeMost) ⌝ }
-    ensures { λ r. ⌜ r ≡ judge v (recordTargets (now (f .entry)) l Kind.Turnout at) ⌝ }
-{
-    let w = two_targets(
-        f,
-        l,
-        marks,
-        at,
-        at + Turnout::FRONT,
-        at + Turnout::NORMAL,
-        v,
-    );
-    target_fact(f, l, marks, at, at + Turnout::REVERSE, w)
-}
-
-// The targets of one record's links.
-fn record_targets(f: &[u8], l: Layout, marks: &[u8; CELLS], k: Kind, at: usize, v: Judged) -> Judged
-    requires { ⌜ Targets (now f) l (now marks) × (at ≤ placeMost) ⌝ }
-    ensures { λ r. ⌜ r ≡ judge v (recordTargets (now (f .entry)) l k at) ⌝ }
+// 0 means no link; in a boundary it is 8.
+fn has_link(v: Judged, f: &[u8], k: Kind, at: u32) -> Judged
+    ensures { λ r. ⌜ r ≡ judge v (linked (now (f .entry)) k at) ⌝ }
 {
     match k {
-        Kind::StartBoundary => boundary_targets(f, l, marks, at, v),
-        Kind::EndBoundary => boundary_targets(f, l, marks, at, v),
-        Kind::Turnout => turnout_targets(f, l, marks, at, v),
-        Kind::Balise => {
-            two_targets(f, l, marks, at, at + Balise::PREVIOUS, at + Balise::NEXT, v)
+        Kind::StartBoundary => {
+            number_between(v, f, Reason::Target, at, Boundary::LINK, 1, NUMBER_MOST)
         }
-        Kind::Signal => {
-            two_targets(f, l, marks, at, at + Signal::PREVIOUS, at + Signal::NEXT, v)
+        Kind::EndBoundary => {
+            number_between(v, f, Reason::Target, at, Boundary::LINK, 1, NUMBER_MOST)
         }
-        Kind::Joint => two_targets(f, l, marks, at, at + Joint::PREVIOUS, at + Joint::NEXT, v),
+        Kind::Turnout => v,
+        Kind::Balise => v,
+        Kind::Signal => v,
+        Kind::Joint => v,
         Kind::Siding => v,
     }
 }
 
+// The targets of a record's links.
+fn link_targets(
+    v: Judged,
+    f: &[u8],
+    l: Layout,
+    marks: &[u8; CELLS],
+    at: u32,
+    links: Links,
+) -> Judged
+    requires { ⌜ Targets (now f) l (now marks) ⌝ }
+    ensures { λ r. ⌜ r ≡ judge v (targets (now (f .entry)) l at (placesIn links)) ⌝ }
+{
+    match links {
+        Links::Nothing => v,
+        Links::One(p) => target_fact(v, f, l, marks, at, p),
+        Links::Two(p, q) => {
+            let w = target_fact(v, f, l, marks, at, p);
+            target_fact(w, f, l, marks, at, q)
+        }
+        Links::Three(p, q, r) => {
+            let w = target_fact(v, f, l, marks, at, p);
+            let u = target_fact(w, f, l, marks, at, q);
+            target_fact(u, f, l, marks, at, r)
+        }
+    }
+}
+
+// The targets of one record's links.
+fn record_targets(v: Judged, f: &[u8], l: Layout, marks: &[u8; CELLS], k: Kind, at: u32) -> Judged
+    requires { ⌜ Targets (now f) l (now marks) ⌝ }
+    ensures { λ r. ⌜ r ≡ judge v (recordTargets (now (f .entry)) l k at) ⌝ }
+{
+    let w = has_link(v, f, k, at);
+    link_targets(w, f, l, marks, at, k.links(at))
+}
+
 // The targets of every record's links.
-fn all_targets(f: &[u8], l: Layout, marks: &[u8; CELLS], v: Judged) -> Judged
+fn all_targets(v: Judged, f: &[u8], l: Layout, marks: &[u8; CELLS]) -> Judged
     requires { ⌜ Targets (now f) l (now marks) × Bounded l ⌝ }
     ensures { λ r. ⌜ r ≡ judge v (targetFacts (now (f .entry)) l) ⌝ }
 {
@@ -128,14 +110,14 @@ fn all_targets(f: &[u8], l: Layout, marks: &[u8; CELLS], v: Judged) -> Judged
     let mut at = l.header;
     while at < stop {
         let k = kind_at(l, at);
-        w = record_targets(f, l, marks, k, at, w);
+        w = record_targets(w, f, l, marks, k, at as u32);
         at = at + size_of(f, k, at);
     }
     w
 }
 
 // The verdict so far, then the targets of all links. A layout that no file has is not looked at.
-pub fn check_targets(f: &[u8], l: Layout, v: Judged) -> Judged
+pub fn check_targets(v: Judged, f: &[u8], l: Layout) -> Judged
     ensures { λ r. ⌜ r ≡ judge v (ifBounded l (targetFacts (now (f .entry)) l)) ⌝ }
 {
     if !is_bounded(l) {
@@ -143,5 +125,5 @@ pub fn check_targets(f: &[u8], l: Layout, v: Judged) -> Judged
     }
     let mut marks = [0u8; CELLS];
     mark_targets(f, l, &mut marks);
-    all_targets(f, l, &marks, v)
+    all_targets(v, f, l, &marks)
 }

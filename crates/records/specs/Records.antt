@@ -23,6 +23,10 @@ sizeOf kind.Signal = place.signalSize
 sizeOf kind.Joint = place.jointSize
 sizeOf kind.Siding = place.sidingSize
 
+-- how many bytes a link has
+abbrev pub linkSize : ℕ
+linkSize = 2
+
 -- where the links of a record stand, in the order of its fields
 abbrev pub linkPlaces : Kind → ℕ → List ℕ
 linkPlaces k at = linksIn at (tableOf k)
@@ -34,8 +38,8 @@ asLinks (p ∷ []) = One p
 asLinks (p ∷ q ∷ []) = Two p q
 asLinks (p ∷ q ∷ r ∷ ps) = Three p q r
 
-abbrev pub linksOf : Kind → ℕ → Links
-linksOf k at = asLinks (linkPlaces k at)
+abbrev pub linkFields : Kind → ℕ → Links
+linkFields k at = asLinks (linkPlaces k at)
 
 -- and the list of such a value
 abbrev pub placesIn : Links → List ℕ

@@ -3,7 +3,7 @@
 // the type byte. A place is a 16-bit number, as every offset in the file is, and a byte past the end counts as 0: each reading answers
 // for every file and every place.
 ghost use mathlib.Core.Path.{_≡_};
-ghost use Rattle.records.specs.Records.{sizeOf, linksOf, recordAt};
+ghost use Rattle.records.specs.Records.{sizeOf, linkFields, recordAt};
 use tables::place_of;
 
 mod balises;
@@ -55,7 +55,7 @@ impl Kind {
     // Where the links stand of the record of the kind at a place: a boundary has one, a turnout three (front, normal, reverse), balise,
     // signal and joint two (previous, next), a siding none.
     pub fn links(self, at: u32) -> Links
-        ensures { λ r. ⌜ r ≡ linksOf self at ⌝ }
+        ensures { λ r. ⌜ r ≡ linkFields self at ⌝ }
     {
         match self {
             Kind::StartBoundary => Links::One(place_of(at, Boundary::LINK)),
@@ -82,6 +82,9 @@ impl Kind {
         }
     }
 }
+
+// How many bytes a link has.
+pub const LINK_SIZE: usize = 2;
 
 // Where the links of a record stand, in the order of its fields (01, 'Links').
 pub enum Links {

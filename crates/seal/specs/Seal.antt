@@ -35,6 +35,10 @@ dataAt = 3
 abbrev pub stationAt : ℕ
 stationAt = 5
 
+-- the greatest number of a version, a station or a link, which has two bytes
+abbrev pub numberMost : ℕ
+numberMost = 65535
+
 -- the checksum covers all before it; the file type is the one that is due; the structure version is 1
 abbrev pub sealFacts : List ℕ → ℕ → List Fact
 sealFacts f type =

@@ -5,10 +5,12 @@ use Rattle.links.proofs.marks.is_first.Statement.{statement}
 use Rattle.links.proofs.marks.is_first.Tie as tie
 
 returns : tie.Need-returns
-returns c = simp (c .byte-behind .ensures .is)
+returns c = simp (c .bits-of .ensures, c .before .number-of .ensures .is)
 
 pub is-first-spec : {M : Type 1} → statement M
-is-first-spec = tie.close
+is-first-spec =
+    tie.close
     (tie.spec
+    (λ c κs. search needs)
     (λ c κs. search needs)
     returns)

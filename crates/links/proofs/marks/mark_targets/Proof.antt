@@ -36,6 +36,7 @@ mark-targets-spec =
     μ-loop
     loop-holds
     (λ c κs. search needs)
+    (λ c. search needs)
     (λ c κs. search needs)
     (λ c κs. search needs)
     (λ c. search needs)

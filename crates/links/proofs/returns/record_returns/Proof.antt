@@ -1,59 +1,23 @@
 -- `links::returns::record_returns` meets its contract.
 -- Assumes nothing.
+use mathlib.Core.List.{List, []}
+use Prim.Native.Nat.{ℕ}
+use Rattle.verdict.specs.Facts.{judge}
+use Rattle.records.proofs.Linked.{by-links}
+use Rattle.links.specs.Links.{returns as returnsOf}
 use borrow.Author.Needs.{needs}
 use Rattle.links.proofs.returns.record_returns.Statement.{statement}
 use Rattle.links.proofs.returns.record_returns.Tie as tie
 
 returns : tie.Need-returns
-returns c = simp (c .back-fact .ensures, c .before .enum-told .given .1)
-
-returns-2 : tie.Need-returns-2
-returns-2 c = simp (c .back-fact2 .ensures, c .before .enum-told2 .given .1)
-
-returns-3 : tie.Need-returns-3
-returns-3 c = simp (c .turnout-returns .ensures, c .before .enum-told3 .given .1)
-
-returns-4 : tie.Need-returns-4
-returns-4 c = simp (c .two-returns .ensures, c .before .enum-told4 .given .1)
-
-returns-5 : tie.Need-returns-5
-returns-5 c = simp (c .two-returns2 .ensures, c .before .enum-told5 .given .1)
-
-returns-6 : tie.Need-returns-6
-returns-6 c = simp (c .two-returns3 .ensures, c .before .enum-told6 .given .1)
-
-returns-7 : tie.Need-returns-7
-returns-7 c = simp (c .enum-told7 .given .1)
+returns c =
+    let a = c .before .before .before .args in
+    by-links (λ (ps : List ℕ). judge (a .v) (returnsOf (a .f .now) (a .l) (a .at) [] ps)) (a .k) (a .at) _ _ (c .before .links .ensures) (c .link-returns .ensures)
 
 pub record-returns-spec : {M : Type 1} → statement M
 record-returns-spec =
     tie.close
     (tie.spec
-    (λ c. search needs)
-    (λ c. search needs)
     (λ c κs. search needs)
-    (λ c. search needs)
-    (λ c. search needs)
     (λ c κs. search needs)
-    (λ c. search needs)
-    (λ c κs. search needs)
-    (λ c. search needs)
-    (λ c. search needs)
-    (λ c. search needs)
-    (λ c κs. search needs)
-    (λ c. search needs)
-    (λ c. search needs)
-    (λ c. search needs)
-    (λ c κs. search needs)
-    (λ c. search needs)
-    (λ c. search needs)
-    (λ c. search needs)
-    (λ c κs. search needs)
-    (λ c. search needs)
-    returns
-    returns-2
-    returns-3
-    returns-4
-    returns-5
-    returns-6
-    returns-7)
+    returns)

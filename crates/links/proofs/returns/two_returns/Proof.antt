@@ -5,7 +5,7 @@ use Rattle.links.proofs.returns.two_returns.Statement.{statement}
 use Rattle.links.proofs.returns.two_returns.Tie as tie
 
 returns : tie.Need-returns
-returns c = simp (c .apart-fact .ensures, c .before .back-fact2 .ensures, c .before .before .back-fact .ensures)
+returns c = simp (c .distinct-fact .ensures, c .before .back-fact2 .ensures, c .before .before .back-fact .ensures)
 
 pub two-returns-spec : {M : Type 1} → statement M
 two-returns-spec =

@@ -1,57 +1,31 @@
 -- `links::targets::record_targets` meets its contract.
 -- Assumes nothing.
+use mathlib.Core.List.{List}
+use mathlib.Core.Path.{_∙_, ap, sym}
+use Prim.Native.Nat.{ℕ}
+use Rattle.verdict.specs.declared.Judged.{Judged}
+use Rattle.verdict.specs.Facts.{judge}
+use Rattle.records.specs.Records.{linkPlaces}
+use Rattle.records.proofs.Linked.{by-links}
+use Rattle.links.specs.Links.{linked, targets}
+use Rattle.verdict.proofs.Facts.{judge-append}
 use borrow.Author.Needs.{needs}
 use Rattle.links.proofs.targets.record_targets.Statement.{statement}
 use Rattle.links.proofs.targets.record_targets.Tie as tie
 
 returns : tie.Need-returns
-returns c = simp (c .boundary-targets .ensures, c .before .enum-told .given .1)
-
-returns-2 : tie.Need-returns-2
-returns-2 c = simp (c .boundary-targets2 .ensures, c .before .enum-told2 .given .1)
-
-returns-3 : tie.Need-returns-3
-returns-3 c = simp (c .turnout-targets .ensures, c .before .enum-told3 .given .1)
-
-returns-4 : tie.Need-returns-4
-returns-4 c = simp (c .two-targets .ensures, c .before .enum-told4 .given .1)
-
-returns-5 : tie.Need-returns-5
-returns-5 c = simp (c .two-targets2 .ensures, c .before .enum-told5 .given .1)
-
-returns-6 : tie.Need-returns-6
-returns-6 c = simp (c .two-targets3 .ensures, c .before .enum-told6 .given .1)
-
-returns-7 : tie.Need-returns-7
-returns-7 c = simp (c .enum-told7 .given .1)
+returns c =
+    let a = c .before .before .before .before .args in
+    let to : Judged → List ℕ → Judged = λ v ps. judge v (targets (a .f .now) (a .l) (a .at) ps) in
+    by-links (to (c .before .before .has-link .result)) (a .k) (a .at) _ _ (c .before .links .ensures) (c .link-targets .ensures)
+    ∙ ap (λ (v : Judged). to v (linkPlaces (a .k) (a .at))) (c .before .before .has-link .ensures)
+    ∙ sym (judge-append (a .v) (linked (a .f .now) (a .k) (a .at)) (targets (a .f .now) (a .l) (a .at) (linkPlaces (a .k) (a .at))))
 
 pub record-targets-spec : {M : Type 1} → statement M
 record-targets-spec =
     tie.close
     (tie.spec
-    (λ c. search needs)
     (λ c κs. search needs)
-    (λ c. search needs)
     (λ c κs. search needs)
-    (λ c. search needs)
     (λ c κs. search needs)
-    (λ c. search needs)
-    (λ c. search needs)
-    (λ c. search needs)
-    (λ c κs. search needs)
-    (λ c. search needs)
-    (λ c. search needs)
-    (λ c. search needs)
-    (λ c κs. search needs)
-    (λ c. search needs)
-    (λ c. search needs)
-    (λ c. search needs)
-    (λ c κs. search needs)
-    (λ c. search needs)
-    returns
-    returns-2
-    returns-3
-    returns-4
-    returns-5
-    returns-6
-    returns-7)
+    returns)
