@@ -1,5 +1,5 @@
-/* An example of the C library: reads a station's two files and prints the verdict of the pair, the first track, the coordinate in the middle
- * of that track, the record behind the header of the X.2, and the routes from it.
+/* An example of the C library: reads a station's two files and prints the verdict of the pair, the headers, the first track, the coordinate
+ * in the middle of that track, the record after the header of the X.2, and the routes from it.
  *
  *     tools/library && target/staticlib/reader examples/1.1 examples/1.2 */
 #include <inttypes.h>
@@ -48,6 +48,29 @@ static void print_pair(void)
     printf("pair: number %u at place %" PRIu32 " of file %u\n", YARD_NUMBER(answer), YARD_PLACE(answer), YARD_FILE(answer));
 }
 
+static void print_header1(void)
+{
+    uint8_t header[YARD_HEADER1_SIZE];
+    if (refused("header of the X.1", yard_header1(first.bytes, first.length, header, sizeof header)))
+        return;
+    printf("X.1: station %" PRIu32 ", data version %" PRIu32 "\n", yard_unsigned(header, YARD_HEADER1_STATION),
+           yard_unsigned(header, YARD_HEADER1_DATA));
+}
+
+/* The station's name is GB 18030 text; its bytes are printed in hexadecimal. */
+static void print_header2(void)
+{
+    uint8_t header[YARD_HEADER2_SIZE];
+    if (refused("header of the X.2", yard_header2(second.bytes, second.length, header, sizeof header)))
+        return;
+    const uint8_t *name = second.bytes + yard_unsigned(header, YARD_HEADER2_NAME);
+    printf("X.2: station %" PRIu32 ", data version %" PRIu32 ", name ", yard_unsigned(header, YARD_HEADER2_STATION),
+           yard_unsigned(header, YARD_HEADER2_DATA));
+    for (uint32_t i = 0; i < yard_unsigned(header, YARD_HEADER2_NAME_BYTES); i++)
+        printf("%02x", name[i]);
+    putchar('\n');
+}
+
 /* Prints the first track, and the coordinate in its middle. */
 static void print_track(void)
 {
@@ -82,7 +105,7 @@ static void print_record(void)
            yard_unsigned(record, YARD_BOUNDARY_POSITION), yard_unsigned(record, YARD_BOUNDARY_TRACK));
 }
 
-/* Prints every route from the boundary behind the header, by the places of its objects. */
+/* Prints every route from the boundary after the header, by the places of its objects. */
 static void print_routes(void)
 {
     enum { LIMIT = 0, BUDGET = 65535, WORDS = 4096 };
@@ -109,6 +132,8 @@ int main(int words, char **word)
     if (!read_file(word[1], &first) || !read_file(word[2], &second))
         return 1;
     print_pair();
+    print_header1();
+    print_header2();
     print_track();
     print_record();
     print_routes();

@@ -11,6 +11,8 @@ uint32_t values_size_of(uint32_t question)
     case ASK_COORDINATE: return YARD_COORDINATE_SIZE;
     case ASK_RECORD: return YARD_RECORD_SIZE;
     case ASK_ROUTES: return YARD_ROUTES_SIZE;
+    case ASK_HEADER1: return YARD_HEADER1_SIZE;
+    case ASK_HEADER2: return YARD_HEADER2_SIZE;
     default: return 0;
     }
 }
@@ -50,6 +52,8 @@ static void expect_track(const posed *ask, expected *due)
     value(due, got.end_position);
     value(due, (uint32_t)got.end_latitude);
     value(due, (uint32_t)got.end_longitude);
+    value(due, got.first_offset);
+    value(due, got.last_offset);
     value(due, got.points);
 }
 
@@ -181,6 +185,28 @@ static void expect_routes(const posed *ask, expected *due)
     due->words_size = 2 * got.words;
 }
 
+static void header_values(const ind_header *got, expected *due)
+{
+    answer(due, got->answer);
+    value(due, got->structure);
+    value(due, got->data);
+    value(due, got->station);
+}
+
+static void expect_header1(const posed *ask, expected *due)
+{
+    ind_header got = ind_header1(ask->bytes[0], ask->length[0]);
+    header_values(&got, due);
+}
+
+static void expect_header2(const posed *ask, expected *due)
+{
+    ind_header got = ind_header2(ask->bytes[0], ask->length[0]);
+    header_values(&got, due);
+    value(due, got.name);
+    value(due, got.name_size);
+}
+
 void expect(const posed *ask, expected *due)
 {
     due->values_size = 0;
@@ -191,6 +217,8 @@ void expect(const posed *ask, expected *due)
     case ASK_COORDINATE: expect_coordinate(ask, due); break;
     case ASK_RECORD: expect_record(ask, due); break;
     case ASK_ROUTES: expect_routes(ask, due); break;
+    case ASK_HEADER1: expect_header1(ask, due); break;
+    case ASK_HEADER2: expect_header2(ask, due); break;
     default: answer(due, answer_case(ask)); break;
     }
     if (YARD_NUMBER(due->answer) != YARD_ANSWERED)

@@ -57,11 +57,7 @@ static void geography(uint32_t tracks, uint32_t points, stored *file)
 {
     uint32_t first = ind_track_place(tracks);
     memset(file, 0, sizeof *file);
-    file->bytes[IND_FILE_TYPE_PLACE] = IND_X1_TYPE;
-    put_two(file->bytes, IND_STRUCTURE_VERSION_PLACE,
-            IND_STRUCTURE_VERSION_READ);
-    put_two(file->bytes, IND_DATA_VERSION_PLACE, VERSION);
-    put_two(file->bytes, IND_STATION_PLACE, STATION);
+    put_opening(file->bytes, IND_X1_TYPE, VERSION, STATION);
     file->bytes[IND_TRACK_COUNT_PLACE] = (uint8_t)tracks;
     for (uint32_t i = 0; i < tracks; i++) {
         put_track(file, i, first, points);

@@ -1,9 +1,9 @@
 /* The guarded run: every function of the library is called with generated,
  * damaged, random and bit-flipped files. Every lent buffer lies against an
- * unreadable page, before it and behind it in turn. Each answer is compared
+ * unreadable page, before it and after it in turn. Each answer is compared
  * with the independent core, a file has to keep its bytes, and an output has
- * to hold the answer in front and its old bytes behind; on a refusal it keeps
- * all of them. */
+ * to hold the answer and after it its old bytes; on a refusal it keeps all of
+ * them. */
 #include <signal.h>
 #include <stdio.h>
 #include <stdlib.h>
@@ -16,7 +16,6 @@
 #include "lent.h"
 
 enum {
-    NUMBERS_OF_ANSWERS = 16,
     /* Outputs are lent with up to so many bytes more than are needed. */
     SPARE_LARGEST = 8,
     OUT_ROOM = VALUES_ROOM + SPARE_LARGEST,
@@ -39,7 +38,7 @@ typedef struct {
 /* What a run has seen. */
 typedef struct {
     uint64_t calls;
-    uint64_t answers[QUESTIONS][NUMBERS_OF_ANSWERS];
+    uint64_t answers[QUESTIONS][IND_NUMBERS];
     uint64_t checksums;
     uint64_t differ;
     uint64_t changed;
@@ -75,7 +74,7 @@ static void fill(uint8_t *bytes, uint32_t length)
         bytes[i] = OLD_BYTE(i);
 }
 
-/* How many bytes differ from the new ones in front and the old ones behind
+/* How many bytes differ from the new ones in front and the old ones after
  * them. */
 static uint64_t changed_in(const uint8_t *bytes, uint32_t length,
                            const uint8_t *front, uint32_t front_size)
@@ -107,16 +106,20 @@ static uint64_t ask_library(const call *of, const uint8_t *const file[FILES],
                                of->out_length);
     case ASK_RECORD:
         return yard_record(file[0], length[0], n[0], out, of->out_length);
-    default:
+    case ASK_ROUTES:
         return yard_routes(file[0], length[0], n[0], n[1], n[2], out,
                            of->out_length, words, of->words_length);
+    case ASK_HEADER1:
+        return yard_header1(file[0], length[0], out, of->out_length);
+    default:
+        return yard_header2(file[0], length[0], out, of->out_length);
     }
 }
 
 static void count_answer(figures *seen, uint32_t question, uint64_t answer)
 {
     seen->calls++;
-    seen->answers[question][YARD_NUMBER(answer) % NUMBERS_OF_ANSWERS]++;
+    seen->answers[question][YARD_NUMBER(answer) % IND_NUMBERS]++;
 }
 
 static void tell_difference(const figures *seen, const call *of,
@@ -248,10 +251,10 @@ static void print_figures(const figures *seen)
            (unsigned long long)seen->checksums);
     for (uint32_t q = ASK_X1; q < QUESTIONS; q++) {
         unsigned long long calls = 0;
-        for (int n = 0; n < NUMBERS_OF_ANSWERS; n++)
+        for (int n = 0; n < IND_NUMBERS; n++)
             calls += seen->answers[q][n];
         printf("%-11s %10llu calls:", question_name(q), calls);
-        for (int n = 0; n < NUMBERS_OF_ANSWERS; n++)
+        for (int n = 0; n < IND_NUMBERS; n++)
             if (seen->answers[q][n] > 0)
                 printf(" %d:%llu", n,
                        (unsigned long long)seen->answers[q][n]);

@@ -6,10 +6,10 @@
 #include <stdint.h>
 
 /* The page that lent bytes lie against: the one before them or the one
- * behind them. */
+ * after them. */
 typedef enum {
     PAGE_BEFORE,
-    PAGE_BEHIND,
+    PAGE_AFTER,
     SIDES
 } side;
 

@@ -1,10 +1,10 @@
 /* The station files of T/VSTR 021-2024, for C and for whatever can call C: track geography (X.1) and fixed application data (X.2). Verdicts
- * of a file and of a pair, and the questions on them: track, point, coordinate, record, routes. The library is target/staticlib/libexports.a;
- * tools/library makes it, for x86-64 Linux. Nothing else is linked with it.
+ * of a file and of a pair, and the questions on them: header, track, point, coordinate, record, routes. The library is
+ * target/staticlib/libexports.a; tools/library makes it, for x86-64 Linux. Nothing else is linked with it.
  *
  * What every function has in common
  *
- * - A file, and every output, is a pointer to bytes and behind it their number. The pointer needs no alignment. Where the number is 0 the
+ * - A file, and every output, is a pointer to bytes and after it their number. The pointer needs no alignment. Where the number is 0 the
  *   pointer may be null. Otherwise it points to so many bytes, which no one changes during the call; an output overlaps no other argument.
  * - No byte outside these is read or written. Nothing is kept between calls and nothing is shared, so that calls may run at the same time.
  *   There is no heap, and every call returns. A call takes about 10 KB of stack on an X.1 and 20 KB on an X.2; routes take about 250 KB at
@@ -12,7 +12,7 @@
  * - A function other than yard_checksum returns one number, made of the answer's number, its file and its place: take it apart by
  *   YARD_NUMBER, YARD_FILE and YARD_PLACE. Number 0 is accepted or answered. Any other is a refusal, with the byte place that it is about.
  * - An answer's values are put at the start of the output, four bytes each and low byte first, negative ones in two's complement: read them
- *   by yard_unsigned and yard_signed. The bytes of the output behind the values are left as they were.
+ *   by yard_unsigned and yard_signed. The bytes of the output after the values are left as they were.
  * - A refusal leaves every byte of every output as it was. An output that is too short for the values is refused by YARD_ROOM at place 0,
  *   after every other refusal.
  * - Positions are in centimetres, latitude and longitude in milliarcseconds, indexes count from 0, and a place is a byte's distance from the
@@ -97,7 +97,19 @@ uint64_t yard_pair(const uint8_t *first, size_t first_length, const uint8_t *sec
 
 /* ---- questions on an X.1: each first gives the file's own fault */
 
-/* The track of an index. No such track: YARD_QUESTION. */
+/* The header up to the station's number. */
+uint64_t yard_header1(const uint8_t *file, size_t file_length, uint8_t *out, size_t out_length);
+
+enum yard_header1_value {
+    YARD_HEADER1_STRUCTURE, /* structure version, 1 */
+    YARD_HEADER1_DATA,      /* data version, 1 to 65,535 */
+    YARD_HEADER1_STATION,   /* the station's number, 1 to 65,535 */
+    YARD_HEADER1_VALUES
+};
+
+#define YARD_HEADER1_SIZE 12
+
+/* The track of an index: its entry in table 2, and how many points it has. No such track: YARD_QUESTION. */
 uint64_t yard_track(const uint8_t *file, size_t file_length, size_t index, uint8_t *out, size_t out_length);
 
 enum yard_track_value {
@@ -109,11 +121,13 @@ enum yard_track_value {
     YARD_TRACK_END_POSITION,
     YARD_TRACK_END_LATITUDE,    /* signed */
     YARD_TRACK_END_LONGITUDE,   /* signed */
+    YARD_TRACK_FIRST_OFFSET,    /* the place of its first point */
+    YARD_TRACK_LAST_OFFSET,     /* the place of its last point */
     YARD_TRACK_POINTS,          /* how many points it has */
     YARD_TRACK_VALUES
 };
 
-#define YARD_TRACK_SIZE 36
+#define YARD_TRACK_SIZE 44
 
 /* The point of an index in the track of an index. No such track or no such point: YARD_QUESTION. */
 uint64_t yard_point(const uint8_t *file, size_t file_length, size_t track, size_t index, uint8_t *out, size_t out_length);
@@ -143,8 +157,22 @@ enum yard_coordinate_value {
 
 /* ---- questions on an X.2: each first gives the file's own fault */
 
-/* The record that starts at a place. No record starts there: YARD_QUESTION. Value 0 is the record's kind, and the kind's values stand behind it;
- * those behind the kind's last one are 0. A link is the place of another record, 0 for none. A name is the place of its 8 bytes in the file, of
+/* The header up to the station's name. The name is GB 18030 text, two bytes for each character; zeros fill the rest of its 16 bytes. */
+uint64_t yard_header2(const uint8_t *file, size_t file_length, uint8_t *out, size_t out_length);
+
+enum yard_header2_value {
+    YARD_HEADER2_STRUCTURE,  /* structure version, 1 */
+    YARD_HEADER2_DATA,       /* data version, 1 to 65,535 */
+    YARD_HEADER2_STATION,    /* the station's number, 1 to 65,535 */
+    YARD_HEADER2_NAME,       /* the place of the station's name in the file, 7 */
+    YARD_HEADER2_NAME_BYTES, /* how many bytes the name has without its closing zeros, 2 to 16 */
+    YARD_HEADER2_VALUES
+};
+
+#define YARD_HEADER2_SIZE 20
+
+/* The record that starts at a place. No record starts there: YARD_QUESTION. Value 0 is the record's kind, and the kind's values stand after it;
+ * those after the kind's last one are 0. A link is the place of another record, 0 for none. A name is the place of its 8 bytes in the file, of
  * which those from the first zero on do not count. */
 uint64_t yard_record(const uint8_t *file, size_t file_length, size_t offset, uint8_t *out, size_t out_length);
 
@@ -239,7 +267,7 @@ enum yard_siding_value {
  *
  * The list is put at the start of `words`, in words of two bytes, low byte first: of each route its number of objects and then their places,
  * from the boundary on; normal before reverse where two routes part. There is room for half as many words as there are bytes, and an odd
- * last byte is never touched. Bytes behind the list are left as they were. */
+ * last byte is never touched. Bytes after the list are left as they were. */
 uint64_t yard_routes(const uint8_t *file, size_t file_length, size_t start, size_t limit, size_t budget, uint8_t *counts, size_t counts_length,
                      uint8_t *words, size_t words_length);
 

@@ -4,6 +4,67 @@
 #include "commands.h"
 #include "core_application.h"
 
+/* The words that the core is lent for routes. */
+static uint16_t route_words[ROOM_LARGEST];
+
+static ind_answer ask_pair(const posed *ask)
+{
+    return ind_pair(ask->bytes[0], ask->length[0], ask->bytes[1],
+                    ask->length[1]);
+}
+
+static ind_track ask_track(const posed *ask)
+{
+    return ind_track_at(ask->bytes[0], ask->length[0], ask->numbers[0]);
+}
+
+static ind_point ask_point(const posed *ask)
+{
+    return ind_point_at(ask->bytes[0], ask->length[0], ask->numbers[0],
+                        ask->numbers[1]);
+}
+
+static ind_coordinate ask_coordinate(const posed *ask)
+{
+    return ind_coordinate_at(ask->bytes[0], ask->length[0], ask->numbers[0],
+                             ask->numbers[1]);
+}
+
+static ind_record ask_record(const posed *ask)
+{
+    return ind_record_at(ask->bytes[0], ask->length[0], ask->numbers[0]);
+}
+
+static ind_routes ask_routes(const posed *ask)
+{
+    static ind_walks walks;
+    return ind_routes_from(ask->bytes[0], ask->length[0], ask->numbers[0],
+                           ask->numbers[1], ask->numbers[2], route_words,
+                           ask->numbers[3], &walks);
+}
+
+static ind_header ask_header(const posed *ask)
+{
+    if (ask->question == ASK_HEADER1)
+        return ind_header1(ask->bytes[0], ask->length[0]);
+    return ind_header2(ask->bytes[0], ask->length[0]);
+}
+
+ind_answer answer_case(const posed *ask)
+{
+    switch (ask->question) {
+    case ASK_X1: return ind_x1(ask->bytes[0], ask->length[0]);
+    case ASK_X2: return ind_x2(ask->bytes[0], ask->length[0]);
+    case ASK_PAIR: return ask_pair(ask);
+    case ASK_TRACK: return ask_track(ask).answer;
+    case ASK_POINT: return ask_point(ask).answer;
+    case ASK_COORDINATE: return ask_coordinate(ask).answer;
+    case ASK_RECORD: return ask_record(ask).answer;
+    case ASK_ROUTES: return ask_routes(ask).answer;
+    default: return ask_header(ask).answer;
+    }
+}
+
 static void line(FILE *output, const char *name, int64_t value)
 {
     fprintf(output, "%s %ld\n", name, (long)value);
@@ -39,13 +100,15 @@ static void name_line(FILE *output, const char *field, const uint8_t *name)
     putc('\n', output);
 }
 
-static void message_line(FILE *output, const uint8_t *message, uint32_t size)
+/* Bytes in hexadecimal, `-` where there are none. */
+static void hexadecimal_line(FILE *output, const char *field,
+                             const uint8_t *bytes, uint32_t size)
 {
-    fputs("message ", output);
+    fprintf(output, "%s ", field);
     if (size == 0)
         putc('-', output);
     for (uint32_t i = 0; i < size; i++)
-        fprintf(output, "%02x", message[i]);
+        fprintf(output, "%02x", bytes[i]);
     putc('\n', output);
 }
 
@@ -57,48 +120,62 @@ static void exit_balise_line(FILE *output, const char *field, uint32_t number)
         line(output, field, number);
 }
 
-void print_route(FILE *output, const uint16_t *route)
+/* One route, from its count word on: its offsets on one line. */
+static void route_line(FILE *output, const uint16_t *route)
 {
     for (uint32_t i = 1; i <= route[0]; i++)
         fprintf(output, i == 1 ? "%u" : " %u", (unsigned)route[i]);
     putc('\n', output);
 }
 
-static void print_track(FILE *output, const ind_track *track)
+void print_route_lines(FILE *output, const uint16_t *words, uint32_t routes)
 {
-    answer_line(output, track->answer);
-    if (track->answer.number != IND_ACCEPTED)
-        return;
-    line(output, "number", track->number);
-    line(output, "property", track->property);
-    line(output, "start_position", track->start_position);
-    line(output, "start_latitude", track->start_latitude);
-    line(output, "start_longitude", track->start_longitude);
-    line(output, "end_position", track->end_position);
-    line(output, "end_latitude", track->end_latitude);
-    line(output, "end_longitude", track->end_longitude);
-    line(output, "points", track->points);
+    for (; routes > 0; routes--) {
+        route_line(output, words);
+        words += 1 + words[0];
+    }
 }
 
-static void print_point(FILE *output, const ind_point *point)
+static void print_track(FILE *output, const posed *ask)
 {
-    answer_line(output, point->answer);
-    if (point->answer.number != IND_ACCEPTED)
+    ind_track track = ask_track(ask);
+    answer_line(output, track.answer);
+    if (track.answer.number != IND_ACCEPTED)
         return;
-    line(output, "position", point->position);
-    line(output, "latitude_increment", point->latitude_increment);
-    line(output, "longitude_increment", point->longitude_increment);
-    line(output, "heading", point->heading);
-    line(output, "near", point->near);
+    line(output, "number", track.number);
+    line(output, "property", track.property);
+    line(output, "start_position", track.start_position);
+    line(output, "start_latitude", track.start_latitude);
+    line(output, "start_longitude", track.start_longitude);
+    line(output, "end_position", track.end_position);
+    line(output, "end_latitude", track.end_latitude);
+    line(output, "end_longitude", track.end_longitude);
+    line(output, "first_offset", track.first_offset);
+    line(output, "last_offset", track.last_offset);
+    line(output, "points", track.points);
 }
 
-static void print_coordinate(FILE *output, const ind_coordinate *coordinate)
+static void print_point(FILE *output, const posed *ask)
 {
-    answer_line(output, coordinate->answer);
-    if (coordinate->answer.number != IND_ACCEPTED)
+    ind_point point = ask_point(ask);
+    answer_line(output, point.answer);
+    if (point.answer.number != IND_ACCEPTED)
         return;
-    line(output, "latitude", coordinate->latitude);
-    line(output, "longitude", coordinate->longitude);
+    line(output, "position", point.position);
+    line(output, "latitude_increment", point.latitude_increment);
+    line(output, "longitude_increment", point.longitude_increment);
+    line(output, "heading", point.heading);
+    line(output, "near", point.near);
+}
+
+static void print_coordinate(FILE *output, const posed *ask)
+{
+    ind_coordinate coordinate = ask_coordinate(ask);
+    answer_line(output, coordinate.answer);
+    if (coordinate.answer.number != IND_ACCEPTED)
+        return;
+    line(output, "latitude", coordinate.latitude);
+    line(output, "longitude", coordinate.longitude);
 }
 
 static void print_boundary(FILE *output, const ind_boundary *boundary)
@@ -142,7 +219,8 @@ static void print_balise(FILE *output, const uint8_t *file,
     line(output, "track", balise->track);
     line(output, "place", balise->place);
     line(output, "count", balise->count);
-    message_line(output, file + balise->message, balise->message_size);
+    hexadecimal_line(output, "message", file + balise->message,
+                     balise->message_size);
 }
 
 static void print_signal(FILE *output, const uint8_t *file,
@@ -179,127 +257,64 @@ static void print_siding(FILE *output, const uint8_t *file,
     name_line(output, "down_signal", file + siding->down_signal);
 }
 
-static void print_record(FILE *output, const uint8_t *file,
-                         const ind_record *record)
+static void print_record(FILE *output, const posed *ask)
 {
-    answer_line(output, record->answer);
-    if (record->answer.number != IND_ACCEPTED)
+    ind_record record = ask_record(ask);
+    const uint8_t *file = ask->bytes[0];
+    answer_line(output, record.answer);
+    if (record.answer.number != IND_ACCEPTED)
         return;
-    word_line(output, "kind", kind_name(record->kind));
-    switch (record->kind) {
-    case IND_TURNOUT: print_turnout(output, &record->turnout); break;
-    case IND_BALISE: print_balise(output, file, &record->balise); break;
-    case IND_SIGNAL: print_signal(output, file, &record->signal); break;
-    case IND_JOINT: print_joint(output, file, &record->joint); break;
-    case IND_SIDING: print_siding(output, file, &record->siding); break;
-    default: print_boundary(output, &record->boundary); break;
+    word_line(output, "kind", kind_name(record.kind));
+    switch (record.kind) {
+    case IND_TURNOUT: print_turnout(output, &record.turnout); break;
+    case IND_BALISE: print_balise(output, file, &record.balise); break;
+    case IND_SIGNAL: print_signal(output, file, &record.signal); break;
+    case IND_JOINT: print_joint(output, file, &record.joint); break;
+    case IND_SIDING: print_siding(output, file, &record.siding); break;
+    default: print_boundary(output, &record.boundary); break;
     }
 }
 
-static uint16_t route_words[ROOM_LARGEST];
-
-static void print_routes(FILE *output, const ind_routes *routes)
+static void print_routes(FILE *output, const posed *ask)
 {
-    const uint16_t *route = route_words;
-    answer_line(output, routes->answer);
-    if (routes->answer.number != IND_ACCEPTED)
+    ind_routes routes = ask_routes(ask);
+    answer_line(output, routes.answer);
+    if (routes.answer.number != IND_ACCEPTED)
         return;
-    line(output, "routes", routes->routes);
-    line(output, "words", routes->words);
-    line(output, "walks", routes->walks);
-    for (uint32_t i = 0; i < routes->routes; i++) {
-        print_route(output, route);
-        route += 1 + route[0];
-    }
+    line(output, "routes", routes.routes);
+    line(output, "words", routes.words);
+    line(output, "walks", routes.walks);
+    print_route_lines(output, route_words, routes.routes);
 }
 
-static ind_track ask_track(const posed *ask)
+/* The station's name stands in an X.2's header alone. */
+static void print_header(FILE *output, const posed *ask)
 {
-    return ind_track_at(ask->bytes[0], ask->length[0],
-                        ask->numbers[0]);
-}
-
-static ind_point ask_point(const posed *ask)
-{
-    return ind_point_at(ask->bytes[0], ask->length[0],
-                        ask->numbers[0], ask->numbers[1]);
-}
-
-static ind_coordinate ask_coordinate(const posed *ask)
-{
-    return ind_coordinate_at(ask->bytes[0], ask->length[0],
-                             ask->numbers[0], ask->numbers[1]);
-}
-
-static ind_record ask_record(const posed *ask)
-{
-    return ind_record_at(ask->bytes[0], ask->length[0],
-                         ask->numbers[0]);
-}
-
-static ind_routes ask_routes(const posed *ask)
-{
-    static ind_walks walks;
-    return ind_routes_from(ask->bytes[0], ask->length[0],
-                           ask->numbers[0], ask->numbers[1], ask->numbers[2],
-                           route_words, ask->numbers[3], &walks);
-}
-
-static ind_answer ask_pair(const posed *ask)
-{
-    return ind_pair(ask->bytes[0], ask->length[0], ask->bytes[1],
-                    ask->length[1]);
-}
-
-ind_answer answer_case(const posed *ask)
-{
-    switch (ask->question) {
-    case ASK_X1: return ind_x1(ask->bytes[0], ask->length[0]);
-    case ASK_X2: return ind_x2(ask->bytes[0], ask->length[0]);
-    case ASK_PAIR: return ask_pair(ask);
-    case ASK_TRACK: return ask_track(ask).answer;
-    case ASK_POINT: return ask_point(ask).answer;
-    case ASK_COORDINATE: return ask_coordinate(ask).answer;
-    case ASK_RECORD: return ask_record(ask).answer;
-    default: return ask_routes(ask).answer;
-    }
+    ind_header header = ask_header(ask);
+    const uint8_t *file = ask->bytes[0];
+    answer_line(output, header.answer);
+    if (header.answer.number != IND_ACCEPTED)
+        return;
+    line(output, "structure", header.structure);
+    line(output, "data", header.data);
+    line(output, "station", header.station);
+    if (header.name_size > 0)
+        hexadecimal_line(output, "name", file + header.name,
+                         header.name_size);
 }
 
 void print_answer(FILE *output, const posed *ask)
 {
-    ind_track track;
-    ind_point point;
-    ind_coordinate coordinate;
-    ind_record record;
-    ind_routes routes;
     switch (ask->question) {
     case ASK_X1:
-    case ASK_X2:
-        answer_line(output, answer_case(ask));
-        break;
-    case ASK_PAIR:
-        pair_line(output, ask_pair(ask));
-        break;
-    case ASK_TRACK:
-        track = ask_track(ask);
-        print_track(output, &track);
-        break;
-    case ASK_POINT:
-        point = ask_point(ask);
-        print_point(output, &point);
-        break;
-    case ASK_COORDINATE:
-        coordinate = ask_coordinate(ask);
-        print_coordinate(output, &coordinate);
-        break;
-    case ASK_RECORD:
-        record = ask_record(ask);
-        print_record(output, ask->bytes[0], &record);
-        break;
-    default:
-        routes = ask_routes(ask);
-        print_routes(output, &routes);
-        break;
+    case ASK_X2: answer_line(output, answer_case(ask)); break;
+    case ASK_PAIR: pair_line(output, ask_pair(ask)); break;
+    case ASK_TRACK: print_track(output, ask); break;
+    case ASK_POINT: print_point(output, ask); break;
+    case ASK_COORDINATE: print_coordinate(output, ask); break;
+    case ASK_RECORD: print_record(output, ask); break;
+    case ASK_ROUTES: print_routes(output, ask); break;
+    default: print_header(output, ask); break;
     }
 }
 

@@ -85,7 +85,7 @@ const char *question_name(uint32_t asked_for)
 {
     static const char *const names[QUESTIONS] = {
         "", "x1", "x2", "pair", "track", "point", "coordinate", "record",
-        "routes"
+        "routes", "header1", "header2"
     };
     return asked_for < QUESTIONS ? names[asked_for] : "";
 }

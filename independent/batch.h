@@ -16,6 +16,8 @@ typedef enum {
     ASK_COORDINATE,
     ASK_RECORD,
     ASK_ROUTES,
+    ASK_HEADER1,
+    ASK_HEADER2,
     QUESTIONS
 } question;
 
@@ -72,8 +74,8 @@ const char *kind_name(ind_kind kind);
 /* The answer's number, place and file. */
 ind_answer answer_case(const posed *ask);
 
-/* One route, from its count word on: its offsets on one line. */
-void print_route(FILE *output, const uint16_t *route);
+/* So many routes from a list's words: the offsets of each on one line. */
+void print_route_lines(FILE *output, const uint16_t *words, uint32_t routes);
 
 /* The whole answer as yardask prints it. */
 void print_answer(FILE *output, const posed *ask);

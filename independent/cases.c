@@ -46,6 +46,16 @@ static void right_application(source *from, const wanted *kinds, stored *file)
     lay_out(&made, NULL, file);
 }
 
+/* A right file: an X.2, or an X.1. */
+static void right_file(source *from, const wanted *kinds, int application,
+                       stored *file)
+{
+    if (application)
+        right_application(from, kinds, file);
+    else
+        right_geography(from, kinds, file);
+}
+
 /* A place to cut a file at: a record's start, the header's end or any. */
 static uint32_t some_cut(source *from, const stored *file)
 {
@@ -111,7 +121,7 @@ static void damage_aimed(source *from, int application, stored *file)
 }
 
 /* Damages a right file in one of many ways; the checksum is mostly
- * repaired, so that the fault behind it is reached. */
+ * repaired, so that the checks after it are reached. */
 void spoil(source *from, int application, stored *file)
 {
     /* Of a hundred, up to which number each way is taken. */
@@ -141,10 +151,7 @@ static void ask_verdict(source *from, const wanted *kinds, asked *ask)
         joined_application(from, kinds, file);
         return;
     }
-    if (application)
-        right_application(from, kinds, file);
-    else
-        right_geography(from, kinds, file);
+    right_file(from, kinds, application, file);
     if (!once_in(from, 4))
         spoil(from, application, file);
 }
@@ -217,11 +224,26 @@ static void ask_routes(source *from, const wanted *kinds, asked *ask)
         spoil(from, 1, file);
 }
 
+/* A right or a damaged file, now and then of the other type; the numbers,
+ * which no header is asked by, are any. */
+static void ask_header(source *from, const wanted *kinds, asked *ask)
+{
+    int application = ask->question == ASK_HEADER2;
+    stored *file = &ask->files[0];
+    if (once_in(from, 16))
+        application = !application;
+    right_file(from, kinds, application, file);
+    if (once_in(from, 3))
+        spoil(from, application, file);
+    for (int i = 0; i < NUMBERS; i++)
+        ask->numbers[i] = (uint32_t)draw_bits(from);
+}
+
 static uint32_t some_question(source *from, const wanted *kinds)
 {
     uint32_t chosen;
     do
-        chosen = (uint32_t)draw_between(from, ASK_X1, ASK_ROUTES);
+        chosen = (uint32_t)draw_between(from, ASK_X1, QUESTIONS - 1);
     while (!kinds->asked_for[chosen]);
     return chosen;
 }
@@ -240,6 +262,8 @@ void build_case(const generation *run, uint64_t index, asked *ask)
     case ASK_PAIR: ask_pair(&from, &run->kinds, ask); break;
     case ASK_RECORD: ask_record(&from, &run->kinds, ask); break;
     case ASK_ROUTES: ask_routes(&from, &run->kinds, ask); break;
+    case ASK_HEADER1:
+    case ASK_HEADER2: ask_header(&from, &run->kinds, ask); break;
     default: ask_of_geography(&from, &run->kinds, ask); break;
     }
 }

@@ -32,7 +32,8 @@ enum {
     IND_BEYOND_END = 12,
     IND_OUT_OF_RANGE = 13,
     IND_STEPS = 14,
-    IND_ROOM = 15
+    IND_ROOM = 15,
+    IND_NUMBERS
 };
 
 /* The files of a pair, as an answer names them. */
@@ -62,10 +63,12 @@ typedef struct {
     uint32_t end_position;
     int32_t end_latitude;
     int32_t end_longitude;
+    uint32_t first_offset;
+    uint32_t last_offset;
     uint32_t points;
 } ind_track;
 
-/* Track by index. */
+/* Track by index: all fields of its entry, and how many points it has. */
 ind_track ind_track_at(const uint8_t *file, size_t length, uint32_t index);
 
 typedef struct {
@@ -213,6 +216,22 @@ typedef struct {
 
 /* Record at an offset. */
 ind_record ind_record_at(const uint8_t *file, size_t length, uint32_t offset);
+
+/* A header: structure version, data version and station number. Of an X.2
+ * also the station name, as its place in the file and its bytes without the
+ * closing zeros; both are 0 for an X.1. */
+typedef struct {
+    ind_answer answer;
+    uint32_t structure;
+    uint32_t data;
+    uint32_t station;
+    uint32_t name;
+    uint32_t name_size;
+} ind_header;
+
+/* Header of an X.1, and of an X.2. */
+ind_header ind_header1(const uint8_t *file, size_t length);
+ind_header ind_header2(const uint8_t *file, size_t length);
 
 /* The pair: X.1 first, X.2 second. */
 ind_answer ind_pair(const uint8_t *x1, size_t x1_length, const uint8_t *x2,

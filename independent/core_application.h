@@ -156,7 +156,7 @@ enum {
 };
 
 /* Where the records stand: for each kind the place of its first record and
- * the place behind its last, equal where there is none. */
+ * the place after its last, equal where there is none. */
 typedef struct {
     uint32_t starts;
     uint32_t ends;
@@ -175,8 +175,8 @@ ind_answer ind_application_layout(const uint8_t *file, uint32_t end,
 /* The header's entry of a boundary, counted through starts and ends. */
 uint32_t ind_entry_place(const ind_layout *layout, uint32_t boundary);
 
-/* A record: its kind and where it starts. Behind the last record the kind
- * is IND_NO_KIND. */
+/* A record: its kind and where it starts. After the last record the kind is
+ * IND_NO_KIND. */
 typedef struct {
     ind_kind kind;
     uint32_t start;

@@ -4,7 +4,7 @@
 
 ind_track ind_track_at(const uint8_t *file, size_t length, uint32_t index)
 {
-    ind_track track = { { 0, 0, 0 }, 0, 0, 0, 0, 0, 0, 0, 0, 0 };
+    ind_track track = { { 0, 0, 0 }, 0, 0, 0, 0, 0, 0, 0, 0, 0, 0, 0 };
     uint32_t place;
     track.answer = ind_x1(file, length);
     if (track.answer.number != IND_ACCEPTED)
@@ -25,6 +25,8 @@ ind_track ind_track_at(const uint8_t *file, size_t length, uint32_t index)
     track.end_latitude = ind_signed_four(file, place + IND_TRACK_END_LATITUDE);
     track.end_longitude =
         ind_signed_four(file, place + IND_TRACK_END_LONGITUDE);
+    track.first_offset = ind_first_point(file, place);
+    track.last_offset = ind_last_point(file, place);
     track.points = ind_points(file, place);
     return track;
 }

@@ -30,7 +30,7 @@ static uint8_t *block_of(const stored *file)
 }
 
 /* A listing into exactly the room lent: a refusal touches no word, an answer
- * none behind its list. */
+ * none after its list. */
 static int words_kept(const posed *ask)
 {
     static ind_walks walks;

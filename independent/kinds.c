@@ -8,7 +8,6 @@
 #include "core_geography.h"
 
 enum {
-    ANSWER_NUMBERS = 16,
     NAME_ROOM = 48,
     NAMES_LARGEST = 1000
 };
@@ -16,7 +15,7 @@ enum {
 int command_kinds(int count, char **words)
 {
     static asked ask;
-    static unsigned long counted[QUESTIONS][ANSWER_NUMBERS];
+    static unsigned long counted[QUESTIONS][IND_NUMBERS];
     generation run;
     if (!read_generation(count, words, &run))
         return RUN_BAD;
@@ -27,7 +26,7 @@ int command_kinds(int count, char **words)
         counted[ask.question][answer_case(&given).number]++;
     }
     for (uint32_t asked_for = ASK_X1; asked_for < QUESTIONS; asked_for++)
-        for (int number = 0; number < ANSWER_NUMBERS; number++)
+        for (int number = 0; number < IND_NUMBERS; number++)
             if (counted[asked_for][number] > 0)
                 printf("%s %d %lu\n", question_name(asked_for), number,
                        counted[asked_for][number]);
@@ -122,19 +121,24 @@ static void name_application_place(const stored *file, ind_answer answer,
         name_record_place(file, &layout, answer.place, name);
 }
 
+/* Whether a question is about an X.2 alone. */
+static int of_application(uint32_t question)
+{
+    return question == ASK_X2 || question == ASK_RECORD
+        || question == ASK_ROUTES || question == ASK_HEADER2;
+}
+
 static void name_place(const asked *ask, ind_answer answer, char *name)
 {
     uint32_t which = ask->question == ASK_PAIR && answer.file == IND_FILE_X2;
     const stored *file = &ask->files[which];
-    int application = ask->question == ASK_X2 || which == 1
-        || ask->question == ASK_RECORD || ask->question == ASK_ROUTES;
     strcpy(name, "0");
     if (answer.number <= IND_LENGTH || answer.number == IND_OUT_OF_RANGE
         || answer.number >= IND_STEPS
         || (ask->question == ASK_COORDINATE
             && answer.number >= IND_NO_TRACK))
         return;
-    if (application)
+    if (which == 1 || of_application(ask->question))
         name_application_place(file, answer, name);
     else
         name_geography_place(file, answer.place, name);

@@ -14,7 +14,6 @@ static void list_from(FILE *output, const uint8_t *file, size_t length,
 {
     static ind_walks walks;
     static uint16_t words[LIST_ROOM];
-    const uint16_t *route = words;
     ind_routes found = ind_routes_from(file, length, start, LIST_LIMIT,
                                        LIST_BUDGET, words, LIST_ROOM, &walks);
     if (found.answer.number != IND_ACCEPTED) {
@@ -24,10 +23,7 @@ static void list_from(FILE *output, const uint8_t *file, size_t length,
     }
     fprintf(output, "from %lu routes %lu walks %lu\n", (unsigned long)start,
             (unsigned long)found.routes, (unsigned long)found.walks);
-    for (uint32_t i = 0; i < found.routes; i++) {
-        print_route(output, route);
-        route += 1 + route[0];
-    }
+    print_route_lines(output, words, found.routes);
 }
 
 void print_list(FILE *output, const uint8_t *file, size_t length)

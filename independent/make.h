@@ -12,6 +12,10 @@ void put_two(uint8_t *bytes, uint32_t place, uint32_t value);
 void put_three(uint8_t *bytes, uint32_t place, uint32_t value);
 void put_four(uint8_t *bytes, uint32_t place, uint32_t value);
 
+/* The fields that both headers begin with. */
+void put_opening(uint8_t *bytes, uint8_t type, uint32_t data_version,
+                 uint32_t station);
+
 /* Writes the right checksum into the last four bytes, if there are four. */
 void seal(stored *file);
 

@@ -257,13 +257,11 @@ static void put_offsets(const yard *made, const rank *ranks, uint32_t header,
     }
 }
 
-static void put_opening(const yard *made, uint8_t *bytes)
+/* The header up to the station name. */
+static void put_station(const yard *made, uint8_t *bytes)
 {
     source from = source_from(made->seed);
-    bytes[IND_FILE_TYPE_PLACE] = IND_X2_TYPE;
-    put_two(bytes, IND_STRUCTURE_VERSION_PLACE, IND_STRUCTURE_VERSION_READ);
-    put_two(bytes, IND_DATA_VERSION_PLACE, made->data_version);
-    put_two(bytes, IND_STATION_PLACE, made->station);
+    put_opening(bytes, IND_X2_TYPE, made->data_version, made->station);
     put_station_name(&from, bytes + IND_STATION_NAME_PLACE);
 }
 
@@ -280,7 +278,7 @@ void lay_out(yard *made, const stored *geography, stored *file)
     }
     qsort(ranks, made->count, sizeof *ranks, by_rank);
     file->length = place_objects(made, ranks, header) + IND_CHECKSUM_SIZE;
-    put_opening(made, file->bytes);
+    put_station(made, file->bytes);
     for (uint32_t i = 1; i <= made->count; i++) {
         const object *of = &made->objects[i];
         put_record(of, geography, file->bytes + of->start);

@@ -27,6 +27,15 @@ void put_four(uint8_t *bytes, uint32_t place, uint32_t value)
     bytes[place + 3] = (uint8_t)(value >> 3 * IND_BITS_PER_BYTE);
 }
 
+void put_opening(uint8_t *bytes, uint8_t type, uint32_t data_version,
+                 uint32_t station)
+{
+    bytes[IND_FILE_TYPE_PLACE] = type;
+    put_two(bytes, IND_STRUCTURE_VERSION_PLACE, IND_STRUCTURE_VERSION_READ);
+    put_two(bytes, IND_DATA_VERSION_PLACE, data_version);
+    put_two(bytes, IND_STATION_PLACE, station);
+}
+
 void seal(stored *file)
 {
     if (file->length >= IND_CHECKSUM_SIZE && file->length <= FILE_ROOM)
@@ -196,10 +205,7 @@ static void put_header(source *from, uint32_t station, uint32_t tracks,
                        uint8_t *bytes)
 {
     uint32_t version = once_in(from, 4) ? 65535 : 1 + draw(from, 300);
-    bytes[IND_FILE_TYPE_PLACE] = IND_X1_TYPE;
-    put_two(bytes, IND_STRUCTURE_VERSION_PLACE, IND_STRUCTURE_VERSION_READ);
-    put_two(bytes, IND_DATA_VERSION_PLACE, version);
-    put_two(bytes, IND_STATION_PLACE, station);
+    put_opening(bytes, IND_X1_TYPE, version, station);
     bytes[IND_TRACK_COUNT_PLACE] = (uint8_t)tracks;
 }
 

@@ -1,5 +1,5 @@
-/* 01's 'Yard examples', and the roundings of 'Readings that look right',
- * each asserted of the core. */
+/* 01's 'Yard examples', the roundings of 'Readings that look right', and the
+ * headers and the track of the example files, each asserted of the core. */
 #include <stdio.h>
 #include <string.h>
 
@@ -31,7 +31,9 @@ enum {
 };
 
 enum {
-    UNTOUCHED = 0xA55A
+    UNTOUCHED = 0xA55A,
+    /* More than any text that is asserted here has. */
+    TEXT_ROOM = 400
 };
 
 static unsigned long passed, failed;
@@ -81,10 +83,7 @@ static void make_y(stored *file, uint32_t reverse)
     uint8_t *bytes = file->bytes;
     memset(file, 0, sizeof *file);
     file->length = Y_LENGTH;
-    bytes[IND_FILE_TYPE_PLACE] = IND_X2_TYPE;
-    put_two(bytes, IND_STRUCTURE_VERSION_PLACE, 1);
-    put_two(bytes, IND_DATA_VERSION_PLACE, 1);
-    put_two(bytes, IND_STATION_PLACE, 1);
+    put_opening(bytes, IND_X2_TYPE, 1, 1);
     bytes[IND_STATION_NAME_PLACE] = 0xB1;
     bytes[IND_STATION_NAME_PLACE + 1] = 0xB1;
     bytes[IND_START_COUNT_PLACE] = 1;
@@ -103,10 +102,7 @@ static void make_one_track(stored *file, uint32_t position, int32_t latitude)
     uint8_t *bytes = file->bytes, *track = bytes + ONE_TRACK;
     memset(file, 0, sizeof *file);
     file->length = ONE_LENGTH;
-    bytes[IND_FILE_TYPE_PLACE] = IND_X1_TYPE;
-    put_two(bytes, IND_STRUCTURE_VERSION_PLACE, 1);
-    put_two(bytes, IND_DATA_VERSION_PLACE, 1);
-    put_two(bytes, IND_STATION_PLACE, 1);
+    put_opening(bytes, IND_X1_TYPE, 1, 1);
     bytes[IND_TRACK_COUNT_PLACE] = 1;
     track[IND_TRACK_NUMBER] = 1;
     track[IND_TRACK_PROPERTY] = 1;
@@ -254,36 +250,135 @@ static void offset_examples(void)
     expect(last_offset_gives(38, 6, 36), "last offset 38: 6 at 36");
 }
 
-/* What print_list writes, up to the room given. */
-static size_t listed(const stored *y, char *text, size_t room)
+/* Whether this text and nothing else was printed; closes what was kept. */
+static int printed(FILE *kept, const char *due)
+{
+    char text[TEXT_ROOM];
+    size_t length;
+    rewind(kept);
+    length = fread(text, 1, sizeof text, kept);
+    fclose(kept);
+    return length == strlen(due) && memcmp(text, due, length) == 0;
+}
+
+static int list_prints(const stored *y, const char *due)
 {
     FILE *kept = tmpfile();
-    size_t length = 0;
     if (kept == NULL)
         return 0;
     print_list(kept, y->bytes, y->length);
-    rewind(kept);
-    length = fread(text, 1, room, kept);
-    fclose(kept);
-    return length;
+    return printed(kept, due);
+}
+
+/* A question about one file, all its numbers 0. */
+static int answer_prints(uint32_t question, const stored *file,
+                         const char *due)
+{
+    posed ask = { question, { 0 }, { file->bytes, NULL }, { file->length, 0 } };
+    FILE *kept = tmpfile();
+    if (kept == NULL)
+        return 0;
+    print_answer(kept, &ask);
+    return printed(kept, due);
+}
+
+static void track_example(void)
+{
+    static stored file;
+    make_one_track(&file, 3, 1);
+    expect(answer_prints(ASK_TRACK, &file, "answer 0 0\n"
+                                           "number 1\n"
+                                           "property 1\n"
+                                           "start_position 0\n"
+                                           "start_latitude 0\n"
+                                           "start_longitude 0\n"
+                                           "end_position 3\n"
+                                           "end_latitude 1\n"
+                                           "end_longitude 0\n"
+                                           "first_offset 38\n"
+                                           "last_offset 51\n"
+                                           "points 2\n"),
+           "the ten fields of a track's entry, and its points");
+}
+
+/* An X.1's header: no two of its fields alike. */
+static void header1_examples(void)
+{
+    static stored file;
+    make_one_track(&file, 1, 0);
+    put_opening(file.bytes, IND_X1_TYPE, 0x0203, 0x0405);
+    seal(&file);
+    expect(answer_prints(ASK_HEADER1, &file, "answer 0 0\n"
+                                             "structure 1\n"
+                                             "data 515\n"
+                                             "station 1029\n"),
+           "header of an X.1");
+    expect(answer_prints(ASK_HEADER2, &file, "answer 1 0\n"),
+           "an X.1 of 68 bytes is too short for header2");
+    put_two(file.bytes, IND_STATION_PLACE, 0);
+    seal(&file);
+    expect(answer_prints(ASK_HEADER1, &file, "answer 5 5\n"),
+           "header1 first gives the X.1's fault");
+}
+
+/* Y with a station name of so many bytes and zeros after them. */
+static int name_prints(const uint8_t *name, size_t size, const char *due)
+{
+    static stored y;
+    make_y(&y, Y_SECOND_END);
+    put_opening(y.bytes, IND_X2_TYPE, 7, 312);
+    memset(y.bytes + IND_STATION_NAME_PLACE, 0, IND_STATION_NAME_SIZE);
+    memcpy(y.bytes + IND_STATION_NAME_PLACE, name, size);
+    seal(&y);
+    return answer_prints(ASK_HEADER2, &y, due);
+}
+
+static void header2_examples(void)
+{
+    /* Table 5's example, and one that fills the field. */
+    static const uint8_t table_5[] = { 0xB1, 0xB1, 0xBE, 0xA9, 0xC4, 0xCF };
+    static const uint8_t full[] = { 0x81, 0x40, 0xFE, 0xFE, 0x81, 0x7E,
+                                    0x81, 0x80, 0xB1, 0xB1, 0xBE, 0xA9,
+                                    0xC4, 0xCF, 0xFE, 0x40 };
+    static stored y;
+    make_y(&y, Y_SECOND_END);
+    expect(answer_prints(ASK_HEADER2, &y, "answer 0 0\n"
+                                          "structure 1\n"
+                                          "data 1\n"
+                                          "station 1\n"
+                                          "name b1b1\n"),
+           "header of Y");
+    expect(answer_prints(ASK_HEADER1, &y, "answer 3 0\n"),
+           "Y is of the wrong type for header1");
+    make_y(&y, Y_TURNOUT);
+    expect(answer_prints(ASK_HEADER2, &y, "answer 8 99\n"),
+           "header2 first gives the X.2's fault");
+    expect(name_prints(table_5, sizeof table_5, "answer 0 0\n"
+                                                "structure 1\n"
+                                                "data 7\n"
+                                                "station 312\n"
+                                                "name b1b1bea9c4cf\n"),
+           "the station name of table 5");
+    expect(name_prints(full, sizeof full,
+                       "answer 0 0\n"
+                       "structure 1\n"
+                       "data 7\n"
+                       "station 312\n"
+                       "name 8140fefe817e8180b1b1bea9c4cffe40\n"),
+           "a station name without closing zeros");
 }
 
 static void list_example(void)
 {
-    static const char printed[] = "verdict 0 0\n"
-                                  "from 44 routes 2 walks 4\n"
-                                  "44 80 56\n"
-                                  "44 80 68\n";
-    static const char refused[] = "verdict 8 99\n";
     static stored y;
-    char text[200];
     make_y(&y, Y_SECOND_END);
-    expect(listed(&y, text, sizeof text) == strlen(printed)
-               && memcmp(text, printed, strlen(printed)) == 0,
+    expect(list_prints(&y, "verdict 0 0\n"
+                           "from 44 routes 2 walks 4\n"
+                           "44 80 56\n"
+                           "44 80 68\n"),
            "yardlist on Y");
     make_y(&y, Y_TURNOUT);
-    expect(listed(&y, text, sizeof text) == strlen(refused)
-               && memcmp(text, refused, strlen(refused)) == 0,
+    expect(list_prints(&y, "verdict 8 99\n"),
            "after a refused verdict nothing follows");
 }
 
@@ -297,6 +392,9 @@ int command_self(int count, char **words)
     route_examples();
     link_examples();
     offset_examples();
+    track_example();
+    header1_examples();
+    header2_examples();
     list_example();
     printf("%lu passed, %lu failed\n", passed, failed);
     return failed == 0 ? RUN_WELL : RUN_BAD;
