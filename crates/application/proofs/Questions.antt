@@ -30,11 +30,11 @@ use Rattle.layout.specs.Regions.{Regions}
 use Rattle.layout.proofs.Regions.{regions}
 use Rattle.layout.proofs.Bounds.{regions-bounded}
 use Rattle.layout.proofs.Starts.{start-tested, start-below}
-use Rattle.application.specs.declared.HeaderAnswer.the-variants as header
+use Rattle.application.specs.declared.NamedHeaderAnswer.the-variants as header
 use Rattle.application.specs.declared.RecordAnswer.the-variants as answer
 use Rattle.application.specs.Facts.{judgedOf, verdictOf}
 use Rattle.application.specs.Obeys.{Obeys}
-use Rattle.application.specs.Questions.{namedHeaderIn, headerOf, recordIf, recordOf}
+use Rattle.application.specs.Questions.{namedHeaderIn, namedHeaderOf, recordIf, recordOf}
 use Rattle.application.proofs.Obeys.{accepted-obeys}
 
 shown-accepted : (v : Judged) → shownOf v ≡ verdict.Accepted → v ≡ judged.Accepted
@@ -49,8 +49,8 @@ verdict-obeys f e = (accepted-obeys f) .0 (shown-accepted (judgedOf f) e)
 
 pub header-there :
     (f : List ℕ) {v : Verdict} → v ≡ verdictOf f → v ≡ verdict.Accepted → {h : Header} → h ≡ headerIn f → {n : ℕ} → n ≡ stationNameLength f nameAt
-    → header.Header (record { header = h; name = nameAt; «name_bytes» = n }) ≡ headerOf f
-unfolding headerOf namedHeaderIn
+    → header.Header (record { header = h; name = nameAt; «name_bytes» = n }) ≡ namedHeaderOf f
+unfolding namedHeaderOf namedHeaderIn
 header-there f e g q w = simp (q, w) (sym (no-fault header.Refused (verdictOf f) (header.Header (namedHeaderIn f)) (sym e ∙ g)))
 
 -- ---- the record at x

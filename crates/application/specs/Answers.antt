@@ -10,8 +10,8 @@ use Rattle.records.specs.declared.Record.the-variants as is
 use Rattle.records.specs.declared.boundaries.Boundary.{Boundary}
 use Rattle.records.specs.Tables.{directionNumber, natureNumber, wayNumber, facingNumber, dutyNumber}
 use Rattle.application.specs.declared.NamedHeader.{NamedHeader}
-use Rattle.application.specs.declared.HeaderAnswer.{HeaderAnswer}
-use Rattle.application.specs.declared.HeaderAnswer.the-variants as header
+use Rattle.application.specs.declared.NamedHeaderAnswer.{NamedHeaderAnswer}
+use Rattle.application.specs.declared.NamedHeaderAnswer.the-variants as header
 use Rattle.application.specs.declared.RecordAnswer.{RecordAnswer}
 use Rattle.application.specs.declared.RecordAnswer.the-variants as answer
 
@@ -21,9 +21,9 @@ use Rattle.application.specs.declared.RecordAnswer.the-variants as answe
 abbrev pub namedHeaderValues : NamedHeader → List ℤ
 namedHeaderValues h = headerValues (h .header) ++ (pos (h .name) ∷ pos (h .«name_bytes») ∷ [])
 
-abbrev pub headerAnswer : HeaderAnswer → Answer
-headerAnswer (header.Header h) = answered (namedHeaderValues h)
-headerAnswer (header.Refused t) = refused 5 t
+abbrev pub namedHeaderAnswer : NamedHeaderAnswer → Answer
+namedHeaderAnswer (header.Header h) = answered (namedHeaderValues h)
+namedHeaderAnswer (header.Refused t) = refused 5 t
 
 -- ---- the record
 

@@ -14,8 +14,8 @@ use Rattle.layout.specs.Places.{nameAt}
 use Rattle.layout.specs.Layout.{layoutOf}
 use Rattle.layout.specs.Records.{kindAt, isStart}
 use Rattle.application.specs.declared.NamedHeader.{NamedHeader}
-use Rattle.application.specs.declared.HeaderAnswer.{HeaderAnswer}
-use Rattle.application.specs.declared.HeaderAnswer.the-variants as header
+use Rattle.application.specs.declared.NamedHeaderAnswer.{NamedHeaderAnswer}
+use Rattle.application.specs.declared.NamedHeaderAnswer.the-variants as header
 use Rattle.application.specs.declared.RecordAnswer.{RecordAnswer}
 use Rattle.application.specs.declared.RecordAnswer.the-variants.{Record, Refused}
 use Rattle.application.specs.Facts.{verdictOf}
@@ -26,8 +26,8 @@ use Rattle.application.specs.Facts.{verdictOf}
 unfoldable pub namedHeaderIn : List ℕ → NamedHeader
 namedHeaderIn f = record { header = headerIn f; name = nameAt; «name_bytes» = stationNameLength f nameAt }
 
-unfoldable pub headerOf : List ℕ → HeaderAnswer
-headerOf f = afterVerdict header.Refused (verdictOf f) (header.Header (namedHeaderIn f))
+unfoldable pub namedHeaderOf : List ℕ → NamedHeaderAnswer
+namedHeaderOf f = afterVerdict header.Refused (verdictOf f) (header.Header (namedHeaderIn f))
 
 -- ---- the record at an offset
 

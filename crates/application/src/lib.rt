@@ -3,7 +3,7 @@ ghost use mathlib.Core.Path.{_≡_};
 ghost use Rattle.verdict.specs.Facts.{firstFault};
 ghost use Rattle.layout.specs.Bounds.{Bounded};
 ghost use Rattle.application.specs.Facts.{recordFacts, judgedOf, verdictOf};
-ghost use Rattle.application.specs.Questions.{headerOf, recordOf};
+ghost use Rattle.application.specs.Questions.{namedHeaderOf, recordOf};
 ghost use Rattle.application.specs.Shapes.{judgedAs};
 use crate::starts::starts_record;
 use fields::check_agreement;
@@ -43,7 +43,7 @@ pub struct NamedHeader {
 }
 
 // The header, or why there is none.
-pub enum HeaderAnswer {
+pub enum NamedHeaderAnswer {
     Header(NamedHeader),
     Refused(Fault),
 }
@@ -111,15 +111,15 @@ pub fn verdict_of(f: &[u8]) -> Verdict
 }
 
 // The header.
-pub fn header(f: &[u8]) -> HeaderAnswer
-    ensures { λ r. ⌜ r ≡ headerOf (now (f .entry)) ⌝ }
+pub fn header(f: &[u8]) -> NamedHeaderAnswer
+    ensures { λ r. ⌜ r ≡ namedHeaderOf (now (f .entry)) ⌝ }
 {
     let v = verdict_of(f);
     let Verdict::Accepted = v else {
-        return HeaderAnswer::Refused(v.fault());
+        return NamedHeaderAnswer::Refused(v.fault());
     };
     let header = Header::read(f);
-    HeaderAnswer::Header(NamedHeader {
+    NamedHeaderAnswer::Header(NamedHeader {
         header,
         name: NAME,
         name_bytes: station_name_length(f, NAME),

@@ -1,15 +1,15 @@
 -- `application::header` meets its contract.
 -- Assumes nothing.
 use Rattle.verdict.proofs.Questions.{own-fault}
-use Rattle.application.specs.declared.HeaderAnswer.the-variants as answer
-use Rattle.application.specs.Questions.{headerOf}
+use Rattle.application.specs.declared.NamedHeaderAnswer.the-variants as answer
+use Rattle.application.specs.Questions.{namedHeaderOf}
 use Rattle.application.proofs.Questions.{header-there}
 use borrow.Author.Needs.{needs}
 use Rattle.application.proofs.header.Statement.{statement}
 use Rattle.application.proofs.header.Tie as tie
 
 returns : tie.Need-returns
-unfolding headerOf
+unfolding namedHeaderOf
 returns c = own-fault answer.Refused _ _ _ (c .before .before .before .verdict-of .ensures) (c .before .enum-told2 .given .1) (c .fault .ensures) _
 
 returns-2 : tie.Need-returns-2
