@@ -46,29 +46,28 @@ module _ (words out : List ℕ) where
     unfolding wordsLeave
     room-leaves out′ e = e ∙ laid words out h ∙ sym (rw (le-ltb _ _ h) refl)
 
--- ---- a question: an answer of any kind, which `as` makes the one shape. `asked` is the answer that is due, `got` the one that a function gave,
+-- ---- a question: an answer of any kind, which `shape` makes the one shape. `asked` is the answer that is due, `got` the one that a function gave,
 -- and `way` the case that it was found to be
 
-module _ {A : Type 0} (as : A → Answer) {asked got way : A} (p : got ≡ asked) (e : got ≡ way) {out : List ℕ} where
-  same : as way ≡ as asked
-  same = ap as (sym e ∙ p)
+module _ {A : Type 0} (shape : A → Answer) {asked got way : A} (p : got ≡ asked) (e : got ≡ way) {out : List ℕ} where
+  same : shape way ≡ shape asked
+  same = ap shape (sym e ∙ p)
 
   pub values-shown :
-      {values : List ℤ} → as way ≡ answered values → {words : List ℕ} → words ≡ wordsOf values
+      {values : List ℤ} → shape way ≡ answered values → {words : List ℕ} → words ≡ wordsOf values
       → {r : ℕ} {out′ : List ℕ} → (r ≡ wordsShown words out) × (out′ ≡ wordsLeave words out)
-      → (r ≡ shown (as asked) out) × (out′ ≡ leaves (as asked) out)
+      → (r ≡ shown (shape asked) out) × (out′ ≡ leaves (shape asked) out)
   values-shown {values} v w s =
-      let a : answered values ≡ as asked = sym v ∙ same in
-      (
+      let a : answered values ≡ shape asked = sym v ∙ same in (
         s .0 ∙ ap (λ (ws : List ℕ). wordsShown ws out) w ∙ ap (λ (x : Answer). shown x out) a,
         s .1 ∙ ap (λ (ws : List ℕ). wordsLeave ws out) w ∙ ap (λ (x : Answer). leaves x out) a,
       )
 
   pub fault-shown :
-      {n : ℕ} {t : Fault} → as way ≡ refused n t → {r : ℕ} → r ≡ answerWord (numberOf (t .reason)) 0 (t .place)
-      → (r ≡ shown (as asked) out) × (out ≡ leaves (as asked) out)
+      {n : ℕ} {t : Fault} → shape way ≡ refused n t → {r : ℕ} → r ≡ answerWord (numberOf (t .reason)) 0 (t .place)
+      → (r ≡ shown (shape asked) out) × (out ≡ leaves (shape asked) out)
   fault-shown {n} {t} v s =
-      let a : refused n t ≡ as asked = sym v ∙ same in
+      let a : refused n t ≡ shape asked = sym v ∙ same in
       (s ∙ ap (λ (x : Answer). shown x out) a, ap (λ (x : Answer). leaves x out) a)
 
 -- ---- routes

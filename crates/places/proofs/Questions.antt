@@ -45,16 +45,16 @@ use Rattle.places.specs.Places.{placeOver}
 use Rattle.places.proofs.X1.{x1-place}
 use Rattle.places.proofs.X2.{x2-place}
 
--- ---- of any kind of answer, which `as` makes the one shape: one or the other, and after the file's own fault
+-- ---- of any kind of answer, which `shape` makes the one shape: one or the other, and after the file's own fault
 
-module _ {A : Type 0} (as : A → Answer) where
-  if-below : (t : Bool) (a b : A) → answerPlace (as a) < placeOver → answerPlace (as b) < placeOver → answerPlace (as (cond t a b)) < placeOver
+module _ {A : Type 0} (shape : A → Answer) where
+  if-below : (t : Bool) (a b : A) → answerPlace (shape a) < placeOver → answerPlace (shape b) < placeOver → answerPlace (shape (cond t a b)) < placeOver
   if-below true a b p q = p
   if-below false a b p q = q
 
   after-below :
-      (say : Fault → A) → ((t : Fault) → answerPlace (as (say t)) ≡ t .place) → (v : Verdict) (a : A) → placeIn v < placeOver → answerPlace (as a) < placeOver
-      → answerPlace (as (afterVerdict say v a)) < placeOver
+      (say : Fault → A) → ((t : Fault) → answerPlace (shape (say t)) ≡ t .place) → (v : Verdict) (a : A) → placeIn v < placeOver → answerPlace (shape a) < placeOver
+      → answerPlace (shape (afterVerdict say v a)) < placeOver
   after-below say same verdict.Accepted a p q = q
   after-below say same (verdict.Refused t) a p q = rw (same t) p
 
