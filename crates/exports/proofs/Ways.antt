@@ -14,12 +14,11 @@ use Rattle.verdict.specs.declared.Verdict.{Verdict}
 use Rattle.verdict.specs.declared.Verdict.the-variants as verdict
 use Rattle.verdict.specs.declared.Fault.{Fault}
 use Rattle.verdict.specs.Answers.{Answer, answered, refused, afterVerdict}
-use Rattle.layout.specs.Layout.{layoutOf}
 use Rattle.application.specs.Facts.{verdictOf}
 use Rattle.walks.specs.declared.Tally.{Tally}
 use Rattle.routes.specs.declared.RoutesAnswer.{RoutesAnswer}
 use Rattle.routes.specs.declared.RoutesAnswer.the-variants.{Listed, Refused}
-use Rattle.routes.specs.Answered.{refusedFor, judged, answerAt, answerIn, routesAnswer}
+use Rattle.routes.specs.Answered.{refusedFor, judged, answerAt, routesAnswer}
 use Rattle.yard.specs.Routes.{routesOf}
 use Rattle.exports.specs.Words.{answerWord, valueSize, wordsOf, bytesOf}
 use Rattle.exports.specs.Shown.{wordsShown, wordsLeave, shown, leaves, countsSize, wordsLeft}
@@ -49,24 +48,24 @@ module _ (words out : List ℕ) where
 -- ---- a question: an answer of any kind, which `shape` makes the one shape. `asked` is the answer that is due, `got` the one that a function gave,
 -- and `way` the case that it was found to be
 
-module _ {A : Type 0} (shape : A → Answer) {asked got way : A} (p : got ≡ asked) (e : got ≡ way) {out : List ℕ} where
+module _ {A : Type 0} (shape : A → Answer) {asked got way : A} (p : got ≡ asked) (e : got ≡ way) where
   same : shape way ≡ shape asked
   same = ap shape (sym e ∙ p)
 
   pub values-shown :
-      {values : List ℤ} → shape way ≡ answered values → {words : List ℕ} → words ≡ wordsOf values
+      (out : List ℕ) {values : List ℤ} → shape way ≡ answered values → {words : List ℕ} → words ≡ wordsOf values
       → {r : ℕ} {out′ : List ℕ} → (r ≡ wordsShown words out) × (out′ ≡ wordsLeave words out)
       → (r ≡ shown (shape asked) out) × (out′ ≡ leaves (shape asked) out)
-  values-shown {values} v w s =
+  values-shown out {values} v w s =
       let a : answered values ≡ shape asked = sym v ∙ same in (
         s .0 ∙ ap (λ (ws : List ℕ). wordsShown ws out) w ∙ ap (λ (x : Answer). shown x out) a,
         s .1 ∙ ap (λ (ws : List ℕ). wordsLeave ws out) w ∙ ap (λ (x : Answer). leaves x out) a,
       )
 
   pub fault-shown :
-      {n : ℕ} {t : Fault} → shape way ≡ refused n t → {r : ℕ} → r ≡ answerWord (numberOf (t .reason)) 0 (t .place)
+      (out : List ℕ) {n : ℕ} {t : Fault} → shape way ≡ refused n t → {r : ℕ} → r ≡ answerWord (numberOf (t .reason)) 0 (t .place)
       → (r ≡ shown (shape asked) out) × (out ≡ leaves (shape asked) out)
-  fault-shown {n} {t} v s =
+  fault-shown out {n} {t} v s =
       let a : refused n t ≡ shape asked = sym v ∙ same in
       (s ∙ ap (λ (x : Answer). shown x out) a, ap (λ (x : Answer). leaves x out) a)
 
@@ -87,14 +86,13 @@ module _ (counts : List ℕ) (h : length counts < countsSize) where
   rooms true false false true t = sym (short-room t)
   rooms true false false false t = refl
 
-  by-verdict : (v : Verdict) (f : List ℕ) (start limit budget a b : ℕ) → shown (routesAnswer (afterVerdict Refused v (answerIn f (layoutOf f) start limit budget a))) counts ≡ shown (routesAnswer (afterVerdict Refused v (answerIn f (layoutOf f) start limit budget b))) counts
-  unfolding answerAt
-  by-verdict (verdict.Refused t) f start limit budget a b = refl
-  by-verdict verdict.Accepted f start limit budget a b = rooms _ _ _ _ _
+  after-same : (v : Verdict) (a b : RoutesAnswer) → shown (routesAnswer a) counts ≡ shown (routesAnswer b) counts → shown (routesAnswer (afterVerdict Refused v a)) counts ≡ shown (routesAnswer (afterVerdict Refused v b)) counts
+  after-same (verdict.Refused t) a b e = refl
+  after-same verdict.Accepted a b e = e
 
   pub scrap-shown : (f : List ℕ) (start limit budget a b : ℕ) → shown (routesAnswer (routesOf f start limit budget a)) counts ≡ shown (routesAnswer (routesOf f start limit budget b)) counts
-  unfolding routesOf
-  scrap-shown f start limit budget a b = by-verdict (verdictOf f) f start limit budget a b
+  unfolding routesOf answerAt
+  scrap-shown f start limit budget a b = after-same (verdictOf f) _ _ (rooms _ _ _ _ _)
 
   kept-anyhow : (a : RoutesAnswer) → leaves (routesAnswer a) counts ≡ counts
   unfolding wordsLeave

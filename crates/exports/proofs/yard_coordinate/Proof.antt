@@ -10,10 +10,10 @@ use Rattle.exports.proofs.yard_coordinate.Tie as tie
 returns : tie.Need-returns
 returns c =
     let w = c .before .before .before .before .before in
-    values-shown coordinateAnswer (w .before .before .before .before .coordinate .ensures) (w .before .before .c .given .1) refl (w .coordinate-words .ensures) (c .before .before .show .ensures)
+    values-shown coordinateAnswer (w .before .before .before .before .coordinate .ensures) (w .before .before .c .given .1) _ refl (w .coordinate-words .ensures) (c .before .before .show .ensures)
 
 returns-2 : tie.Need-returns-2
-returns-2 c = fault-shown coordinateAnswer (c .before .before .before .before .coordinate .ensures) (c .before .before .fault .given .1) refl (c .refused .ensures)
+returns-2 c = fault-shown coordinateAnswer (c .before .before .before .before .coordinate .ensures) (c .before .before .fault .given .1) _ refl (c .refused .ensures)
 
 pub yard-coordinate-spec : {M : Type 1} → statement M
 yard-coordinate-spec =

@@ -10,10 +10,10 @@ use Rattle.exports.proofs.yard_point.Tie as tie
 returns : tie.Need-returns
 returns c =
     let w = c .before .before .before .before .before in
-    values-shown pointAnswer (w .before .before .before .before .point .ensures) (w .before .before .p .given .1) refl (w .point-words .ensures) (c .before .before .show .ensures)
+    values-shown pointAnswer (w .before .before .before .before .point .ensures) (w .before .before .p .given .1) _ refl (w .point-words .ensures) (c .before .before .show .ensures)
 
 returns-2 : tie.Need-returns-2
-returns-2 c = fault-shown pointAnswer (c .before .before .before .before .point .ensures) (c .before .before .fault .given .1) refl (c .refused .ensures)
+returns-2 c = fault-shown pointAnswer (c .before .before .before .before .point .ensures) (c .before .before .fault .given .1) _ refl (c .refused .ensures)
 
 pub yard-point-spec : {M : Type 1} → statement M
 yard-point-spec =

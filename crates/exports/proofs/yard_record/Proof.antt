@@ -10,10 +10,10 @@ use Rattle.exports.proofs.yard_record.Tie as tie
 returns : tie.Need-returns
 returns c =
     let w = c .before .before .before .before .before in
-    values-shown recordAnswer (w .before .before .before .before .record-at .ensures) (w .before .before .r .given .1) refl (w .record-words .ensures) (c .before .before .show .ensures)
+    values-shown recordAnswer (w .before .before .before .before .record-at .ensures) (w .before .before .r .given .1) _ refl (w .record-words .ensures) (c .before .before .show .ensures)
 
 returns-2 : tie.Need-returns-2
-returns-2 c = fault-shown recordAnswer (c .before .before .before .before .record-at .ensures) (c .before .before .fault .given .1) refl (c .refused .ensures)
+returns-2 c = fault-shown recordAnswer (c .before .before .before .before .record-at .ensures) (c .before .before .fault .given .1) _ refl (c .refused .ensures)
 
 pub yard-record-spec : {M : Type 1} → statement M
 yard-record-spec =
