@@ -1,9 +1,10 @@
 -- The ways out of the questions 'header' and 'record at an offset'.
 -- Assumes nothing.
-use Prim.Native.Nat.{ℕ, _≤_}
+use Prim.Native.Nat.{ℕ, _≤_, _<_}
 use mathlib.Core.Path.{_≡_, _∙_, refl, sym, ap, subst⁻¹}
 use mathlib.Core.Bool.{Bool, true, false}
 use mathlib.Core.List.{List}
+use mathlib.Core.Logic.{_↔_}
 use native.Mathlib.Omega.{arith}
 use Rattle.verdict.specs.declared.Fault.{Fault}
 use Rattle.verdict.specs.declared.Judged.{Judged}
@@ -12,10 +13,11 @@ use Rattle.verdict.specs.declared.Verdict.{Verdict}
 use Rattle.verdict.specs.declared.Verdict.the-variants as verdict
 use Rattle.verdict.specs.declared.Reason.the-variants.{Question}
 use Rattle.verdict.specs.Answers.{refusal, afterVerdict}
-use Rattle.verdict.proofs.Questions.{no-fault}
+use Rattle.verdict.proofs.Questions.{no-fault, accepted-by}
 use Rattle.verdict.specs.Facts.{test}
 use Rattle.verdict.specs.Reasons.{shownOf}
-use Rattle.names.specs.Names.{stationNameLength}
+use Rattle.names.specs.Names.{byteBehind, stationNameLength}
+use Rattle.names.proofs.Names.{station-name-count, station-name-ends}
 use Rattle.seal.specs.declared.Header.{Header}
 use Rattle.seal.specs.Header.{headerIn}
 use Rattle.records.specs.declared.Kind.{Kind}
@@ -30,6 +32,7 @@ use Rattle.layout.specs.Regions.{Regions}
 use Rattle.layout.proofs.Regions.{regions}
 use Rattle.layout.proofs.Bounds.{regions-bounded}
 use Rattle.layout.proofs.Starts.{start-tested, start-below}
+use Rattle.application.specs.declared.NamedHeader.{NamedHeader}
 use Rattle.application.specs.declared.NamedHeaderAnswer.the-variants as header
 use Rattle.application.specs.declared.RecordAnswer.the-variants as answer
 use Rattle.application.specs.Facts.{judgedOf, verdictOf}
@@ -52,6 +55,21 @@ pub header-there :
     → header.Header (record { header = h; name = nameAt; «name_bytes» = n }) ≡ namedHeaderOf f
 unfolding namedHeaderOf namedHeaderIn
 header-there f e g q w = simp (q, w) (sym (no-fault header.Refused (verdictOf f) (header.Header (namedHeaderIn f)) (sym e ∙ g)))
+
+-- THEOREM: the header that is answered has a name of at least one code, in the sixteen bytes of its field, and all zeros of these stand after
+-- it.
+pub header-name :
+    (f : List ℕ) (h : NamedHeader) → namedHeaderOf f ≡ header.Header h
+    → (2 ≤ h .«name_bytes») × (h .«name_bytes» ≤ 16) × ((k : ℕ) → k < 16 → (byteBehind f (h .name) k ≡ 0) ↔ (h .«name_bytes» ≤ k))
+unfolding namedHeaderOf namedHeaderIn
+header-name f h e =
+    let a = accepted-by header.Refused (verdictOf f) (header.Header (namedHeaderIn f)) (header.Header h) (λ t q. let z : _≡_ {A = ℕ} 0 1 = cc in omega arith) e in
+    let i : namedHeaderIn f ≡ h = cc in
+    let name = verdict-obeys f (a .0) .fields .station-name in
+    let n = station-name-count name in
+    let c = name .enough in
+    let d = name .room in
+    rw (← i) (omega arith, omega arith, station-name-ends name)
 
 -- ---- the record at x
 
