@@ -1,9 +1,10 @@
 // The answers about an X.1 file.
 ghost use mathlib.Core.Path.{_≡_};
 ghost use Rattle.verdict.specs.Reasons.{numberOf, numberIn};
+ghost use Rattle.verdict.specs.Answers.{answerNumber};
 ghost use Rattle.geography.specs.Facts.{verdictOf};
 ghost use Rattle.survey.specs.Questions.{trackOf, pointOf, coordinateAsked};
-ghost use Rattle.survey.specs.Answers.{trackNumberIn, pointNumberIn, coordinateNumberIn};
+ghost use Rattle.survey.specs.Answers.{trackAnswer, pointAnswer, coordinateAnswer};
 use survey::Coordinate;
 use survey::CoordinateAnswer;
 use survey::PointAnswer;
@@ -45,12 +46,14 @@ fn track_lines(t: Track) {
     line(b"end_position", t.end_position);
     signed_line(b"end_latitude", t.end_latitude);
     signed_line(b"end_longitude", t.end_longitude);
+    line(b"first_offset", t.first);
+    line(b"last_offset", t.last);
     line(b"points", t.points());
 }
 
 // The question track.
 pub fn track(f: &[u8], index: usize) -> usize
-    ensures { λ r. ⌜ r ≡ trackNumberIn (trackOf (now (f .entry)) index) ⌝ }
+    ensures { λ r. ⌜ r ≡ answerNumber (trackAnswer (trackOf (now (f .entry)) index)) ⌝ }
 {
     match survey::track(f, index) {
         TrackAnswer::Track(t) => {
@@ -72,7 +75,7 @@ fn point_lines(p: Point) {
 
 // The question point.
 pub fn point(f: &[u8], track: usize, index: usize) -> usize
-    ensures { λ r. ⌜ r ≡ pointNumberIn (pointOf (now (f .entry)) track index) ⌝ }
+    ensures { λ r. ⌜ r ≡ answerNumber (pointAnswer (pointOf (now (f .entry)) track index)) ⌝ }
 {
     match survey::point(f, track, index) {
         PointAnswer::Point(p) => {
@@ -91,7 +94,7 @@ fn coordinate_lines(c: Coordinate) {
 
 // The question coordinate.
 pub fn coordinate(f: &[u8], number: usize, position: usize) -> usize
-    ensures { λ r. ⌜ r ≡ coordinateNumberIn (coordinateAsked (now (f .entry)) number position) ⌝ }
+    ensures { λ r. ⌜ r ≡ answerNumber (coordinateAnswer (coordinateAsked (now (f .entry)) number position)) ⌝ }
 {
     match survey::coordinate(f, number, position) {
         CoordinateAnswer::Coordinate(c) => {

@@ -2,6 +2,7 @@
 // a name and a value to a line, numbers in decimal; after a refusal nothing. Each function returns the answer's number, 0 where it was
 // answered.
 mod geography_answers;
+mod header_answers;
 mod pair_answers;
 mod record_answers;
 
@@ -9,6 +10,8 @@ pub use geography_answers::coordinate;
 pub use geography_answers::point;
 pub use geography_answers::track;
 pub use geography_answers::x1;
+pub use header_answers::header1;
+pub use header_answers::header2;
 pub use pair_answers::pair;
 pub use record_answers::record;
 pub use record_answers::x2;

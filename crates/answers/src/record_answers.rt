@@ -1,9 +1,10 @@
 // The answers about an X.2 file.
 ghost use mathlib.Core.Path.{_≡_};
 ghost use Rattle.verdict.specs.Reasons.{numberIn};
+ghost use Rattle.verdict.specs.Answers.{answerNumber};
 ghost use Rattle.application.specs.Facts.{verdictOf};
 ghost use Rattle.application.specs.Questions.{recordOf};
-ghost use Rattle.application.specs.Questions as question;
+ghost use Rattle.application.specs.Answers.{recordAnswer};
 use crate::geography_answers::refused;
 use application::RecordAnswer;
 use records::Balise;
@@ -178,7 +179,7 @@ fn record_lines(f: &[u8], r: Record) {
 
 // The question record.
 pub fn record(f: &[u8], offset: usize) -> usize
-    ensures { λ r. ⌜ r ≡ question.numberIn (recordOf (now (f .entry)) offset) ⌝ }
+    ensures { λ r. ⌜ r ≡ answerNumber (recordAnswer (recordOf (now (f .entry)) offset)) ⌝ }
 {
     match application::record_at(f, offset) {
         RecordAnswer::Record(r) => {

@@ -1,21 +1,30 @@
--- The ways out of the question 'record at an offset'.
+-- The ways out of the questions 'header' and 'record at an offset'.
 -- Assumes nothing.
-use Prim.Native.Nat.{ℕ, _≤_}
+use Prim.Native.Nat.{ℕ, _≤_, _<_}
 use mathlib.Core.Path.{_≡_, _∙_, refl, sym, ap, subst⁻¹}
 use mathlib.Core.Bool.{Bool, true, false}
 use mathlib.Core.List.{List}
+use mathlib.Core.Logic.{_↔_}
 use native.Mathlib.Omega.{arith}
 use Rattle.verdict.specs.declared.Fault.{Fault}
 use Rattle.verdict.specs.declared.Judged.{Judged}
 use Rattle.verdict.specs.declared.Judged.the-variants as judged
 use Rattle.verdict.specs.declared.Verdict.{Verdict}
 use Rattle.verdict.specs.declared.Verdict.the-variants as verdict
+use Rattle.verdict.specs.declared.Reason.the-variants.{Question}
+use Rattle.verdict.specs.Answers.{refusal, afterVerdict}
+use Rattle.verdict.proofs.Questions.{no-fault, accepted-by}
 use Rattle.verdict.specs.Facts.{test}
 use Rattle.verdict.specs.Reasons.{shownOf}
+use Rattle.names.specs.Names.{byteBehind, stationNameLength}
+use Rattle.names.proofs.Names.{station-name-count, station-name-ends}
+use Rattle.seal.specs.declared.Header.{Header}
+use Rattle.seal.specs.Header.{headerIn}
 use Rattle.records.specs.declared.Kind.{Kind}
 use Rattle.records.specs.declared.Record.{Record}
 use Rattle.records.specs.Records.{recordAt}
 use Rattle.layout.specs.declared.Layout.{Layout}
+use Rattle.layout.specs.Places.{nameAt}
 use Rattle.layout.specs.Layout.{layoutOf}
 use Rattle.layout.specs.Records.{kindAt, isStart}
 use Rattle.layout.specs.Bounds.{placeMost, Bounded}
@@ -23,11 +32,12 @@ use Rattle.layout.specs.Regions.{Regions}
 use Rattle.layout.proofs.Regions.{regions}
 use Rattle.layout.proofs.Bounds.{regions-bounded}
 use Rattle.layout.proofs.Starts.{start-tested, start-below}
-use Rattle.application.specs.declared.RecordAnswer.{RecordAnswer}
+use Rattle.application.specs.declared.NamedHeader.{NamedHeader}
+use Rattle.application.specs.declared.NamedHeaderAnswer.the-variants as header
 use Rattle.application.specs.declared.RecordAnswer.the-variants as answer
 use Rattle.application.specs.Facts.{judgedOf, verdictOf}
 use Rattle.application.specs.Obeys.{Obeys}
-use Rattle.application.specs.Questions.{outOfRange, refusedAs, recordIf, asked, recordOf}
+use Rattle.application.specs.Questions.{namedHeaderIn, namedHeaderOf, recordIf, recordOf}
 use Rattle.application.proofs.Obeys.{accepted-obeys}
 
 shown-accepted : (v : Judged) → shownOf v ≡ verdict.Accepted → v ≡ judged.Accepted
@@ -38,11 +48,32 @@ shown-accepted (judged.Refused m) e = let z : _≡_ {A = ℕ} 0 1 = cc in absurd
 pub verdict-obeys : (f : List ℕ) → verdictOf f ≡ verdict.Accepted → Obeys f
 verdict-obeys f e = (accepted-obeys f) .0 (shown-accepted (judgedOf f) e)
 
-module _ (f : List ℕ) (x : ℕ) (v : Verdict) (p : v ≡ verdictOf f) where
-  pub own-fault : (t : Fault) → v ≡ verdict.Refused t → (r : RecordAnswer) → r ≡ refusedAs v → r ≡ recordOf f x
-  unfolding recordOf
-  own-fault t e r q = q ∙ ap refusedAs e ∙ sym (ap (λ (w : Verdict). asked w f x) (sym p ∙ e))
+-- ---- the header: v is the verdict as it was found, h and n what was read
 
+pub header-there :
+    (f : List ℕ) {v : Verdict} → v ≡ verdictOf f → v ≡ verdict.Accepted → {h : Header} → h ≡ headerIn f → {n : ℕ} → n ≡ stationNameLength f nameAt
+    → header.Header (record { header = h; name = nameAt; «name_bytes» = n }) ≡ namedHeaderOf f
+unfolding namedHeaderOf namedHeaderIn
+header-there f e g q w = simp (q, w) (sym (no-fault header.Refused (verdictOf f) (header.Header (namedHeaderIn f)) (sym e ∙ g)))
+
+-- THEOREM: the header that is answered has a name of at least one code, in the sixteen bytes of its field, and all zeros of these stand after
+-- it.
+pub header-name :
+    (f : List ℕ) (h : NamedHeader) → namedHeaderOf f ≡ header.Header h
+    → (2 ≤ h .«name_bytes») × (h .«name_bytes» ≤ 16) × ((k : ℕ) → k < 16 → (byteBehind f (h .name) k ≡ 0) ↔ (h .«name_bytes» ≤ k))
+unfolding namedHeaderOf namedHeaderIn
+header-name f h e =
+    let a = accepted-by header.Refused (verdictOf f) (header.Header (namedHeaderIn f)) (header.Header h) (λ t q. let z : _≡_ {A = ℕ} 0 1 = cc in omega arith) e in
+    let i : namedHeaderIn f ≡ h = cc in
+    let name = verdict-obeys f (a .0) .fields .station-name in
+    let n = station-name-count name in
+    let c = name .enough in
+    let d = name .room in
+    rw (← i) (omega arith, omega arith, station-name-ends name)
+
+-- ---- the record at x
+
+module _ (f : List ℕ) (x : ℕ) (v : Verdict) (p : v ≡ verdictOf f) where
   module _ (e : v ≡ verdict.Accepted) where
     -- its layout is whole records, with the numbers of a file
     pub accepted-regions : (l : Layout) → l ≡ layoutOf f → Regions f l
@@ -55,12 +86,12 @@ module _ (f : List ℕ) (x : ℕ) (v : Verdict) (p : v ≡ verdictOf f) where
       started : test (isStart f (layoutOf f) x) ≡ b
       started = sym (q ∙ ap (λ (k : Layout). test (isStart f k x)) i)
 
-      answered : asked (verdictOf f) f x ≡ recordIf b f x
-      answered = ap (λ (w : Verdict). asked w f x) (sym p ∙ e) ∙ ap (λ (c : Bool). recordIf c f x) started
+      there : afterVerdict answer.Refused (verdictOf f) (recordIf (test (isStart f (layoutOf f) x)) f x) ≡ recordIf b f x
+      there = no-fault answer.Refused (verdictOf f) _ (sym p ∙ e) ∙ ap (λ (c : Bool). recordIf c f x) started
 
-      pub no-record : b ≡ false → (r : RecordAnswer) → r ≡ answer.Refused outOfRange → r ≡ recordOf f x
+      pub no-record : b ≡ false → {t : Fault} → t ≡ refusal Question → answer.Refused t ≡ recordOf f x
       unfolding recordOf
-      no-record h r n = n ∙ sym (answered ∙ ap (λ (c : Bool). recordIf c f x) h)
+      no-record h n = ap answer.Refused n ∙ sym (there ∙ ap (λ (c : Bool). recordIf c f x) h)
 
       pub start-small : b ≡ true → Regions f l → l .stop ≤ placeMost → x ≤ placeMost
       start-small h g s =
@@ -71,4 +102,4 @@ module _ (f : List ℕ) (x : ℕ) (v : Verdict) (p : v ≡ verdictOf f) where
       unfolding recordOf
       record-there h k j r n =
           ap answer.Record (n ∙ ap (λ (y : Kind). recordAt f y x) (j ∙ ap (λ (m : Layout). kindAt m x) i))
-          ∙ sym (answered ∙ ap (λ (c : Bool). recordIf c f x) h)
+          ∙ sym (there ∙ ap (λ (c : Bool). recordIf c f x) h)

@@ -1,5 +1,6 @@
 pub mod Facts
 pub mod Obeys
 pub mod Questions
+pub mod Answers
 pub mod Shapes
 pub mod Starts

@@ -1,28 +1,32 @@
-// X.2, fixed application: the verdict of a file, the checks in 01's order, and the question 'record at an offset'.
+// X.2, fixed application: the verdict of a file, the checks in 01's order, and the questions 'header' and 'record at an offset'.
 ghost use mathlib.Core.Path.{_≡_};
 ghost use Rattle.verdict.specs.Facts.{firstFault};
 ghost use Rattle.layout.specs.Bounds.{Bounded};
 ghost use Rattle.application.specs.Facts.{recordFacts, judgedOf, verdictOf};
-ghost use Rattle.application.specs.Questions.{outOfRange, refusedAs, recordOf};
+ghost use Rattle.application.specs.Questions.{namedHeaderOf, recordOf};
 ghost use Rattle.application.specs.Shapes.{judgedAs};
 use crate::starts::starts_record;
 use fields::check_agreement;
 use fields::check_fields;
 use layout::Layout;
+use layout::NAME;
 use layout::Shape;
 use layout::find_layout;
 use layout::kind_at;
 use layout::layout_of;
 use links::check_returns;
 use links::check_targets;
+use names::station_name_length;
 use records::Record;
 use rules::length_between;
+use seal::Header;
 use seal::MOST_LENGTH;
 use seal::check_seal;
 use verdict::Fault;
 use verdict::Judged;
 use verdict::Reason;
 use verdict::Verdict;
+use verdict::refusal;
 
 mod starts;
 
@@ -30,6 +34,19 @@ mod starts;
 pub const LEAST_LENGTH: usize = 69;
 
 pub const FILE_TYPE: usize = 2;
+
+// The header: what both files have alike, and the station's name, by its place and how many bytes it has without its closing zeros.
+pub struct NamedHeader {
+    pub header: Header,
+    pub name: usize,
+    pub name_bytes: usize,
+}
+
+// The header, or why there is none.
+pub enum NamedHeaderAnswer {
+    Header(NamedHeader),
+    Refused(Fault),
+}
 
 // The answer to 'record at an offset'.
 pub enum RecordAnswer {
@@ -93,22 +110,20 @@ pub fn verdict_of(f: &[u8]) -> Verdict
     first_fault(f).shown()
 }
 
-// 13, place 0.
-fn out_of_range() -> RecordAnswer
-    ensures { λ r. ⌜ r ≡ RecordAnswer.Refused outOfRange ⌝ }
+// The header.
+pub fn header(f: &[u8]) -> NamedHeaderAnswer
+    ensures { λ r. ⌜ r ≡ namedHeaderOf (now (f .entry)) ⌝ }
 {
-    let reason = Reason::Question;
-    RecordAnswer::Refused(Fault { reason, place: 0 })
-}
-
-// The file's own fault, as an answer.
-fn refused(v: Verdict) -> RecordAnswer
-    ensures { λ r. ⌜ r ≡ refusedAs v ⌝ }
-{
-    match v {
-        Verdict::Refused(fault) => RecordAnswer::Refused(fault),
-        Verdict::Accepted => out_of_range(),
-    }
+    let v = verdict_of(f);
+    let Verdict::Accepted = v else {
+        return NamedHeaderAnswer::Refused(v.fault());
+    };
+    let header = Header::read(f);
+    NamedHeaderAnswer::Header(NamedHeader {
+        header,
+        name: NAME,
+        name_bytes: station_name_length(f, NAME),
+    })
 }
 
 // The record that starts at an offset.
@@ -117,11 +132,11 @@ pub fn record_at(f: &[u8], offset: usize) -> RecordAnswer
 {
     let v = verdict_of(f);
     let Verdict::Accepted = v else {
-        return refused(v);
+        return RecordAnswer::Refused(v.fault());
     };
     let l = layout_of(f);
     if !starts_record(f, l, offset) {
-        return out_of_range();
+        return RecordAnswer::Refused(refusal(Reason::Question));
     }
     let k = kind_at(l, offset);
     let r = Record::read(f, k, offset as u16);

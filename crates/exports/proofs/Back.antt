@@ -12,17 +12,26 @@ use lib.Seq.{getD-append-add}
 use lib.Signed.{mag}
 use Rattle.octets.specs.Octets.{numAt, signed, signedAt, halfOf}
 use Rattle.octets.proofs.Signs.{low, high}
+use Rattle.verdict.specs.Answers.{Answer, answerValues}
+use Rattle.survey.specs.declared.answers.HeaderAnswer.{HeaderAnswer}
+use Rattle.survey.specs.declared.answers.HeaderAnswer.the-variants as header
 use Rattle.survey.specs.declared.answers.TrackAnswer.{TrackAnswer}
 use Rattle.survey.specs.declared.answers.TrackAnswer.the-variants as track
 use Rattle.survey.specs.declared.answers.PointAnswer.{PointAnswer}
 use Rattle.survey.specs.declared.answers.PointAnswer.the-variants as point
 use Rattle.survey.specs.declared.answers.CoordinateAnswer.{CoordinateAnswer}
 use Rattle.survey.specs.declared.answers.CoordinateAnswer.the-variants as coordinate
-use Rattle.survey.specs.Answers.{trackValuesIn, pointValuesIn, coordinateValuesIn}
+use Rattle.survey.specs.Answers.{headerAnswer, trackAnswer, pointAnswer, coordinateAnswer}
+use Rattle.application.specs.declared.NamedHeaderAnswer.{NamedHeaderAnswer}
+use Rattle.application.specs.declared.NamedHeaderAnswer.the-variants as named
 use Rattle.application.specs.declared.RecordAnswer.{RecordAnswer}
 use Rattle.application.specs.declared.RecordAnswer.the-variants as answer
-use Rattle.application.specs.Questions.{valueCount, fieldsOf, filled, valuesIn}
+use Rattle.application.specs.Answers.{namedHeaderAnswer, valueCount, fieldsOf, filled, recordAnswer}
+use Rattle.routes.specs.declared.RoutesAnswer.{RoutesAnswer}
+use Rattle.routes.specs.declared.RoutesAnswer.the-variants as listed
+use Rattle.routes.specs.Answered.{routesAnswer}
 use Rattle.exports.specs.Words.{overByte, overTwo, overThree, overWord, valueSize, wordOf, wordsOf, wordBytes, bytesOf}
+use Rattle.exports.specs.Shown.{countsSize}
 use Rattle.exports.proofs.Laid.{bytes-length}
 
 -- ---- four bytes
@@ -71,33 +80,64 @@ signed-word (negsuc n) h =
     let k : halfOf valueSize + halfOf valueSize - 1 - (overWord - 1 - n) ≡ n = omega arith in
     rw e (high (halfOf valueSize) (overWord - 1 - n) (omega arith) ∙ ap negsuc k)
 
--- ---- how many bytes each kind of answer takes
+-- ---- how many bytes each kind of answer takes: as many values as the header says, of four bytes each, refused or not
 
-pub track-size : (a : TrackAnswer) → length (bytesOf (wordsOf (trackValuesIn a))) ≡ 36
-unfolding bytesOf wordBytes
-track-size (track.Track t) = refl
-track-size (track.Refused t) = refl
+answer-size : (a : Answer) (n : ℕ) → length (answerValues a) ≡ n → length (bytesOf (wordsOf (answerValues a))) ≡ valueSize * n
+answer-size a n e =
+    let b = bytes-length (wordsOf (answerValues a)) in
+    let m = length-map (answerValues a) wordOf in
+    omega arith
 
-pub point-size : (a : PointAnswer) → length (bytesOf (wordsOf (pointValuesIn a))) ≡ 20
-unfolding bytesOf wordBytes
-point-size (point.Point p) = refl
-point-size (point.Refused t) = refl
+pub header1-size : (a : HeaderAnswer) → length (bytesOf (wordsOf (answerValues (headerAnswer a)))) ≡ 12
+header1-size a = answer-size (headerAnswer a) 3 (count a)
+  where
+    count : (a : HeaderAnswer) → length (answerValues (headerAnswer a)) ≡ 3
+    count (header.Header h) = refl
+    count (header.Refused t) = refl
 
-pub coordinate-size : (a : CoordinateAnswer) → length (bytesOf (wordsOf (coordinateValuesIn a))) ≡ 8
-unfolding bytesOf wordBytes
-coordinate-size (coordinate.Coordinate c) = refl
-coordinate-size (coordinate.Refused t) = refl
+pub header2-size : (a : NamedHeaderAnswer) → length (bytesOf (wordsOf (answerValues (namedHeaderAnswer a)))) ≡ 20
+header2-size a = answer-size (namedHeaderAnswer a) 5 (count a)
+  where
+    count : (a : NamedHeaderAnswer) → length (answerValues (namedHeaderAnswer a)) ≡ 5
+    count (named.Header h) = refl
+    count (named.Refused t) = refl
+
+pub track-size : (a : TrackAnswer) → length (bytesOf (wordsOf (answerValues (trackAnswer a)))) ≡ 44
+track-size a = answer-size (trackAnswer a) 11 (count a)
+  where
+    count : (a : TrackAnswer) → length (answerValues (trackAnswer a)) ≡ 11
+    count (track.Track t) = refl
+    count (track.Refused t) = refl
+
+pub point-size : (a : PointAnswer) → length (bytesOf (wordsOf (answerValues (pointAnswer a)))) ≡ 20
+point-size a = answer-size (pointAnswer a) 5 (count a)
+  where
+    count : (a : PointAnswer) → length (answerValues (pointAnswer a)) ≡ 5
+    count (point.Point p) = refl
+    count (point.Refused t) = refl
+
+pub coordinate-size : (a : CoordinateAnswer) → length (bytesOf (wordsOf (answerValues (coordinateAnswer a)))) ≡ 8
+coordinate-size a = answer-size (coordinateAnswer a) 2 (count a)
+  where
+    count : (a : CoordinateAnswer) → length (answerValues (coordinateAnswer a)) ≡ 2
+    count (coordinate.Coordinate c) = refl
+    count (coordinate.Refused t) = refl
 
 filled-length : (n : ℕ) (l : List ℕ) → length (filled n l) ≡ n
 filled-length zero l = refl
 filled-length (suc n) [] = ap suc (filled-length n [])
 filled-length (suc n) (x ∷ l) = ap suc (filled-length n l)
 
-pub record-size : (a : RecordAnswer) → length (bytesOf (wordsOf (valuesIn a))) ≡ 48
-unfolding bytesOf wordBytes
-record-size (answer.Record r) =
-    let e = bytes-length (wordsOf (filled valueCount (fieldsOf r))) in
-    let m = length-map (filled valueCount (fieldsOf r)) wordOf in
-    let l = filled-length valueCount (fieldsOf r) in
-    omega arith
-record-size (answer.Refused t) = refl
+pub record-size : (a : RecordAnswer) → length (bytesOf (wordsOf (answerValues (recordAnswer a)))) ≡ 48
+record-size a = answer-size (recordAnswer a) valueCount (count a)
+  where
+    count : (a : RecordAnswer) → length (answerValues (recordAnswer a)) ≡ valueCount
+    count (answer.Record r) = filled-length valueCount (fieldsOf r)
+    count (answer.Refused t) = refl
+
+pub routes-size : (a : RoutesAnswer) → length (bytesOf (wordsOf (answerValues (routesAnswer a)))) ≡ countsSize
+routes-size a = answer-size (routesAnswer a) 3 (count a)
+  where
+    count : (a : RoutesAnswer) → length (answerValues (routesAnswer a)) ≡ 3
+    count (listed.Listed t) = refl
+    count (listed.Refused t) = refl

@@ -1,8 +1,6 @@
--- The ways out of a question with an output, for any kind of answer: `number`, `place` and `values` are the paper's of an answer, `asked` is the
--- answer that is due, `got` the one that a function gave, and `way` the case that it was found to be.
+-- The ways out of a question with an output, once for every kind of answer.
 -- Assumes nothing.
-use Prim.Native.Nat.{ℕ, zero, suc, _*_, _≤_, _<_}
-use native.Mathlib.Omega.{arith}
+use Prim.Native.Nat.{ℕ, _*_, _≤_, _<_}
 use mathlib.Core.Path.{_≡_, refl, sym, ap, _∙_}
 use mathlib.Core.Bool.{Bool, true, false}
 use mathlib.Core.List.{List}
@@ -14,88 +12,72 @@ use Rattle.verdict.specs.declared.Reason.the-variants.{Room}
 use Rattle.verdict.specs.Reasons.{numberOf}
 use Rattle.verdict.specs.declared.Verdict.{Verdict}
 use Rattle.verdict.specs.declared.Verdict.the-variants as verdict
+use Rattle.verdict.specs.declared.Fault.{Fault}
+use Rattle.verdict.specs.Answers.{Answer, answered, refused, afterVerdict}
 use Rattle.application.specs.Facts.{verdictOf}
 use Rattle.walks.specs.declared.Tally.{Tally}
 use Rattle.routes.specs.declared.RoutesAnswer.{RoutesAnswer}
-use Rattle.routes.specs.declared.RoutesAnswer.the-variants.{Listed}
-use Rattle.routes.specs.Answered.{refusedFor, judged, answerAt, numberIn}
-use Rattle.yard.specs.Routes.{asked, routesOf}
+use Rattle.routes.specs.declared.RoutesAnswer.the-variants.{Listed, Refused}
+use Rattle.routes.specs.Answered.{refusedFor, judged, answerAt, routesAnswer}
+use Rattle.yard.specs.Routes.{routesOf}
 use Rattle.exports.specs.Words.{answerWord, valueSize, wordsOf, bytesOf}
-use Rattle.exports.specs.Shown.{shown, leaves, routesValues, routesShown, routesLeaves, countsSize, wordsLeft}
+use Rattle.exports.specs.Shown.{wordsShown, wordsLeave, shown, leaves, countsSize, wordsLeft}
 use Rattle.exports.proofs.Laid.{laid}
 
 -- ---- an answer with values
 
 module _ (words out : List ℕ) where
   module _ (h : length out < valueSize * length words) where
-    pub short-shown : (n : ℕ) → n ≡ numberOf Room → (r : ℕ) → r ≡ answerWord n 0 0 → r ≡ shown 0 0 words out
-    unfolding shown
+    pub short-shown : (n : ℕ) → n ≡ numberOf Room → (r : ℕ) → r ≡ answerWord n 0 0 → r ≡ wordsShown words out
+    unfolding wordsShown
     short-shown n k r e = e ∙ ap (λ (m : ℕ). answerWord m 0 0) k ∙ sym (rw (lt-ltb _ _ h) refl)
 
-    pub short-leaves : out ≡ leaves 0 words out
-    unfolding leaves
+    pub short-leaves : out ≡ wordsLeave words out
+    unfolding wordsLeave
     short-leaves = sym (rw (lt-ltb _ _ h) refl)
 
   module _ (h : valueSize * length words ≤ length out) where
-    pub room-shown : (r : ℕ) → r ≡ answerWord 0 0 0 → r ≡ shown 0 0 words out
-    unfolding shown
+    pub room-shown : (r : ℕ) → r ≡ answerWord 0 0 0 → r ≡ wordsShown words out
+    unfolding wordsShown
     room-shown r e = e ∙ sym (rw (le-ltb _ _ h) refl)
 
-    pub room-leaves : (out′ : List ℕ) → out′ ≡ sets out 0 (bytesOf words) → out′ ≡ leaves 0 words out
-    unfolding leaves
+    pub room-leaves : (out′ : List ℕ) → out′ ≡ sets out 0 (bytesOf words) → out′ ≡ wordsLeave words out
+    unfolding wordsLeave
     room-leaves out′ e = e ∙ laid words out h ∙ sym (rw (le-ltb _ _ h) refl)
 
--- ---- a refusal
+-- ---- a question: an answer of any kind, which `shape` makes the one shape. `asked` is the answer that is due, `got` the one that a function gave,
+-- and `way` the case that it was found to be
 
-refused-shown : (n place : ℕ) (words out : List ℕ) → 0 < n → answerWord n 0 place ≡ shown n place words out
-unfolding shown
-refused-shown zero place words out h = absurd (omega arith)
-refused-shown (suc n) place words out h = refl
+module _ {A : Type 0} (shape : A → Answer) {asked got way : A} (p : got ≡ asked) (e : got ≡ way) where
+  same : shape way ≡ shape asked
+  same = ap shape (sym e ∙ p)
 
-refused-leaves : (n : ℕ) (words out : List ℕ) → 0 < n → out ≡ leaves n words out
-unfolding leaves
-refused-leaves zero words out h = absurd (omega arith)
-refused-leaves (suc n) words out h = refl
+  pub values-shown :
+      (out : List ℕ) {values : List ℤ} → shape way ≡ answered values → {words : List ℕ} → words ≡ wordsOf values
+      → {r : ℕ} {out′ : List ℕ} → (r ≡ wordsShown words out) × (out′ ≡ wordsLeave words out)
+      → (r ≡ shown (shape asked) out) × (out′ ≡ leaves (shape asked) out)
+  values-shown out {values} v w s =
+      let a : answered values ≡ shape asked = sym v ∙ same in (
+        s .0 ∙ ap (λ (ws : List ℕ). wordsShown ws out) w ∙ ap (λ (x : Answer). shown x out) a,
+        s .1 ∙ ap (λ (ws : List ℕ). wordsLeave ws out) w ∙ ap (λ (x : Answer). leaves x out) a,
+      )
 
--- ---- a question
-
-module _ {A : Type 0} (number place : A → ℕ) (values : A → List ℤ) (asked got : A) (p : got ≡ asked) (way : A) (e : got ≡ way) (out : List ℕ) where
-  shownOf : A → ℕ
-  shownOf a = shown (number a) (place a) (wordsOf (values a)) out
-
-  leavesOf : A → List ℕ
-  leavesOf a = leaves (number a) (wordsOf (values a)) out
-
-  same : way ≡ asked
-  same = sym e ∙ p
-
-  module _ (words : List ℕ) (w : words ≡ wordsOf (values way)) where
-    pub answered : (r : ℕ) → r ≡ shown (number way) (place way) words out → r ≡ shown (number asked) (place asked) (wordsOf (values asked)) out
-    unfolding shownOf
-    answered r q = q ∙ ap (λ (ws : List ℕ). shown (number way) (place way) ws out) w ∙ ap shownOf same
-
-    pub written : (out′ : List ℕ) → out′ ≡ leaves (number way) words out → out′ ≡ leaves (number asked) (wordsOf (values asked)) out
-    unfolding leavesOf
-    written out′ q = q ∙ ap (λ (ws : List ℕ). leaves (number way) ws out) w ∙ ap leavesOf same
-
-  module _ (h : 0 < number way) where
-    pub refused : (r : ℕ) → r ≡ answerWord (number way) 0 (place way) → r ≡ shown (number asked) (place asked) (wordsOf (values asked)) out
-    unfolding shownOf
-    refused r q = q ∙ refused-shown (number way) (place way) (wordsOf (values way)) out h ∙ ap shownOf same
-
-    pub kept : out ≡ leaves (number asked) (wordsOf (values asked)) out
-    unfolding leavesOf
-    kept = refused-leaves (number way) (wordsOf (values way)) out h ∙ ap leavesOf same
+  pub fault-shown :
+      (out : List ℕ) {n : ℕ} {t : Fault} → shape way ≡ refused n t → {r : ℕ} → r ≡ answerWord (numberOf (t .reason)) 0 (t .place)
+      → (r ≡ shown (shape asked) out) × (out ≡ leaves (shape asked) out)
+  fault-shown out {n} {t} v s =
+      let a : refused n t ≡ shape asked = sym v ∙ same in
+      (s ∙ ap (λ (x : Answer). shown x out) a, ap (λ (x : Answer). leaves x out) a)
 
 -- ---- routes
 
 module _ (counts : List ℕ) (h : length counts < countsSize) where
-  short-room : (t : Tally) → routesShown (refusedFor Room) counts ≡ routesShown (Listed t) counts
-  unfolding shown
+  short-room : (t : Tally) → shown (routesAnswer (refusedFor Room)) counts ≡ shown (routesAnswer (Listed t)) counts
+  unfolding wordsShown
   short-room t = sym (rw (lt-ltb _ _ h) refl)
 
   -- the room has no say
-  rooms : (inside steps a b : Bool) (t : Tally) → routesShown (judged inside steps a t) counts ≡ routesShown (judged inside steps b t) counts
+  rooms : (inside steps a b : Bool) (t : Tally) → shown (routesAnswer (judged inside steps a t)) counts ≡ shown (routesAnswer (judged inside steps b t)) counts
   unfolding judged
   rooms false steps a b t = refl
   rooms true true a b t = refl
@@ -104,22 +86,21 @@ module _ (counts : List ℕ) (h : length counts < countsSize) where
   rooms true false false true t = sym (short-room t)
   rooms true false false false t = refl
 
-  by-verdict : (v : Verdict) (f : List ℕ) (start limit budget a b : ℕ) → routesShown (asked v f start limit budget a) counts ≡ routesShown (asked v f start limit budget b) counts
-  unfolding answerAt
-  by-verdict (verdict.Refused t) f start limit budget a b = refl
-  by-verdict verdict.Accepted f start limit budget a b = rooms _ _ _ _ _
+  after-same : (v : Verdict) (a b : RoutesAnswer) → shown (routesAnswer a) counts ≡ shown (routesAnswer b) counts → shown (routesAnswer (afterVerdict Refused v a)) counts ≡ shown (routesAnswer (afterVerdict Refused v b)) counts
+  after-same (verdict.Refused t) a b e = refl
+  after-same verdict.Accepted a b e = e
 
-  pub scrap-shown : (f : List ℕ) (start limit budget a b : ℕ) → routesShown (routesOf f start limit budget a) counts ≡ routesShown (routesOf f start limit budget b) counts
-  unfolding routesOf
-  scrap-shown f start limit budget a b = by-verdict (verdictOf f) f start limit budget a b
+  pub scrap-shown : (f : List ℕ) (start limit budget a b : ℕ) → shown (routesAnswer (routesOf f start limit budget a)) counts ≡ shown (routesAnswer (routesOf f start limit budget b)) counts
+  unfolding routesOf answerAt
+  scrap-shown f start limit budget a b = after-same (verdictOf f) _ _ (rooms _ _ _ _ _)
 
-  kept-anyhow : (n : ℕ) (a : RoutesAnswer) → leaves n (wordsOf (routesValues a)) counts ≡ counts
-  unfolding leaves
-  kept-anyhow zero a = rw (lt-ltb _ _ h) refl
-  kept-anyhow (suc n) a = refl
+  kept-anyhow : (a : RoutesAnswer) → leaves (routesAnswer a) counts ≡ counts
+  unfolding wordsLeave
+  kept-anyhow (Listed t) = rw (lt-ltb _ _ h) refl
+  kept-anyhow (Refused t) = refl
 
-  pub scrap-leaves : (a b : RoutesAnswer) → routesLeaves a counts ≡ routesLeaves b counts
-  scrap-leaves a b = kept-anyhow (numberIn a) a ∙ sym (kept-anyhow (numberIn b) b)
+  pub scrap-leaves : (a b : RoutesAnswer) → leaves (routesAnswer a) counts ≡ leaves (routesAnswer b) counts
+  scrap-leaves a b = kept-anyhow a ∙ sym (kept-anyhow b)
 
   pub scrap-words : (words listed : List ℕ) → words ≡ wordsLeft counts words listed
   unfolding wordsLeft

@@ -4,22 +4,29 @@ ghost use mathlib.Core.Path.{_≡_};
 ghost use Rattle.checksum.specs.Checksum.{checksumOf};
 ghost use Rattle.geography.specs.Facts as geography;
 ghost use Rattle.application.specs.Facts as application;
-ghost use Rattle.application.specs.Questions.{recordOf};
+ghost use Rattle.application.specs.Answers.{namedHeaderAnswer, recordAnswer};
+ghost use Rattle.application.specs.Questions.{namedHeaderOf, recordOf};
 ghost use Rattle.station.specs.Pair.{pairOf};
-ghost use Rattle.survey.specs.Questions.{trackOf, pointOf, coordinateAsked};
+ghost use Rattle.survey.specs.Answers.{headerAnswer, trackAnswer, pointAnswer, coordinateAnswer};
+ghost use Rattle.survey.specs.Questions.{headerOf, trackOf, pointOf, coordinateAsked};
 ghost use Rattle.walks.specs.Lent.{roomOf};
+ghost use Rattle.routes.specs.Answered.{routesAnswer};
 ghost use Rattle.yard.specs.Routes.{routesOf, leftOf};
-ghost use Rattle.exports.specs.Shown.{verdictShown, pairShown, trackShown, trackLeaves, pointShown, pointLeaves, coordinateShown, coordinateLeaves, recordShown, recordLeaves, routesShown, routesLeaves, wordsLeft};
+ghost use Rattle.exports.specs.Shown.{verdictShown, pairShown, shown, leaves, wordsLeft};
 
 mod values;
 mod words;
 
+use application::NamedHeaderAnswer;
 use application::RecordAnswer;
 use routes::RoutesAnswer;
 use survey::CoordinateAnswer;
+use survey::HeaderAnswer;
 use survey::PointAnswer;
 use survey::TrackAnswer;
 use values::coordinate_words;
+use values::header_words;
+use values::named_header_words;
 use values::point_words;
 use values::record_words;
 use values::routes_words;
@@ -64,11 +71,35 @@ pub extern "C" fn yard_pair(first: &[u8], second: &[u8]) -> u64
     answer(v.number(), v.file(), v.place())
 }
 
+// The header of an X.1.
+#[no_mangle]
+pub extern "C" fn yard_header1(file: &[u8], out: &mut [u8]) -> u64
+    ensures { λ r. ⌜ r ≡ shown (headerAnswer (headerOf (now (file .entry)))) (now (out .entry)) ⌝ }
+    ensures { λ _. ⌜ now (out .exit) ≡ leaves (headerAnswer (headerOf (now (file .entry)))) (now (out .entry)) ⌝ }
+{
+    match survey::header(file) {
+        HeaderAnswer::Header(h) => show(&header_words(h), out),
+        HeaderAnswer::Refused(fault) => refused(fault),
+    }
+}
+
+// The header of an X.2.
+#[no_mangle]
+pub extern "C" fn yard_header2(file: &[u8], out: &mut [u8]) -> u64
+    ensures { λ r. ⌜ r ≡ shown (namedHeaderAnswer (namedHeaderOf (now (file .entry)))) (now (out .entry)) ⌝ }
+    ensures { λ _. ⌜ now (out .exit) ≡ leaves (namedHeaderAnswer (namedHeaderOf (now (file .entry)))) (now (out .entry)) ⌝ }
+{
+    match application::header(file) {
+        NamedHeaderAnswer::Header(h) => show(&named_header_words(h), out),
+        NamedHeaderAnswer::Refused(fault) => refused(fault),
+    }
+}
+
 // The track of an index.
 #[no_mangle]
 pub extern "C" fn yard_track(file: &[u8], index: usize, out: &mut [u8]) -> u64
-    ensures { λ r. ⌜ r ≡ trackShown (trackOf (now (file .entry)) index) (now (out .entry)) ⌝ }
-    ensures { λ _. ⌜ now (out .exit) ≡ trackLeaves (trackOf (now (file .entry)) index) (now (out .entry)) ⌝ }
+    ensures { λ r. ⌜ r ≡ shown (trackAnswer (trackOf (now (file .entry)) index)) (now (out .entry)) ⌝ }
+    ensures { λ _. ⌜ now (out .exit) ≡ leaves (trackAnswer (trackOf (now (file .entry)) index)) (now (out .entry)) ⌝ }
 {
     match survey::track(file, index) {
         TrackAnswer::Track(t) => show(&track_words(t), out),
@@ -79,8 +110,8 @@ pub extern "C" fn yard_track(file: &[u8], index: usize, out: &mut [u8]) -> u64
 // The point of an index in the track of an index.
 #[no_mangle]
 pub extern "C" fn yard_point(file: &[u8], track: usize, index: usize, out: &mut [u8]) -> u64
-    ensures { λ r. ⌜ r ≡ pointShown (pointOf (now (file .entry)) track index) (now (out .entry)) ⌝ }
-    ensures { λ _. ⌜ now (out .exit) ≡ pointLeaves (pointOf (now (file .entry)) track index) (now (out .entry)) ⌝ }
+    ensures { λ r. ⌜ r ≡ shown (pointAnswer (pointOf (now (file .entry)) track index)) (now (out .entry)) ⌝ }
+    ensures { λ _. ⌜ now (out .exit) ≡ leaves (pointAnswer (pointOf (now (file .entry)) track index)) (now (out .entry)) ⌝ }
 {
     match survey::point(file, track, index) {
         PointAnswer::Point(p) => show(&point_words(p), out),
@@ -96,8 +127,8 @@ pub extern "C" fn yard_coordinate(
     position: usize,
     out: &mut [u8],
 ) -> u64
-    ensures { λ r. ⌜ r ≡ coordinateShown (coordinateAsked (now (file .entry)) number position) (now (out .entry)) ⌝ }
-    ensures { λ _. ⌜ now (out .exit) ≡ coordinateLeaves (coordinateAsked (now (file .entry)) number position) (now (out .entry)) ⌝ }
+    ensures { λ r. ⌜ r ≡ shown (coordinateAnswer (coordinateAsked (now (file .entry)) number position)) (now (out .entry)) ⌝ }
+    ensures { λ _. ⌜ now (out .exit) ≡ leaves (coordinateAnswer (coordinateAsked (now (file .entry)) number position)) (now (out .entry)) ⌝ }
 {
     match survey::coordinate(file, number, position) {
         CoordinateAnswer::Coordinate(c) => show(&coordinate_words(c), out),
@@ -108,8 +139,8 @@ pub extern "C" fn yard_coordinate(
 // The record that starts at a place.
 #[no_mangle]
 pub extern "C" fn yard_record(file: &[u8], offset: usize, out: &mut [u8]) -> u64
-    ensures { λ r. ⌜ r ≡ recordShown (recordOf (now (file .entry)) offset) (now (out .entry)) ⌝ }
-    ensures { λ _. ⌜ now (out .exit) ≡ recordLeaves (recordOf (now (file .entry)) offset) (now (out .entry)) ⌝ }
+    ensures { λ r. ⌜ r ≡ shown (recordAnswer (recordOf (now (file .entry)) offset)) (now (out .entry)) ⌝ }
+    ensures { λ _. ⌜ now (out .exit) ≡ leaves (recordAnswer (recordOf (now (file .entry)) offset)) (now (out .entry)) ⌝ }
 {
     match application::record_at(file, offset) {
         RecordAnswer::Record(r) => show(&record_words(r), out),
@@ -119,8 +150,8 @@ pub extern "C" fn yard_record(file: &[u8], offset: usize, out: &mut [u8]) -> u64
 
 // Answers with the counts of a list of routes, or says why there is none.
 fn show_counts(a: RoutesAnswer, counts: &mut [u8]) -> u64
-    ensures { λ r. ⌜ r ≡ routesShown a (now (counts .entry)) ⌝ }
-    ensures { λ _. ⌜ now (counts .exit) ≡ routesLeaves a (now (counts .entry)) ⌝ }
+    ensures { λ r. ⌜ r ≡ shown (routesAnswer a) (now (counts .entry)) ⌝ }
+    ensures { λ _. ⌜ now (counts .exit) ≡ leaves (routesAnswer a) (now (counts .entry)) ⌝ }
 {
     match a {
         RoutesAnswer::Listed(t) => show(&routes_words(t), counts),
@@ -139,8 +170,8 @@ pub extern "C" fn yard_routes(
     counts: &mut [u8],
     words: &mut [u8],
 ) -> u64
-    ensures { λ r. ⌜ r ≡ routesShown (routesOf (now (file .entry)) start limit budget (roomOf (now (words .entry)))) (now (counts .entry)) ⌝ }
-    ensures { λ _. ⌜ now (counts .exit) ≡ routesLeaves (routesOf (now (file .entry)) start limit budget (roomOf (now (words .entry)))) (now (counts .entry)) ⌝ }
+    ensures { λ r. ⌜ r ≡ shown (routesAnswer (routesOf (now (file .entry)) start limit budget (roomOf (now (words .entry))))) (now (counts .entry)) ⌝ }
+    ensures { λ _. ⌜ now (counts .exit) ≡ leaves (routesAnswer (routesOf (now (file .entry)) start limit budget (roomOf (now (words .entry))))) (now (counts .entry)) ⌝ }
     ensures { λ _. ⌜ now (words .exit) ≡ wordsLeft (now (counts .entry)) (now (words .entry)) (leftOf (now (file .entry)) start limit budget (now (words .entry))) ⌝ }
 {
     if counts.len() < COUNTS_SIZE {

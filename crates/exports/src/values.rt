@@ -1,13 +1,14 @@
 // The values of each answer, in the order of their definitions.
 ghost use mathlib.Core.Path.{_≡_};
 ghost use mathlib.Core.List.{_∷_};
-ghost use Rattle.survey.specs.Answers.{trackValuesIn, pointValuesIn, coordinateValuesIn};
-ghost use Rattle.application.specs.Questions.{valueCount, boundaryFields, filled, valuesIn};
+ghost use Rattle.seal.specs.Header.{headerValues};
+ghost use Rattle.survey.specs.Answers.{trackValues, pointValues, coordinateValues};
+ghost use Rattle.application.specs.Answers.{namedHeaderValues, valueCount, boundaryFields, filled, recordValues};
+ghost use Rattle.routes.specs.Answered.{tallyValues};
 ghost use Rattle.exports.specs.Words.{wordsOf};
-ghost use Rattle.exports.specs.Shown.{routesValues};
 use crate::words::signed_word;
 use crate::words::word;
-use application::RecordAnswer;
+use application::NamedHeader;
 use records::Balise;
 use records::Boundary;
 use records::Joint;
@@ -15,17 +16,18 @@ use records::Record;
 use records::Siding;
 use records::Signal;
 use records::Turnout;
-use routes::RoutesAnswer;
+use seal::Header;
 use survey::Coordinate;
-use survey::CoordinateAnswer;
-use survey::PointAnswer;
-use survey::TrackAnswer;
 use tracks::Point;
 use tracks::Track;
 use walks::Tally;
 
 // How many values an answer has.
-pub const TRACK_VALUES: usize = 9;
+pub const HEADER_VALUES: usize = 3;
+
+pub const NAMED_HEADER_VALUES: usize = 5;
+
+pub const TRACK_VALUES: usize = 11;
 
 pub const POINT_VALUES: usize = 5;
 
@@ -50,9 +52,30 @@ const JOINT: usize = 6;
 
 const SIDING: usize = 7;
 
+// The header that both files have alike.
+pub fn header_words(h: Header) -> [u32; HEADER_VALUES]
+    ensures { λ r. ⌜ r ≡ wordsOf (headerValues h) ⌝ }
+{
+    [word(h.structure), word(h.data), word(h.station)]
+}
+
+// The header of an X.2 file, with the place of the station's name and how many bytes it has.
+pub fn named_header_words(h: NamedHeader) -> [u32; NAMED_HEADER_VALUES]
+    ensures { λ r. ⌜ r ≡ wordsOf (namedHeaderValues h) ⌝ }
+{
+    let header = h.header;
+    [
+        word(header.structure),
+        word(header.data),
+        word(header.station),
+        word(h.name),
+        word(h.name_bytes),
+    ]
+}
+
 // A track.
 pub fn track_words(t: Track) -> [u32; TRACK_VALUES]
-    ensures { λ r. ⌜ r ≡ wordsOf (trackValuesIn (TrackAnswer.Track t)) ⌝ }
+    ensures { λ r. ⌜ r ≡ wordsOf (trackValues t) ⌝ }
 {
     [
         word(t.number),
@@ -63,13 +86,15 @@ pub fn track_words(t: Track) -> [u32; TRACK_VALUES]
         word(t.end_position),
         signed_word(t.end_latitude),
         signed_word(t.end_longitude),
+        word(t.first),
+        word(t.last),
         word(t.points()),
     ]
 }
 
 // A point.
 pub fn point_words(p: Point) -> [u32; POINT_VALUES]
-    ensures { λ r. ⌜ r ≡ wordsOf (pointValuesIn (PointAnswer.Point p)) ⌝ }
+    ensures { λ r. ⌜ r ≡ wordsOf (pointValues p) ⌝ }
 {
     [
         word(p.position),
@@ -82,7 +107,7 @@ pub fn point_words(p: Point) -> [u32; POINT_VALUES]
 
 // A coordinate.
 pub fn coordinate_words(c: Coordinate) -> [u32; COORDINATE_VALUES]
-    ensures { λ r. ⌜ r ≡ wordsOf (coordinateValuesIn (CoordinateAnswer.Coordinate c)) ⌝ }
+    ensures { λ r. ⌜ r ≡ wordsOf (coordinateValues c) ⌝ }
 {
     [signed_word(c.latitude), signed_word(c.longitude)]
 }
@@ -109,7 +134,7 @@ fn boundary_words(kind: usize, b: Boundary) -> [u32; RECORD_VALUES]
 
 // A turnout.
 fn turnout_words(t: Turnout) -> [u32; RECORD_VALUES]
-    ensures { λ r. ⌜ r ≡ wordsOf (valuesIn (RecordAnswer.Record (Record.Turnout t))) ⌝ }
+    ensures { λ r. ⌜ r ≡ wordsOf (recordValues (Record.Turnout t)) ⌝ }
 {
     let direction = t.direction;
     [
@@ -130,7 +155,7 @@ fn turnout_words(t: Turnout) -> [u32; RECORD_VALUES]
 
 // A balise.
 fn balise_words(b: Balise) -> [u32; RECORD_VALUES]
-    ensures { λ r. ⌜ r ≡ wordsOf (valuesIn (RecordAnswer.Record (Record.Balise b))) ⌝ }
+    ensures { λ r. ⌜ r ≡ wordsOf (recordValues (Record.Balise b)) ⌝ }
 {
     let nature = b.nature;
     let way = b.direction;
@@ -152,7 +177,7 @@ fn balise_words(b: Balise) -> [u32; RECORD_VALUES]
 
 // A signal.
 fn signal_words(s: Signal) -> [u32; RECORD_VALUES]
-    ensures { λ r. ⌜ r ≡ wordsOf (valuesIn (RecordAnswer.Record (Record.Signal s))) ⌝ }
+    ensures { λ r. ⌜ r ≡ wordsOf (recordValues (Record.Signal s)) ⌝ }
 {
     let facing = s.direction;
     let duty = s.duty;
@@ -174,7 +199,7 @@ fn signal_words(s: Signal) -> [u32; RECORD_VALUES]
 
 // A joint.
 fn joint_words(j: Joint) -> [u32; RECORD_VALUES]
-    ensures { λ r. ⌜ r ≡ wordsOf (valuesIn (RecordAnswer.Record (Record.Joint j))) ⌝ }
+    ensures { λ r. ⌜ r ≡ wordsOf (recordValues (Record.Joint j)) ⌝ }
 {
     [
         word(JOINT),
@@ -194,7 +219,7 @@ fn joint_words(j: Joint) -> [u32; RECORD_VALUES]
 
 // A siding.
 fn siding_words(s: Siding) -> [u32; RECORD_VALUES]
-    ensures { λ r. ⌜ r ≡ wordsOf (valuesIn (RecordAnswer.Record (Record.Siding s))) ⌝ }
+    ensures { λ r. ⌜ r ≡ wordsOf (recordValues (Record.Siding s)) ⌝ }
 {
     [
         word(SIDING),
@@ -214,7 +239,7 @@ fn siding_words(s: Siding) -> [u32; RECORD_VALUES]
 
 // A record: its kind, its fields, and zeros up to so many values.
 pub fn record_words(record: Record) -> [u32; RECORD_VALUES]
-    ensures { λ r. ⌜ r ≡ wordsOf (valuesIn (RecordAnswer.Record «record»)) ⌝ }
+    ensures { λ r. ⌜ r ≡ wordsOf (recordValues «record») ⌝ }
 {
     match record {
         Record::StartBoundary(b) => boundary_words(START_BOUNDARY, b),
@@ -229,7 +254,7 @@ pub fn record_words(record: Record) -> [u32; RECORD_VALUES]
 
 // The counts of a list of routes.
 pub fn routes_words(t: Tally) -> [u32; ROUTES_VALUES]
-    ensures { λ r. ⌜ r ≡ wordsOf (routesValues (RoutesAnswer.Listed t)) ⌝ }
+    ensures { λ r. ⌜ r ≡ wordsOf (tallyValues t) ⌝ }
 {
     [word(t.routes), word(t.words), word(t.walks)]
 }

@@ -6,7 +6,7 @@ ghost use lib.ListN.{length};
 ghost use lib.Seq.{sets};
 ghost use Rattle.verdict.specs.Reasons.{numberOf};
 ghost use Rattle.exports.specs.Words.{answerWord, valueSize, wordOf, wordBytes, bytesOf};
-ghost use Rattle.exports.specs.Shown.{shown, leaves};
+ghost use Rattle.exports.specs.Shown.{wordsShown, wordsLeave};
 use octets::distance;
 use verdict::Fault;
 use verdict::Reason;
@@ -93,8 +93,8 @@ fn lay(words: &[u32], out: &mut [u8])
 
 // Answers with values: they are put at the start of the output, or refused with 15 where it is too short.
 pub fn show(words: &[u32], out: &mut [u8]) -> u64
-    ensures { λ r. ⌜ r ≡ shown 0 0 (now (words .entry)) (now (out .entry)) ⌝ }
-    ensures { λ _. ⌜ now (out .exit) ≡ leaves 0 (now (words .entry)) (now (out .entry)) ⌝ }
+    ensures { λ r. ⌜ r ≡ wordsShown (now (words .entry)) (now (out .entry)) ⌝ }
+    ensures { λ _. ⌜ now (out .exit) ≡ wordsLeave (now (words .entry)) (now (out .entry)) ⌝ }
 {
     if out.len() / VALUE_SIZE < words.len() {
         let reason = Reason::Room;

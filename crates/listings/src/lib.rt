@@ -2,10 +2,11 @@
 // the offsets of its objects. The answers are those of crate yard; here they become text.
 ghost use mathlib.Core.Path.{_≡_};
 ghost use Prim.Native.Nat.{min};
-ghost use Rattle.verdict.specs.Reasons as reasons;
+ghost use Rattle.verdict.specs.Reasons.{numberIn};
+ghost use Rattle.verdict.specs.Answers.{answerNumber};
 ghost use Rattle.application.specs.Facts.{verdictOf};
 ghost use Rattle.walks.specs.Lent.{roomOf};
-ghost use Rattle.routes.specs.Answered.{numberIn};
+ghost use Rattle.routes.specs.Answered.{routesAnswer};
 ghost use Rattle.yard.specs.Routes.{routesOf};
 use layout::ENTRY_OFFSET;
 use layout::ENTRY_SIZE;
@@ -79,7 +80,7 @@ fn tally_lines(t: Tally, lent: &[u8]) {
 
 // The question routes, with the bytes that are lent. It answers the number of the answer.
 fn answer_lines(f: &[u8], start: usize, limit: usize, budget: usize, lent: &mut [u8]) -> usize
-    ensures { λ r. ⌜ r ≡ numberIn (routesOf (now (f .entry)) start limit budget (roomOf (now (lent .entry)))) ⌝ }
+    ensures { λ r. ⌜ r ≡ answerNumber (routesAnswer (routesOf (now (f .entry)) start limit budget (roomOf (now (lent .entry))))) ⌝ }
 {
     let answer = yard::routes(f, start, limit, budget, lent);
     let n = answer.number();
@@ -93,7 +94,7 @@ fn answer_lines(f: &[u8], start: usize, limit: usize, budget: usize, lent: &mut 
 
 // The question routes, with room for as many words. It answers the number of the answer, 0 where the routes are listed.
 pub fn routes(f: &[u8], start: usize, limit: usize, budget: usize, room: usize) -> usize
-    ensures { λ r. ⌜ r ≡ numberIn (routesOf (now (f .entry)) start limit budget (min room 65535)) ⌝ }
+    ensures { λ r. ⌜ r ≡ answerNumber (routesAnswer (routesOf (now (f .entry)) start limit budget (min room 65535))) ⌝ }
 {
     let mut bytes = [0u8; MOST_BYTES];
     let lent = WORD_SIZE * least(room, MOST_ROOM);
@@ -123,7 +124,7 @@ fn start_lines(f: &[u8], l: Layout, start: usize) {
 // The list of a station: the verdict of its X.2 file and, where that is accepted, the routes from each start boundary, in the header's order.
 // It answers the number of the verdict.
 pub fn list(f: &[u8]) -> usize
-    ensures { λ r. ⌜ r ≡ reasons.numberIn (verdictOf (now (f .entry))) ⌝ }
+    ensures { λ r. ⌜ r ≡ numberIn (verdictOf (now (f .entry))) ⌝ }
 {
     let v = application::verdict_of(f);
     let number = v.number();

@@ -1,14 +1,15 @@
 -- What the name rules say, in plain facts: a name's claim holds exactly where the record of its facts does. The record's number is the
 -- one that is counted, since no byte before it is 0 and the next one is.
 -- Assumes nothing.
-use Prim.Native.Nat.{ℕ, _*_, _≤_, _<_}
+use Prim.Native.Nat.{ℕ, _+_, _*_, _/_, _%_, _≤_, _<_}
 use mathlib.Core.Path.{_≡_}
 use mathlib.Core.List.{List}
-use mathlib.Core.Logic.{_↔_}
+use mathlib.Core.Logic.{_↔_, _⊎_, inl, inr, ⊎-elim}
 use native.Mathlib.Nat.{le-refl, one-mul}
 use native.Mathlib.Omega.{arith}
 use Rattle.verdict.specs.Facts.{Holds}
-use Rattle.names.specs.Names.{byteBehind, bytesBetween, zeros, lead, Counted, nameLength, objectName, ObjectName, codeCount, codeAt, codes, stationName, StationName}
+use Rattle.verdict.proofs.Orders.{le-or-lt}
+use Rattle.names.specs.Names.{byteBehind, bytesBetween, zeros, lead, Counted, nameLength, objectName, ObjectName, codeCount, stationNameLength, codeAt, codes, stationName, StationName}
 use Rattle.names.proofs.Counts.{lead-most, lead-is, each-number}
 
 -- ---- bytes
@@ -79,3 +80,26 @@ station-name-iff f p = (
     (codes-iff f p (r .count) .1 (λ k z l. (r .first k l, r .second k l)), zeros-iff f p (2 * r .count) 16 .1 (r .rest)),
   ),
 )
+
+-- a byte of a code is not 0
+code-byte : {f : List ℕ} {p : ℕ} (r : StationName f p) (k : ℕ) → k < 2 * r .count → byteBehind f p k ≡ 0 → ⊥
+code-byte {f} {p} r k h z = by-half (le-or-lt 1 (k % 2))
+  where
+    by-half : (1 ≤ k % 2) ⊎ (k % 2 < 1) → ⊥
+    by-half (inl o) =
+        let e : k ≡ 2 * (k / 2) + 1 = omega arith in
+        let y = rw e at z in
+        ⊎-elim (λ b. omega (arith, y, b .0)) (λ b. omega (arith, y, b .0)) (r .second (k / 2) (omega arith))
+    by-half (inr o) =
+        let e : k ≡ 2 * (k / 2) = omega arith in
+        let y = rw e at z in
+        let b = r .first (k / 2) (omega arith) .0 in
+        omega (arith, y, b)
+
+-- THEOREM: a station's name ends where its closing zeros begin: a byte of the sixteen is 0 exactly where the name's length is passed.
+pub station-name-ends : {f : List ℕ} {p : ℕ} → StationName f p → (k : ℕ) → k < 16 → (byteBehind f p k ≡ 0) ↔ (stationNameLength f p ≤ k)
+station-name-ends {f} {p} r k h =
+    let n = station-name-count r in (
+      λ z. ⊎-elim (λ (g : stationNameLength f p ≤ k). g) (λ (g : k < stationNameLength f p). absurd (code-byte r k (omega arith) z)) (le-or-lt (stationNameLength f p) k),
+      λ g. r .rest k (omega arith) h,
+    )

@@ -89,6 +89,10 @@ pub record ObjectName (f : List ℕ) (p least : ℕ) : Type 0 where
 unfoldable pub codeCount : List ℕ → ℕ → ℕ
 codeCount f p = lead (λ k. byteBehind f p (2 * k)) stationCodes
 
+-- how many bytes the name at p has, without its closing zeros
+abbrev pub stationNameLength : List ℕ → ℕ → ℕ
+stationNameLength f p = 2 * codeCount f p
+
 -- two bytes are a code: the first 0x81 to 0xFE, the second 0x40 to 0x7E or 0x80 to 0xFE
 abbrev pub isCode : ℕ → ℕ → Claim
 isCode a b = both (liesBetween 0x81 0xFE a) (either (liesBetween 0x40 0x7E b) (liesBetween 0x80 0xFE b))
@@ -103,7 +107,7 @@ codes f p n = every (numbers 0 n) (λ k. codeAt f p k)
 
 -- one to eight codes, then zeros up to the sixteenth byte
 unfoldable pub stationName : List ℕ → ℕ → Claim
-stationName f p = both (atMost 1 (codeCount f p)) (both (codes f p (codeCount f p)) (zeros f p (2 * codeCount f p) stationBytes))
+stationName f p = both (atMost 1 (codeCount f p)) (both (codes f p (codeCount f p)) (zeros f p (stationNameLength f p) stationBytes))
 
 -- the same in plain facts: the name has `count` codes
 pub record StationName (f : List ℕ) (p : ℕ) : Type 0 where

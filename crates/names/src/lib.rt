@@ -5,7 +5,7 @@ ghost use mathlib.Core.List.{[], _∷_};
 ghost use Prim.Native.Nat.{_*_, _-_, min, _≤_};
 ghost use lib.ListN.{length};
 ghost use Rattle.verdict.specs.Facts.{judge, test};
-ghost use Rattle.names.specs.Names.{objectBytes, stationCodes, byteBehind, zeros, lead, Counted, nameLength, codeCount, isCode, codes, objectNameFact, stationNameFact};
+ghost use Rattle.names.specs.Names.{objectBytes, stationCodes, byteBehind, zeros, lead, Counted, nameLength, codeCount, stationBytes, stationNameLength, isCode, codes, objectNameFact, stationNameFact};
 ghost use Rattle.names.specs.Letters.{Letters};
 use octets::byte_behind;
 use verdict::Judged;
@@ -68,6 +68,13 @@ fn code_count(f: &[u8], place: usize) -> usize
     ensures { λ r. ⌜ Counted (codeCount (now (f .entry)) place) stationCodes r ⌝ }
 {
     steps(f, place, CODE_BYTES, STATION_CODES)
+}
+
+// How many bytes the name of a station at a place has, without its closing zeros.
+pub fn station_name_length(f: &[u8], place: usize) -> usize
+    ensures { λ r. ⌜ Counted (stationNameLength (now (f .entry)) place) stationBytes r ⌝ }
+{
+    CODE_BYTES * code_count(f, place)
 }
 
 // How many of so many bytes at a place lie inside the file.

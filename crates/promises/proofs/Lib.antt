@@ -1,3 +1,4 @@
+pub mod Equations
 pub mod OfVerdict
 pub mod OfOctets
 pub mod OfRules

@@ -1,19 +1,25 @@
 -- Each public function of crate application: what its own contract allows is one answer.
 -- Assumes nothing.
-use mathlib.Core.Path.{_≡_, refl, sym, _∙_}
+use mathlib.Core.Path.{refl}
 use Rattle.promises.specs.Determined.{Determined}
+use Rattle.promises.proofs.Equations.{by-equation}
 use Rattle.application.proofs.first_fault.Kinds as first-fault-kinds
 use Rattle.application.proofs.first_fault.Reads as first-fault-reads
 use Rattle.application.proofs.verdict_of.Kinds as verdict-of-kinds
 use Rattle.application.proofs.verdict_of.Reads as verdict-of-reads
 use Rattle.application.proofs.record_at.Kinds as record-at-kinds
 use Rattle.application.proofs.record_at.Reads as record-at-reads
+use Rattle.application.proofs.header.Kinds as header-kinds
+use Rattle.application.proofs.header.Reads as header-reads
 
 pub first-fault-determined : Determined 1 first-fault-kinds.ps first-fault-kinds.r first-fault-reads.Pre first-fault-reads.Post
-first-fault-determined κs a = (tt, λ x y v w p q. (p ∙ sym q, refl))
+first-fault-determined κs a = by-equation (λ v w. refl)
 
 pub verdict-of-determined : Determined 1 verdict-of-kinds.ps verdict-of-kinds.r verdict-of-reads.Pre verdict-of-reads.Post
-verdict-of-determined κs a = (tt, λ x y v w p q. (p ∙ sym q, refl))
+verdict-of-determined κs a = by-equation (λ v w. refl)
 
 pub record-at-determined : Determined 1 record-at-kinds.ps record-at-kinds.r record-at-reads.Pre record-at-reads.Post
-record-at-determined κs a = (tt, λ x y v w p q. (p ∙ sym q, refl))
+record-at-determined κs a = by-equation (λ v w. refl)
+
+pub header-determined : Determined 1 header-kinds.ps header-kinds.r header-reads.Pre header-reads.Post
+header-determined κs a = by-equation (λ v w. refl)

@@ -1,9 +1,10 @@
 -- Each public function of crate exports: what its own contract allows is one answer.
 -- Assumes nothing.
-use mathlib.Core.Path.{_≡_, refl, sym, ap, ap₂, _∙_}
+use mathlib.Core.Path.{refl, sym, ap, ap₂, _∙_}
 use mathlib.Core.List.{List}
 use Prim.Native.Nat.{ℕ}
 use Rattle.promises.specs.Determined.{Determined}
+use Rattle.promises.proofs.Equations.{by-equation}
 use Rattle.exports.proofs.yard_checksum.Kinds as yard-checksum-kinds
 use Rattle.exports.proofs.yard_checksum.Reads as yard-checksum-reads
 use Rattle.exports.proofs.yard_x1.Kinds as yard-x1-kinds
@@ -22,18 +23,22 @@ use Rattle.exports.proofs.yard_record.Kinds as yard-record-kinds
 use Rattle.exports.proofs.yard_record.Reads as yard-record-reads
 use Rattle.exports.proofs.yard_routes.Kinds as yard-routes-kinds
 use Rattle.exports.proofs.yard_routes.Reads as yard-routes-reads
+use Rattle.exports.proofs.yard_header1.Kinds as yard-header1-kinds
+use Rattle.exports.proofs.yard_header1.Reads as yard-header1-reads
+use Rattle.exports.proofs.yard_header2.Kinds as yard-header2-kinds
+use Rattle.exports.proofs.yard_header2.Reads as yard-header2-reads
 
 pub yard-checksum-determined : Determined 1 yard-checksum-kinds.ps yard-checksum-kinds.r yard-checksum-reads.Pre yard-checksum-reads.Post
-yard-checksum-determined κs a = (tt, λ x y v w p q. (p ∙ sym q, refl))
+yard-checksum-determined κs a = by-equation (λ v w. refl)
 
 pub yard-x1-determined : Determined 1 yard-x1-kinds.ps yard-x1-kinds.r yard-x1-reads.Pre yard-x1-reads.Post
-yard-x1-determined κs a = (tt, λ x y v w p q. (p ∙ sym q, refl))
+yard-x1-determined κs a = by-equation (λ v w. refl)
 
 pub yard-x2-determined : Determined 1 yard-x2-kinds.ps yard-x2-kinds.r yard-x2-reads.Pre yard-x2-reads.Post
-yard-x2-determined κs a = (tt, λ x y v w p q. (p ∙ sym q, refl))
+yard-x2-determined κs a = by-equation (λ v w. refl)
 
 pub yard-pair-determined : Determined 2 yard-pair-kinds.ps yard-pair-kinds.r yard-pair-reads.Pre yard-pair-reads.Post
-yard-pair-determined κs a = (tt, λ x y v w p q. (p ∙ sym q, refl))
+yard-pair-determined κs a = by-equation (λ v w. refl)
 
 pub yard-track-determined : Determined 2 yard-track-kinds.ps yard-track-kinds.r yard-track-reads.Pre yard-track-reads.Post
 yard-track-determined κs a = (tt, λ x y v w p q. (p .0 ∙ sym (q .0), ap (λ (l : List ℕ). (tt, (tt, (l, tt)))) (p .1 ∙ sym (q .1))))
@@ -49,3 +54,9 @@ yard-record-determined κs a = (tt, λ x y v w p q. (p .0 ∙ sym (q .0), ap (λ
 
 pub yard-routes-determined : Determined 3 yard-routes-kinds.ps yard-routes-kinds.r yard-routes-reads.Pre yard-routes-reads.Post
 yard-routes-determined κs a = (tt, λ x y v w p q. (p .0 ∙ sym (q .0), ap₂ (λ (l m : List ℕ). (tt, (tt, (tt, (tt, (l, (m, tt))))))) (p .1 .0 ∙ sym (q .1 .0)) (p .1 .1 ∙ sym (q .1 .1))))
+
+pub yard-header1-determined : Determined 2 yard-header1-kinds.ps yard-header1-kinds.r yard-header1-reads.Pre yard-header1-reads.Post
+yard-header1-determined κs a = (tt, λ x y v w p q. (p .0 ∙ sym (q .0), ap (λ (l : List ℕ). (tt, (l, tt))) (p .1 ∙ sym (q .1))))
+
+pub yard-header2-determined : Determined 2 yard-header2-kinds.ps yard-header2-kinds.r yard-header2-reads.Pre yard-header2-reads.Post
+yard-header2-determined κs a = (tt, λ x y v w p q. (p .0 ∙ sym (q .0), ap (λ (l : List ℕ). (tt, (l, tt))) (p .1 ∙ sym (q .1))))

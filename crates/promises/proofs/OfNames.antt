@@ -1,19 +1,25 @@
 -- Each public function of crate names: what its own contract allows is one answer.
 -- Assumes nothing.
-use mathlib.Core.Path.{_≡_, refl, sym, _∙_}
+use mathlib.Core.Path.{refl}
 use Rattle.promises.specs.Determined.{Determined}
+use Rattle.promises.proofs.Equations.{by-equation, by-part}
 use Rattle.names.proofs.name_length.Kinds as name-length-kinds
 use Rattle.names.proofs.name_length.Reads as name-length-reads
 use Rattle.names.proofs.object_name.Kinds as object-name-kinds
 use Rattle.names.proofs.object_name.Reads as object-name-reads
 use Rattle.names.proofs.station_name.Kinds as station-name-kinds
 use Rattle.names.proofs.station_name.Reads as station-name-reads
+use Rattle.names.proofs.station_name_length.Kinds as station-name-length-kinds
+use Rattle.names.proofs.station_name_length.Reads as station-name-length-reads
 
 pub name-length-determined : Determined 1 name-length-kinds.ps name-length-kinds.r name-length-reads.Pre name-length-reads.Post
-name-length-determined κs a = (tt, λ x y v w p q. (p .is ∙ sym (q .is), refl))
+name-length-determined κs a = by-part (λ x p. p .is) (λ v w. refl)
 
 pub object-name-determined : Determined 1 object-name-kinds.ps object-name-kinds.r object-name-reads.Pre object-name-reads.Post
-object-name-determined κs a = (tt, λ x y v w p q. (p ∙ sym q, refl))
+object-name-determined κs a = by-equation (λ v w. refl)
 
 pub station-name-determined : Determined 1 station-name-kinds.ps station-name-kinds.r station-name-reads.Pre station-name-reads.Post
-station-name-determined κs a = (tt, λ x y v w p q. (p ∙ sym q, refl))
+station-name-determined κs a = by-equation (λ v w. refl)
+
+pub station-name-length-determined : Determined 1 station-name-length-kinds.ps station-name-length-kinds.r station-name-length-reads.Pre station-name-length-reads.Post
+station-name-length-determined κs a = by-part (λ x p. p .is) (λ v w. refl)

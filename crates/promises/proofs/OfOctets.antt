@@ -1,7 +1,8 @@
 -- Each public function of crate octets: what its own contract allows is one answer.
 -- Assumes nothing.
-use mathlib.Core.Path.{_≡_, refl, sym, _∙_}
+use mathlib.Core.Path.{refl}
 use Rattle.promises.specs.Determined.{Determined}
+use Rattle.promises.proofs.Equations.{by-equation, by-part}
 use Rattle.octets.proofs.Width.bytes.Kinds as width-bytes-kinds
 use Rattle.octets.proofs.Width.bytes.Reads as width-bytes-reads
 use Rattle.octets.proofs.Width.half.Kinds as width-half-kinds
@@ -34,46 +35,46 @@ use Rattle.octets.proofs.least.Kinds as least-kinds
 use Rattle.octets.proofs.least.Reads as least-reads
 
 pub width-bytes-determined : Determined 0 width-bytes-kinds.ps width-bytes-kinds.r width-bytes-reads.Pre width-bytes-reads.Post
-width-bytes-determined κs a = (tt, λ x y v w p q. (p ∙ sym q, refl))
+width-bytes-determined κs a = by-equation (λ v w. refl)
 
 pub width-half-determined : Determined 0 width-half-kinds.ps width-half-kinds.r width-half-reads.Pre width-half-reads.Post
-width-half-determined κs a = (tt, λ x y v w p q. (p ∙ sym q, refl))
+width-half-determined κs a = by-equation (λ v w. refl)
 
 pub byte-at-determined : Determined 1 byte-at-kinds.ps byte-at-kinds.r byte-at-reads.Pre byte-at-reads.Post
-byte-at-determined κs a = (tt, λ x y v w p q. (p .is ∙ sym (q .is), refl))
+byte-at-determined κs a = by-part (λ x p. p .is) (λ v w. refl)
 
 pub byte-behind-determined : Determined 1 byte-behind-kinds.ps byte-behind-kinds.r byte-behind-reads.Pre byte-behind-reads.Post
-byte-behind-determined κs a = (tt, λ x y v w p q. (p .is ∙ sym (q .is), refl))
+byte-behind-determined κs a = by-part (λ x p. p .is) (λ v w. refl)
 
 pub u16-at-determined : Determined 1 u16-at-kinds.ps u16-at-kinds.r u16-at-reads.Pre u16-at-reads.Post
-u16-at-determined κs a = (tt, λ x y v w p q. (p .is ∙ sym (q .is), refl))
+u16-at-determined κs a = by-part (λ x p. p .is) (λ v w. refl)
 
 pub u24-at-determined : Determined 1 u24-at-kinds.ps u24-at-kinds.r u24-at-reads.Pre u24-at-reads.Post
-u24-at-determined κs a = (tt, λ x y v w p q. (p .is ∙ sym (q .is), refl))
+u24-at-determined κs a = by-part (λ x p. p .is) (λ v w. refl)
 
 pub u32-at-determined : Determined 1 u32-at-kinds.ps u32-at-kinds.r u32-at-reads.Pre u32-at-reads.Post
-u32-at-determined κs a = (tt, λ x y v w p q. (p .is ∙ sym (q .is), refl))
+u32-at-determined κs a = by-part (λ x p. p .is) (λ v w. refl)
 
 pub num-at-determined : Determined 1 num-at-kinds.ps num-at-kinds.r num-at-reads.Pre num-at-reads.Post
-num-at-determined κs a = (tt, λ x y v w p q. (p .is ∙ sym (q .is), refl))
+num-at-determined κs a = by-part (λ x p. p .is) (λ v w. refl)
 
 pub signed-at-determined : Determined 1 signed-at-kinds.ps signed-at-kinds.r signed-at-reads.Pre signed-at-reads.Post
-signed-at-determined κs a = (tt, λ x y v w p q. (p .is ∙ sym (q .is), refl))
+signed-at-determined κs a = by-part (λ x p. p .is) (λ v w. refl)
 
 pub i16-at-determined : Determined 1 i16-at-kinds.ps i16-at-kinds.r i16-at-reads.Pre i16-at-reads.Post
-i16-at-determined κs a = (tt, λ x y v w p q. (p .is ∙ sym (q .is), refl))
+i16-at-determined κs a = by-part (λ x p. p .is) (λ v w. refl)
 
 pub i24-at-determined : Determined 1 i24-at-kinds.ps i24-at-kinds.r i24-at-reads.Pre i24-at-reads.Post
-i24-at-determined κs a = (tt, λ x y v w p q. (p .is ∙ sym (q .is), refl))
+i24-at-determined κs a = by-part (λ x p. p .is) (λ v w. refl)
 
 pub i32-at-determined : Determined 1 i32-at-kinds.ps i32-at-kinds.r i32-at-reads.Pre i32-at-reads.Post
-i32-at-determined κs a = (tt, λ x y v w p q. (p .is ∙ sym (q .is), refl))
+i32-at-determined κs a = by-part (λ x p. p .is) (λ v w. refl)
 
 pub distance-at-determined : Determined 1 distance-at-kinds.ps distance-at-kinds.r distance-at-reads.Pre distance-at-reads.Post
-distance-at-determined κs a = (tt, λ x y v w p q. (p ∙ sym q, refl))
+distance-at-determined κs a = by-equation (λ v w. refl)
 
 pub distance-determined : Determined 0 distance-kinds.ps distance-kinds.r distance-reads.Pre distance-reads.Post
-distance-determined κs a = (tt, λ x y v w p q. (p ∙ sym q, refl))
+distance-determined κs a = by-equation (λ v w. refl)
 
 pub least-determined : Determined 0 least-kinds.ps least-kinds.r least-reads.Pre least-reads.Post
-least-determined κs a = (tt, λ x y v w p q. (p ∙ sym q, refl))
+least-determined κs a = by-equation (λ v w. refl)

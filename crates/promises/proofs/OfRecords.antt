@@ -1,7 +1,8 @@
 -- Each public function of crate records: what its own contract allows is one answer.
 -- Assumes nothing.
-use mathlib.Core.Path.{_≡_, refl, sym, _∙_}
+use mathlib.Core.Path.{refl}
 use Rattle.promises.specs.Determined.{Determined}
+use Rattle.promises.proofs.Equations.{by-equation}
 use Rattle.records.proofs.Kind.size.Kinds as kind-size-kinds
 use Rattle.records.proofs.Kind.size.Reads as kind-size-reads
 use Rattle.records.proofs.Record.read.Kinds as record-read-kinds
@@ -44,61 +45,61 @@ use Rattle.records.proofs.turnouts.Turnout.read.Kinds as turnout-read-kinds
 use Rattle.records.proofs.turnouts.Turnout.read.Reads as turnout-read-reads
 
 pub kind-size-determined : Determined 0 kind-size-kinds.ps kind-size-kinds.r kind-size-reads.Pre kind-size-reads.Post
-kind-size-determined κs a = (tt, λ x y v w p q. (p ∙ sym q, refl))
+kind-size-determined κs a = by-equation (λ v w. refl)
 
 pub record-read-determined : Determined 1 record-read-kinds.ps record-read-kinds.r record-read-reads.Pre record-read-reads.Post
-record-read-determined κs a = (tt, λ x y v w p q. (p ∙ sym q, refl))
+record-read-determined κs a = by-equation (λ v w. refl)
 
 pub nature-of-determined : Determined 0 nature-of-kinds.ps nature-of-kinds.r nature-of-reads.Pre nature-of-reads.Post
-nature-of-determined κs a = (tt, λ x y v w p q. (p ∙ sym q, refl))
+nature-of-determined κs a = by-equation (λ v w. refl)
 
 pub nature-number-determined : Determined 0 nature-number-kinds.ps nature-number-kinds.r nature-number-reads.Pre nature-number-reads.Post
-nature-number-determined κs a = (tt, λ x y v w p q. (p ∙ sym q, refl))
+nature-number-determined κs a = by-equation (λ v w. refl)
 
 pub way-of-determined : Determined 0 way-of-kinds.ps way-of-kinds.r way-of-reads.Pre way-of-reads.Post
-way-of-determined κs a = (tt, λ x y v w p q. (p ∙ sym q, refl))
+way-of-determined κs a = by-equation (λ v w. refl)
 
 pub way-number-determined : Determined 0 way-number-kinds.ps way-number-kinds.r way-number-reads.Pre way-number-reads.Post
-way-number-determined κs a = (tt, λ x y v w p q. (p ∙ sym q, refl))
+way-number-determined κs a = by-equation (λ v w. refl)
 
 pub balise-place-of-determined : Determined 0 balise-place-of-kinds.ps balise-place-of-kinds.r balise-place-of-reads.Pre balise-place-of-reads.Post
-balise-place-of-determined κs a = (tt, λ x y v w p q. (p ∙ sym q, refl))
+balise-place-of-determined κs a = by-equation (λ v w. refl)
 
 pub balise-count-of-determined : Determined 0 balise-count-of-kinds.ps balise-count-of-kinds.r balise-count-of-reads.Pre balise-count-of-reads.Post
-balise-count-of-determined κs a = (tt, λ x y v w p q. (p ∙ sym q, refl))
+balise-count-of-determined κs a = by-equation (λ v w. refl)
 
 pub balise-read-determined : Determined 1 balise-read-kinds.ps balise-read-kinds.r balise-read-reads.Pre balise-read-reads.Post
-balise-read-determined κs a = (tt, λ x y v w p q. (p ∙ sym q, refl))
+balise-read-determined κs a = by-equation (λ v w. refl)
 
 pub boundary-read-determined : Determined 1 boundary-read-kinds.ps boundary-read-kinds.r boundary-read-reads.Pre boundary-read-reads.Post
-boundary-read-determined κs a = (tt, λ x y v w p q. (p ∙ sym q, refl))
+boundary-read-determined κs a = by-equation (λ v w. refl)
 
 pub joint-read-determined : Determined 1 joint-read-kinds.ps joint-read-kinds.r joint-read-reads.Pre joint-read-reads.Post
-joint-read-determined κs a = (tt, λ x y v w p q. (p ∙ sym q, refl))
+joint-read-determined κs a = by-equation (λ v w. refl)
 
 pub siding-read-determined : Determined 1 siding-read-kinds.ps siding-read-kinds.r siding-read-reads.Pre siding-read-reads.Post
-siding-read-determined κs a = (tt, λ x y v w p q. (p ∙ sym q, refl))
+siding-read-determined κs a = by-equation (λ v w. refl)
 
 pub facing-of-determined : Determined 0 facing-of-kinds.ps facing-of-kinds.r facing-of-reads.Pre facing-of-reads.Post
-facing-of-determined κs a = (tt, λ x y v w p q. (p ∙ sym q, refl))
+facing-of-determined κs a = by-equation (λ v w. refl)
 
 pub facing-number-determined : Determined 0 facing-number-kinds.ps facing-number-kinds.r facing-number-reads.Pre facing-number-reads.Post
-facing-number-determined κs a = (tt, λ x y v w p q. (p ∙ sym q, refl))
+facing-number-determined κs a = by-equation (λ v w. refl)
 
 pub duty-of-determined : Determined 0 duty-of-kinds.ps duty-of-kinds.r duty-of-reads.Pre duty-of-reads.Post
-duty-of-determined κs a = (tt, λ x y v w p q. (p ∙ sym q, refl))
+duty-of-determined κs a = by-equation (λ v w. refl)
 
 pub duty-number-determined : Determined 0 duty-number-kinds.ps duty-number-kinds.r duty-number-reads.Pre duty-number-reads.Post
-duty-number-determined κs a = (tt, λ x y v w p q. (p ∙ sym q, refl))
+duty-number-determined κs a = by-equation (λ v w. refl)
 
 pub signal-read-determined : Determined 1 signal-read-kinds.ps signal-read-kinds.r signal-read-reads.Pre signal-read-reads.Post
-signal-read-determined κs a = (tt, λ x y v w p q. (p ∙ sym q, refl))
+signal-read-determined κs a = by-equation (λ v w. refl)
 
 pub direction-of-determined : Determined 0 direction-of-kinds.ps direction-of-kinds.r direction-of-reads.Pre direction-of-reads.Post
-direction-of-determined κs a = (tt, λ x y v w p q. (p ∙ sym q, refl))
+direction-of-determined κs a = by-equation (λ v w. refl)
 
 pub direction-number-determined : Determined 0 direction-number-kinds.ps direction-number-kinds.r direction-number-reads.Pre direction-number-reads.Post
-direction-number-determined κs a = (tt, λ x y v w p q. (p ∙ sym q, refl))
+direction-number-determined κs a = by-equation (λ v w. refl)
 
 pub turnout-read-determined : Determined 1 turnout-read-kinds.ps turnout-read-kinds.r turnout-read-reads.Pre turnout-read-reads.Post
-turnout-read-determined κs a = (tt, λ x y v w p q. (p ∙ sym q, refl))
+turnout-read-determined κs a = by-equation (λ v w. refl)

@@ -1,9 +1,10 @@
 -- Each public function of crate rounding: what its own contract allows is one answer.
 -- Assumes nothing.
-use mathlib.Core.Path.{_≡_, refl, sym, _∙_}
+use mathlib.Core.Path.{refl}
 use Rattle.promises.specs.Determined.{Determined}
+use Rattle.promises.proofs.Equations.{by-equation}
 use Rattle.rounding.proofs.coordinate.Kinds as coordinate-kinds
 use Rattle.rounding.proofs.coordinate.Reads as coordinate-reads
 
 pub coordinate-determined : Determined 0 coordinate-kinds.ps coordinate-kinds.r coordinate-reads.Pre coordinate-reads.Post
-coordinate-determined κs a = (tt, λ x y v w p q. (p ∙ sym q, refl))
+coordinate-determined κs a = by-equation (λ v w. refl)

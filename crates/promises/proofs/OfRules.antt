@@ -1,7 +1,8 @@
 -- Each public function of crate rules: what its own contract allows is one answer.
 -- Assumes nothing.
-use mathlib.Core.Path.{_≡_, refl, sym, _∙_}
+use mathlib.Core.Path.{refl}
 use Rattle.promises.specs.Determined.{Determined}
+use Rattle.promises.proofs.Equations.{by-equation}
 use Rattle.rules.proofs.length_between.Kinds as length-between-kinds
 use Rattle.rules.proofs.length_between.Reads as length-between-reads
 use Rattle.rules.proofs.is_number.Kinds as is-number-kinds
@@ -28,37 +29,37 @@ use Rattle.rules.proofs.above.Kinds as above-kinds
 use Rattle.rules.proofs.above.Reads as above-reads
 
 pub length-between-determined : Determined 1 length-between-kinds.ps length-between-kinds.r length-between-reads.Pre length-between-reads.Post
-length-between-determined κs a = (tt, λ x y v w p q. (p ∙ sym q, refl))
+length-between-determined κs a = by-equation (λ v w. refl)
 
 pub is-number-determined : Determined 1 is-number-kinds.ps is-number-kinds.r is-number-reads.Pre is-number-reads.Post
-is-number-determined κs a = (tt, λ x y v w p q. (p ∙ sym q, refl))
+is-number-determined κs a = by-equation (λ v w. refl)
 
 pub between-determined : Determined 1 between-kinds.ps between-kinds.r between-reads.Pre between-reads.Post
-between-determined κs a = (tt, λ x y v w p q. (p ∙ sym q, refl))
+between-determined κs a = by-equation (λ v w. refl)
 
 pub within-determined : Determined 1 within-kinds.ps within-kinds.r within-reads.Pre within-reads.Post
-within-determined κs a = (tt, λ x y v w p q. (p ∙ sym q, refl))
+within-determined κs a = by-equation (λ v w. refl)
 
 pub among-determined : Determined 1 among-kinds.ps among-kinds.r among-reads.Pre among-reads.Post
-among-determined κs a = (tt, λ x y v w p q. (p ∙ sym q, refl))
+among-determined κs a = by-equation (λ v w. refl)
 
 pub part-determined : Determined 1 part-kinds.ps part-kinds.r part-reads.Pre part-reads.Post
-part-determined κs a = (tt, λ x y v w p q. (p ∙ sym q, refl))
+part-determined κs a = by-equation (λ v w. refl)
 
 pub fits-determined : Determined 0 fits-kinds.ps fits-kinds.r fits-reads.Pre fits-reads.Post
-fits-determined κs a = (tt, λ x y v w p q. (p ∙ sym q, refl))
+fits-determined κs a = by-equation (λ v w. refl)
 
 pub whole-determined : Determined 0 whole-kinds.ps whole-kinds.r whole-reads.Pre whole-reads.Post
-whole-determined κs a = (tt, λ x y v w p q. (p ∙ sym q, refl))
+whole-determined κs a = by-equation (λ v w. refl)
 
 pub ends-at-determined : Determined 0 ends-at-kinds.ps ends-at-kinds.r ends-at-reads.Pre ends-at-reads.Post
-ends-at-determined κs a = (tt, λ x y v w p q. (p ∙ sym q, refl))
+ends-at-determined κs a = by-equation (λ v w. refl)
 
 pub zero-at-determined : Determined 1 zero-at-kinds.ps zero-at-kinds.r zero-at-reads.Pre zero-at-reads.Post
-zero-at-determined κs a = (tt, λ x y v w p q. (p ∙ sym q, refl))
+zero-at-determined κs a = by-equation (λ v w. refl)
 
 pub same-as-determined : Determined 1 same-as-kinds.ps same-as-kinds.r same-as-reads.Pre same-as-reads.Post
-same-as-determined κs a = (tt, λ x y v w p q. (p ∙ sym q, refl))
+same-as-determined κs a = by-equation (λ v w. refl)
 
 pub above-determined : Determined 1 above-kinds.ps above-kinds.r above-reads.Pre above-reads.Post
-above-determined κs a = (tt, λ x y v w p q. (p ∙ sym q, refl))
+above-determined κs a = by-equation (λ v w. refl)

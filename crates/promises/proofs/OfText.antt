@@ -1,7 +1,8 @@
 -- Each public function of crate text: what its own contract allows is one answer.
 -- Assumes nothing.
-use mathlib.Core.Path.{_≡_, refl, sym, _∙_}
+use mathlib.Core.Path.{refl}
 use Rattle.promises.specs.Determined.{Determined}
+use Rattle.promises.proofs.Equations.{by-equation}
 use Rattle.text.proofs.write.Kinds as write-kinds
 use Rattle.text.proofs.write.Reads as write-reads
 use Rattle.text.proofs.write_number.Kinds as write-number-kinds
@@ -20,25 +21,25 @@ use Rattle.text.proofs.message_line.Kinds as message-line-kinds
 use Rattle.text.proofs.message_line.Reads as message-line-reads
 
 pub write-determined : Determined 1 write-kinds.ps write-kinds.r write-reads.Pre write-reads.Post
-write-determined κs a = (tt, λ x y v w p q. (p ∙ sym q, refl))
+write-determined κs a = by-equation (λ v w. refl)
 
 pub write-number-determined : Determined 0 write-number-kinds.ps write-number-kinds.r write-number-reads.Pre write-number-reads.Post
-write-number-determined κs a = (tt, λ x y v w p q. (p ∙ sym q, refl))
+write-number-determined κs a = by-equation (λ v w. refl)
 
 pub head-determined : Determined 1 head-kinds.ps head-kinds.r head-reads.Pre head-reads.Post
-head-determined κs a = (tt, λ x y v w p q. (p ∙ sym q, refl))
+head-determined κs a = by-equation (λ v w. refl)
 
 pub text-line-determined : Determined 2 text-line-kinds.ps text-line-kinds.r text-line-reads.Pre text-line-reads.Post
-text-line-determined κs a = (tt, λ x y v w p q. (p ∙ sym q, refl))
+text-line-determined κs a = by-equation (λ v w. refl)
 
 pub line-determined : Determined 1 line-kinds.ps line-kinds.r line-reads.Pre line-reads.Post
-line-determined κs a = (tt, λ x y v w p q. (p ∙ sym q, refl))
+line-determined κs a = by-equation (λ v w. refl)
 
 pub signed-line-determined : Determined 1 signed-line-kinds.ps signed-line-kinds.r signed-line-reads.Pre signed-line-reads.Post
-signed-line-determined κs a = (tt, λ x y v w p q. (p ∙ sym q, refl))
+signed-line-determined κs a = by-equation (λ v w. refl)
 
 pub name-line-determined : Determined 2 name-line-kinds.ps name-line-kinds.r name-line-reads.Pre name-line-reads.Post
-name-line-determined κs a = (tt, λ x y v w p q. (p ∙ sym q, refl))
+name-line-determined κs a = by-equation (λ v w. refl)
 
 pub message-line-determined : Determined 2 message-line-kinds.ps message-line-kinds.r message-line-reads.Pre message-line-reads.Post
-message-line-determined κs a = (tt, λ x y v w p q. (p ∙ sym q, refl))
+message-line-determined κs a = by-equation (λ v w. refl)

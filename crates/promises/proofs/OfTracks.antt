@@ -1,7 +1,8 @@
 -- Each public function of crate tracks: what its own contract allows is one answer.
 -- Assumes nothing.
-use mathlib.Core.Path.{_≡_, refl, sym, _∙_}
+use mathlib.Core.Path.{refl}
 use Rattle.promises.specs.Determined.{Determined}
+use Rattle.promises.proofs.Equations.{by-equation}
 use Rattle.tracks.proofs.Track.read.Kinds as track-read-kinds
 use Rattle.tracks.proofs.Track.read.Reads as track-read-reads
 use Rattle.tracks.proofs.Track.points.Kinds as track-points-kinds
@@ -10,10 +11,10 @@ use Rattle.tracks.proofs.Point.read.Kinds as point-read-kinds
 use Rattle.tracks.proofs.Point.read.Reads as point-read-reads
 
 pub track-read-determined : Determined 1 track-read-kinds.ps track-read-kinds.r track-read-reads.Pre track-read-reads.Post
-track-read-determined κs a = (tt, λ x y v w p q. (p ∙ sym q, refl))
+track-read-determined κs a = by-equation (λ v w. refl)
 
 pub track-points-determined : Determined 0 track-points-kinds.ps track-points-kinds.r track-points-reads.Pre track-points-reads.Post
-track-points-determined κs a = (tt, λ x y v w p q. (p ∙ sym q, refl))
+track-points-determined κs a = by-equation (λ v w. refl)
 
 pub point-read-determined : Determined 1 point-read-kinds.ps point-read-kinds.r point-read-reads.Pre point-read-reads.Post
-point-read-determined κs a = (tt, λ x y v w p q. (p ∙ sym q, refl))
+point-read-determined κs a = by-equation (λ v w. refl)

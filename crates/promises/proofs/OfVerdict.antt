@@ -1,7 +1,8 @@
 -- Each public function of crate verdict: what its own contract allows is one answer.
 -- Assumes nothing.
-use mathlib.Core.Path.{_≡_, refl, sym, _∙_}
+use mathlib.Core.Path.{refl}
 use Rattle.promises.specs.Determined.{Determined}
+use Rattle.promises.proofs.Equations.{by-equation}
 use Rattle.verdict.proofs.Reason.number.Kinds as reason-number-kinds
 use Rattle.verdict.proofs.Reason.number.Reads as reason-number-reads
 use Rattle.verdict.proofs.File.number.Kinds as file-number-kinds
@@ -20,30 +21,40 @@ use Rattle.verdict.proofs.Judged.shown.Kinds as judged-shown-kinds
 use Rattle.verdict.proofs.Judged.shown.Reads as judged-shown-reads
 use Rattle.verdict.proofs.also_fact.Kinds as also-fact-kinds
 use Rattle.verdict.proofs.also_fact.Reads as also-fact-reads
+use Rattle.verdict.proofs.Verdict.fault.Kinds as verdict-fault-kinds
+use Rattle.verdict.proofs.Verdict.fault.Reads as verdict-fault-reads
+use Rattle.verdict.proofs.refusal.Kinds as refusal-kinds
+use Rattle.verdict.proofs.refusal.Reads as refusal-reads
 
 pub reason-number-determined : Determined 0 reason-number-kinds.ps reason-number-kinds.r reason-number-reads.Pre reason-number-reads.Post
-reason-number-determined κs a = (tt, λ x y v w p q. (p ∙ sym q, refl))
+reason-number-determined κs a = by-equation (λ v w. refl)
 
 pub file-number-determined : Determined 0 file-number-kinds.ps file-number-kinds.r file-number-reads.Pre file-number-reads.Post
-file-number-determined κs a = (tt, λ x y v w p q. (p ∙ sym q, refl))
+file-number-determined κs a = by-equation (λ v w. refl)
 
 pub verdict-number-determined : Determined 0 verdict-number-kinds.ps verdict-number-kinds.r verdict-number-reads.Pre verdict-number-reads.Post
-verdict-number-determined κs a = (tt, λ x y v w p q. (p ∙ sym q, refl))
+verdict-number-determined κs a = by-equation (λ v w. refl)
 
 pub verdict-place-determined : Determined 0 verdict-place-kinds.ps verdict-place-kinds.r verdict-place-reads.Pre verdict-place-reads.Post
-verdict-place-determined κs a = (tt, λ x y v w p q. (p ∙ sym q, refl))
+verdict-place-determined κs a = by-equation (λ v w. refl)
 
 pub pairverdict-number-determined : Determined 0 pairverdict-number-kinds.ps pairverdict-number-kinds.r pairverdict-number-reads.Pre pairverdict-number-reads.Post
-pairverdict-number-determined κs a = (tt, λ x y v w p q. (p ∙ sym q, refl))
+pairverdict-number-determined κs a = by-equation (λ v w. refl)
 
 pub pairverdict-place-determined : Determined 0 pairverdict-place-kinds.ps pairverdict-place-kinds.r pairverdict-place-reads.Pre pairverdict-place-reads.Post
-pairverdict-place-determined κs a = (tt, λ x y v w p q. (p ∙ sym q, refl))
+pairverdict-place-determined κs a = by-equation (λ v w. refl)
 
 pub pairverdict-file-determined : Determined 0 pairverdict-file-kinds.ps pairverdict-file-kinds.r pairverdict-file-reads.Pre pairverdict-file-reads.Post
-pairverdict-file-determined κs a = (tt, λ x y v w p q. (p ∙ sym q, refl))
+pairverdict-file-determined κs a = by-equation (λ v w. refl)
 
 pub judged-shown-determined : Determined 0 judged-shown-kinds.ps judged-shown-kinds.r judged-shown-reads.Pre judged-shown-reads.Post
-judged-shown-determined κs a = (tt, λ x y v w p q. (p ∙ sym q, refl))
+judged-shown-determined κs a = by-equation (λ v w. refl)
 
 pub also-fact-determined : Determined 0 also-fact-kinds.ps also-fact-kinds.r also-fact-reads.Pre also-fact-reads.Post
-also-fact-determined κs a = (tt, λ x y v w p q. (p ∙ sym q, refl))
+also-fact-determined κs a = by-equation (λ v w. refl)
+
+pub verdict-fault-determined : Determined 0 verdict-fault-kinds.ps verdict-fault-kinds.r verdict-fault-reads.Pre verdict-fault-reads.Post
+verdict-fault-determined κs a = by-equation (λ v w. refl)
+
+pub refusal-determined : Determined 0 refusal-kinds.ps refusal-kinds.r refusal-reads.Pre refusal-reads.Post
+refusal-determined κs a = by-equation (λ v w. refl)

@@ -1,6 +1,6 @@
 -- Each public function of crate yard: what its own contract allows is one answer.
 -- Assumes nothing.
-use mathlib.Core.Path.{_≡_, refl, sym, ap, _∙_}
+use mathlib.Core.Path.{sym, ap, _∙_}
 use mathlib.Core.List.{List}
 use Prim.Native.Nat.{ℕ}
 use Rattle.promises.specs.Determined.{Determined}

@@ -12,6 +12,7 @@ use lib.ListN.{length, drop, length-append, length-drop}
 use lib.Seq.{drop-at}
 use lib.Dec.{ltb}
 use borrow.Author.Tests.{ltb-true, ltb-false, lt-ltb, le-ltb}
+use Rattle.verdict.specs.Answers.{answerNumber}
 use Rattle.verdict.specs.declared.Fault.{Fault}
 use Rattle.verdict.specs.declared.Reason.the-variants.{Question, Steps, Room}
 use Rattle.graph.specs.declared.Object.{Object}
@@ -26,7 +27,7 @@ use Rattle.walks.proofs.Count.{one-number, one-length}
 use Rattle.walks.proofs.Lent.{octets-length, read-back}
 use Rattle.routes.specs.declared.RoutesAnswer.{RoutesAnswer}
 use Rattle.routes.specs.declared.RoutesAnswer.the-variants.{Listed, Refused}
-use Rattle.routes.specs.Answered.{limitOf, inRange, tallyOf, refusedFor, judged, answerAt, answerOf, leaves, leftOf, numberIn}
+use Rattle.routes.specs.Answered.{limitOf, inRange, tallyOf, refusedFor, judged, answerAt, answerOf, leaves, leftOf, routesAnswer}
 use Rattle.routes.specs.Listing.{Within, Listing}
 use Rattle.routes.proofs.Whole.{in-range-iff}
 
@@ -42,38 +43,38 @@ unfolding judged
 listed-by false steps room t u e = absurd (never e)
   where
     never : refusedFor Question ≡ Listed u → ⊥
-    never q = let z : _≡_ {A = ℕ} 13 0 = ap numberIn q in omega arith
+    never q = let z : _≡_ {A = ℕ} 13 0 = ap answerNumber (ap routesAnswer q) in omega arith
 listed-by true true room t u e = absurd (never e)
   where
     never : refusedFor Steps ≡ Listed u → ⊥
-    never q = let z : _≡_ {A = ℕ} 14 0 = ap numberIn q in omega arith
+    never q = let z : _≡_ {A = ℕ} 14 0 = ap answerNumber (ap routesAnswer q) in omega arith
 listed-by true false true t u e = absurd (never e)
   where
     never : refusedFor Room ≡ Listed u → ⊥
-    never q = let z : _≡_ {A = ℕ} 15 0 = ap numberIn q in omega arith
+    never q = let z : _≡_ {A = ℕ} 15 0 = ap answerNumber (ap routesAnswer q) in omega arith
 listed-by true false false t u e = record { in-range = refl; few = refl; fits = refl; same = cc }
 
 -- what each refusal says of them
 question-by : (range steps room : Bool) (t : Tally) → judged range steps room t ≡ refusedFor Question → range ≡ false
 unfolding judged
 question-by false steps room t e = refl
-question-by true true room t e = let z : _≡_ {A = ℕ} 14 13 = ap numberIn e in absurd (omega arith)
-question-by true false true t e = let z : _≡_ {A = ℕ} 15 13 = ap numberIn e in absurd (omega arith)
-question-by true false false t e = let z : _≡_ {A = ℕ} 0 13 = ap numberIn e in absurd (omega arith)
+question-by true true room t e = let z : _≡_ {A = ℕ} 14 13 = ap answerNumber (ap routesAnswer e) in absurd (omega arith)
+question-by true false true t e = let z : _≡_ {A = ℕ} 15 13 = ap answerNumber (ap routesAnswer e) in absurd (omega arith)
+question-by true false false t e = let z : _≡_ {A = ℕ} 0 13 = ap answerNumber (ap routesAnswer e) in absurd (omega arith)
 
 steps-by : (range steps room : Bool) (t : Tally) → judged range steps room t ≡ refusedFor Steps → (range ≡ true) × (steps ≡ true)
 unfolding judged
-steps-by false steps room t e = let z : _≡_ {A = ℕ} 13 14 = ap numberIn e in absurd (omega arith)
+steps-by false steps room t e = let z : _≡_ {A = ℕ} 13 14 = ap answerNumber (ap routesAnswer e) in absurd (omega arith)
 steps-by true true room t e = (refl, refl)
-steps-by true false true t e = let z : _≡_ {A = ℕ} 15 14 = ap numberIn e in absurd (omega arith)
-steps-by true false false t e = let z : _≡_ {A = ℕ} 0 14 = ap numberIn e in absurd (omega arith)
+steps-by true false true t e = let z : _≡_ {A = ℕ} 15 14 = ap answerNumber (ap routesAnswer e) in absurd (omega arith)
+steps-by true false false t e = let z : _≡_ {A = ℕ} 0 14 = ap answerNumber (ap routesAnswer e) in absurd (omega arith)
 
 room-by : (range steps room : Bool) (t : Tally) → judged range steps room t ≡ refusedFor Room → (range ≡ true) × (steps ≡ false) × (room ≡ true)
 unfolding judged
-room-by false steps room t e = let z : _≡_ {A = ℕ} 13 15 = ap numberIn e in absurd (omega arith)
-room-by true true room t e = let z : _≡_ {A = ℕ} 14 15 = ap numberIn e in absurd (omega arith)
+room-by false steps room t e = let z : _≡_ {A = ℕ} 13 15 = ap answerNumber (ap routesAnswer e) in absurd (omega arith)
+room-by true true room t e = let z : _≡_ {A = ℕ} 14 15 = ap answerNumber (ap routesAnswer e) in absurd (omega arith)
 room-by true false true t e = (refl, refl, refl)
-room-by true false false t e = let z : _≡_ {A = ℕ} 0 15 = ap numberIn e in absurd (omega arith)
+room-by true false false t e = let z : _≡_ {A = ℕ} 0 15 = ap answerNumber (ap routesAnswer e) in absurd (omega arith)
 
 kept-by : (r : RoutesAnswer) (u : Fault) (ws out : List ℕ) → r ≡ Refused u → leaves r ws out ≡ out
 unfolding leaves

@@ -3,12 +3,13 @@
 -- Assumes nothing.
 use Prim.Native.Nat.{ℕ, _*_}
 use mathlib.Core.Bool.{Bool, true, false, cond, _&&_}
-use mathlib.Core.List.{List, _++_}
+use mathlib.Core.List.{List, [], _∷_, _++_}
+use lib.IntN.{ℤ, pos}
 use lib.ListN.{length, drop}
 use lib.Dec.{eqb, leb, ltb}
 use Rattle.verdict.specs.declared.Reason.{Reason}
 use Rattle.verdict.specs.declared.Reason.the-variants.{Question, Steps, Room}
-use Rattle.verdict.specs.Reasons.{numberOf}
+use Rattle.verdict.specs.Answers.{Answer, answered, refused, refusal}
 use Rattle.layout.specs.declared.Layout.{Layout}
 use Rattle.graph.specs.declared.Object.{Object}
 use Rattle.graph.specs.Objects.{objectAt, boundaryAt}
@@ -44,7 +45,7 @@ tallyOf v start limit = record {
 
 -- a refusal for a reason, at place 0
 abbrev pub refusedFor : Reason → RoutesAnswer
-refusedFor reason = Refused (record { reason = reason; place = 0 })
+refusedFor reason = Refused (refusal reason)
 
 -- the question is in range, the partial walks outnumber the budget, the list is longer than the room
 unfoldable pub judged : Bool → Bool → Bool → Tally → RoutesAnswer
@@ -80,24 +81,12 @@ answerIn f l start limit budget room = answerOf (objectAt f l) (boundaryAt l sta
 abbrev pub leftIn : List ℕ → Layout → ℕ → ℕ → ℕ → List ℕ → List ℕ
 leftIn f l start limit budget out = leftOf (objectAt f l) (boundaryAt l start) start limit budget out
 
--- ---- the paper's numbers of an answer: of a refused one all but the number and the place are 0
+-- ---- the answer as the one shape of answers (crate verdict)
 
-abbrev pub numberIn : RoutesAnswer → ℕ
-numberIn (Listed t) = 0
-numberIn (Refused t) = numberOf (t .reason)
+-- the number of routes, the words used, the number of all partial walks
+abbrev pub tallyValues : Tally → List ℤ
+tallyValues t = pos (t .routes) ∷ pos (t .words) ∷ pos (t .walks) ∷ []
 
-abbrev pub placeIn : RoutesAnswer → ℕ
-placeIn (Listed t) = 0
-placeIn (Refused t) = t .place
-
-abbrev pub routesIn : RoutesAnswer → ℕ
-routesIn (Listed t) = t .routes
-routesIn (Refused t) = 0
-
-abbrev pub wordsIn : RoutesAnswer → ℕ
-wordsIn (Listed t) = t .words
-wordsIn (Refused t) = 0
-
-abbrev pub walksIn : RoutesAnswer → ℕ
-walksIn (Listed t) = t .walks
-walksIn (Refused t) = 0
+abbrev pub routesAnswer : RoutesAnswer → Answer
+routesAnswer (Listed t) = answered (tallyValues t)
+routesAnswer (Refused t) = refused 3 t

@@ -15,8 +15,8 @@ use graph::TurnoutLinks;
 use graph::boundary_at;
 use graph::object_at;
 use layout::Layout;
-use verdict::Fault;
 use verdict::Reason;
+use verdict::refusal;
 use walks::BUDGET_LEAST;
 use walks::BUDGET_MOST;
 use walks::LIMIT_LEAST;
@@ -144,7 +144,7 @@ fn in_range(asked: bool, limit: usize, budget: usize) -> bool
 fn refused(reason: Reason) -> RoutesAnswer
     ensures { λ r. ⌜ r ≡ refusedFor reason ⌝ }
 {
-    RoutesAnswer::Refused(Fault { reason, place: 0 })
+    RoutesAnswer::Refused(refusal(reason))
 }
 
 // Every route from the boundary `start`, in order, with the numbers of the listing. The words go to the front of `out`, two bytes each, low

@@ -1,9 +1,11 @@
-// What both files have alike: how long they are at most, End, where the first fields of the header stand, and the checks of the checksum,
-// the file type and the structure version, 2 to 4 in 01's table.
+// What both files have alike: how long they are at most, End, the first fields of the header, and the checks of the checksum, the file type
+// and the structure version, 2 to 4 in 01's table.
 ghost use mathlib.Core.Path.{_≡_};
 ghost use Rattle.verdict.specs.Facts.{judge};
 ghost use Rattle.seal.specs.Seal.{endOf, sealFacts};
+ghost use Rattle.seal.specs.Header.{headerIn};
 use octets::Width;
+use octets::u16_at;
 use rules::is_number;
 use tables::Field;
 use tables::number_is;
@@ -32,6 +34,26 @@ pub const STRUCTURE_DUE: usize = 1;
 
 // The bytes of the checksum, which stands after End.
 pub const CHECKSUM_SIZE: usize = 4;
+
+// The fields that follow the file type in the header of both files: the structure version, the data version and the station.
+pub struct Header {
+    pub structure: usize,
+    pub data: usize,
+    pub station: usize,
+}
+
+impl Header {
+    // The header of a file.
+    pub fn read(f: &[u8]) -> Self
+        ensures { λ r. ⌜ r ≡ headerIn (now (f .entry)) ⌝ }
+    {
+        Header {
+            structure: u16_at(f, STRUCTURE),
+            data: u16_at(f, DATA),
+            station: u16_at(f, STATION),
+        }
+    }
+}
 
 // 'End': the length without the checksum; 0 where there is no room for it.
 pub fn end_of(f: &[u8]) -> usize

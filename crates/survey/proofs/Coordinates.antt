@@ -25,8 +25,9 @@ use Rattle.survey.specs.declared.answers.CoordinateAnswer.the-variants a
 use Rattle.survey.specs.Stretch.{positionOf, latitudeOf, longitudeOf, pointCoordinate, stretchOf, coordinateOn}
 use Rattle.survey.specs.Requires.{TrackObeys}
 use Rattle.survey.specs.Coordinate.{Neighbours, NearestAt, CoordinateAt}
-use Rattle.survey.specs.Answers.{coordinateNumberIn}
-use Rattle.survey.specs.Questions.{refusal, onTrack, coordinateAsked}
+use Rattle.verdict.specs.Answers.{refusal, answerNumber}
+use Rattle.survey.specs.Answers.{coordinateAnswer}
+use Rattle.survey.specs.Questions.{onTrack, coordinateAsked}
 use Rattle.survey.proofs.Stretches.{found-obeys, next-point, positions-rise, positions-order, position-most, some-stretch, found-stretch, point-in}
 use Rattle.survey.proofs.Questions.{beyond-end, along-stretch, no-track, along-track}
 
@@ -194,7 +195,7 @@ module _ (f : List ℕ) (o : Obeys f) (number e : ℕ) (found : findTrack f numb
   -- THEOREM: it is refused for the position exactly beyond the end.
   pub position-refused : (x : ℕ) → (coordinateAsked f number x ≡ coordinate.Refused (refusal reason.Position)) ↔ (end < x)
   position-refused x = (
-    λ q. ⊎-elim (λ (h : x ≤ end). let w = answered x h in absurd (omega (arith, ap coordinateNumberIn (sym q ∙ w .2)))) (λ (h : end < x). h) (le-or-lt x end),
+    λ q. ⊎-elim (λ (h : x ≤ end). let w = answered x h in absurd (omega (arith, ap answerNumber (ap coordinateAnswer (sym q ∙ w .2))))) (λ (h : end < x). h) (le-or-lt x end),
     λ h. on-track x ∙ sym (beyond-end f size e x refl h refl),
   )
 
@@ -206,6 +207,6 @@ track-refused f o number x = (there (findTrack f number) refl, λ h. sym (no-tra
     there Absent q g = (absent-iff f number) .0 q
     there (At e) q g =
         ⊎-elim
-        (λ (h : x ≤ numAt 4 f (e + place.endPosition)). let r = coordinate-nearest f o number e q x h in absurd (omega (arith, ap coordinateNumberIn (sym g ∙ r .1))))
-        (λ (h : numAt 4 f (e + place.endPosition) < x). let d = (position-refused f o number e q x) .1 h in absurd (omega (arith, ap coordinateNumberIn (sym g ∙ d))))
+        (λ (h : x ≤ numAt 4 f (e + place.endPosition)). let r = coordinate-nearest f o number e q x h in absurd (omega (arith, ap answerNumber (ap coordinateAnswer (sym g ∙ r .1)))))
+        (λ (h : numAt 4 f (e + place.endPosition) < x). let d = (position-refused f o number e q x) .1 h in absurd (omega (arith, ap answerNumber (ap coordinateAnswer (sym g ∙ d)))))
         (le-or-lt x (numAt 4 f (e + place.endPosition)))

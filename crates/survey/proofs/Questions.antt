@@ -10,6 +10,10 @@ use Rattle.verdict.specs.declared.Reason.the-variants as reason
 use Rattle.verdict.specs.declared.Fault.{Fault}
 use Rattle.verdict.specs.declared.Verdict.{Verdict}
 use Rattle.verdict.specs.declared.Verdict.the-variants as verdict
+use Rattle.verdict.specs.Answers.{refusal}
+use Rattle.verdict.proofs.Questions.{fault-is, no-fault}
+use Rattle.seal.specs.declared.Header.{Header}
+use Rattle.seal.specs.Header.{headerIn}
 use Rattle.tracks.specs.Places as place
 use Rattle.tracks.specs.Tracks.{trackAt, pointAt, pointsIn}
 use Rattle.tracks.specs.declared.Track.{Track}
@@ -22,7 +26,8 @@ use Rattle.lookup.specs.declared.Found.{Found}
 use Rattle.lookup.specs.declared.Found.the-variants.{At, Absent}
 use Rattle.lookup.proofs.Lookup.{verdict-obeys}
 use Rattle.survey.specs.Stretch.{stretchOf, coordinateOn}
-use Rattle.survey.specs.Questions.{refusal, afterVerdict, trackIn, trackOf, pointIn, pointOf, onStretch, onTrack, onFound, coordinateAsked}
+use Rattle.survey.specs.Questions.{headerOf, trackIn, trackOf, pointIn, pointOf, onStretch, onTrack, onFound, coordinateAsked}
+use Rattle.survey.specs.declared.answers.HeaderAnswer.the-variants as header
 use Rattle.survey.specs.declared.answers.TrackAnswer.the-variants as track
 use Rattle.survey.specs.declared.answers.PointAnswer.the-variants as point
 use Rattle.survey.specs.declared.answers.Coordinate.{Coordinate}
@@ -32,26 +37,22 @@ use Rattle.survey.proofs.Stretches.{track-obeys, named-iff}
 
 -- ---- the file's own fault first
 
-module _ {A : Type 0} (refused : Fault → A) (w : Verdict) where
-  pub fault-is : (t : Fault) (a : A) → w ≡ verdict.Refused t → afterVerdict refused w a ≡ refused t
-  fault-is t a g = ap (λ (x : Verdict). afterVerdict refused x a) g
-
-  pub no-fault : (a : A) → w ≡ verdict.Accepted → afterVerdict refused w a ≡ a
-  no-fault a g = ap (λ (x : Verdict). afterVerdict refused x a) g
-
-  -- the verdict v refuses, so the answer is its fault, whatever else would be answered
-  pub own-fault : (v : Verdict) (t : Fault) (r a b : A) → v ≡ w → v ≡ verdict.Refused t → r ≡ afterVerdict refused v a → r ≡ afterVerdict refused w b
-  own-fault v t r a b e g q = q ∙ ap (λ (x : Verdict). afterVerdict refused x a) g ∙ sym (fault-is t b (sym e ∙ g))
-
 -- THEOREM: each question first gives its file's own fault.
 pub file-fault : (f : List ℕ) (t : Fault) → verdictOf f ≡ verdict.Refused t
-    → ((i : ℕ) → trackOf f i ≡ track.Refused t) × ((i j : ℕ) → pointOf f i j ≡ point.Refused t) × ((number x : ℕ) → coordinateAsked f number x ≡ coordinate.Refused t)
-unfolding trackOf pointOf coordinateAsked
+    → (headerOf f ≡ header.Refused t) × ((i : ℕ) → trackOf f i ≡ track.Refused t) × ((i j : ℕ) → pointOf f i j ≡ point.Refused t) × ((number x : ℕ) → coordinateAsked f number x ≡ coordinate.Refused t)
+unfolding headerOf trackOf pointOf coordinateAsked
 file-fault f t g = (
+  fault-is header.Refused (verdictOf f) t _ g,
   λ i. fault-is track.Refused (verdictOf f) t _ g,
   λ i j. fault-is point.Refused (verdictOf f) t _ g,
   λ number x. fault-is coordinate.Refused (verdictOf f) t _ g,
 )
+
+-- ---- the header: v is the verdict as it was found, h what was read
+
+pub header-there : (f : List ℕ) {v : Verdict} → v ≡ verdictOf f → v ≡ verdict.Accepted → {h : Header} → h ≡ headerIn f → header.Header h ≡ headerOf f
+unfolding headerOf
+header-there f e g q = ap header.Header q ∙ sym (no-fault header.Refused (verdictOf f) (header.Header (headerIn f)) (sym e ∙ g))
 
 -- ---- track i: v is the verdict as it was found, n the count of tracks, at the entry's place, r what was read there
 

@@ -1,33 +1,31 @@
--- The paper's number, place and values of each answer, the values in the order in which they are printed. A refused answer holds the number
--- and the place; all else in it is 0.
+-- Each answer on an X.1 file as the one shape of answers (crate verdict): the values in the order in which they are printed, or the fault.
 -- Assumes nothing.
-use Prim.Native.Nat.{ℕ}
 use mathlib.Core.List.{List, [], _∷_}
 use lib.IntN.{ℤ, pos}
-use lib.ListN.{replicate}
-use Rattle.verdict.specs.Reasons.{numberOf}
+use Rattle.verdict.specs.Answers.{Answer, answered, refused}
+use Rattle.seal.specs.Header.{headerValues}
 use Rattle.tracks.specs.Places.{pointSize}
 use Rattle.tracks.specs.Tracks.{pointsIn}
+use Rattle.tracks.specs.declared.Track.{Track}
+use Rattle.tracks.specs.declared.Point.{Point}
+use Rattle.survey.specs.declared.answers.HeaderAnswer.{HeaderAnswer}
+use Rattle.survey.specs.declared.answers.HeaderAnswer.the-variants as header
 use Rattle.survey.specs.declared.answers.TrackAnswer.{TrackAnswer}
 use Rattle.survey.specs.declared.answers.TrackAnswer.the-variants as track
 use Rattle.survey.specs.declared.answers.PointAnswer.{PointAnswer}
 use Rattle.survey.specs.declared.answers.PointAnswer.the-variants as point
+use Rattle.survey.specs.declared.answers.Coordinate.{Coordinate}
 use Rattle.survey.specs.declared.answers.CoordinateAnswer.{CoordinateAnswer}
 use Rattle.survey.specs.declared.answers.CoordinateAnswer.the-variants as coordinate
 
--- ---- a track
+-- structure version, data version, station
+abbrev pub headerAnswer : HeaderAnswer → Answer
+headerAnswer (header.Header h) = answered (headerValues h)
+headerAnswer (header.Refused t) = refused 3 t
 
-abbrev pub trackNumberIn : TrackAnswer → ℕ
-trackNumberIn (track.Track t) = 0
-trackNumberIn (track.Refused t) = numberOf (t .reason)
-
-abbrev pub trackPlaceIn : TrackAnswer → ℕ
-trackPlaceIn (track.Track t) = 0
-trackPlaceIn (track.Refused t) = t .place
-
--- number, property, start position, latitude and longitude, end position, latitude and longitude, and how many points
-abbrev pub trackValuesIn : TrackAnswer → List ℤ
-trackValuesIn (track.Track t) =
+-- the ten fields of the entry in the order of its table, and how many points the track has
+abbrev pub trackValues : Track → List ℤ
+trackValues t =
     pos (t .number)
     ∷ pos (t .property)
     ∷ pos (t .«start_position»)
@@ -36,36 +34,27 @@ trackValuesIn (track.Track t) =
     ∷ pos (t .«end_position»)
     ∷ t .«end_latitude»
     ∷ t .«end_longitude»
+    ∷ pos (t .first)
+    ∷ pos (t .last)
     ∷ pos (pointsIn pointSize (t .first) (t .last))
     ∷ []
-trackValuesIn (track.Refused t) = replicate 9 (pos 0)
 
--- ---- a point
-
-abbrev pub pointNumberIn : PointAnswer → ℕ
-pointNumberIn (point.Point p) = 0
-pointNumberIn (point.Refused t) = numberOf (t .reason)
-
-abbrev pub pointPlaceIn : PointAnswer → ℕ
-pointPlaceIn (point.Point p) = 0
-pointPlaceIn (point.Refused t) = t .place
+abbrev pub trackAnswer : TrackAnswer → Answer
+trackAnswer (track.Track t) = answered (trackValues t)
+trackAnswer (track.Refused t) = refused 11 t
 
 -- position, both increments, heading, near flag
-abbrev pub pointValuesIn : PointAnswer → List ℤ
-pointValuesIn (point.Point p) = pos (p .position) ∷ p .latitude ∷ p .longitude ∷ p .heading ∷ pos (p .near) ∷ []
-pointValuesIn (point.Refused t) = replicate 5 (pos 0)
+abbrev pub pointValues : Point → List ℤ
+pointValues p = pos (p .position) ∷ p .latitude ∷ p .longitude ∷ p .heading ∷ pos (p .near) ∷ []
 
--- ---- a coordinate
-
-abbrev pub coordinateNumberIn : CoordinateAnswer → ℕ
-coordinateNumberIn (coordinate.Coordinate c) = 0
-coordinateNumberIn (coordinate.Refused t) = numberOf (t .reason)
-
-abbrev pub coordinatePlaceIn : CoordinateAnswer → ℕ
-coordinatePlaceIn (coordinate.Coordinate c) = 0
-coordinatePlaceIn (coordinate.Refused t) = t .place
+abbrev pub pointAnswer : PointAnswer → Answer
+pointAnswer (point.Point p) = answered (pointValues p)
+pointAnswer (point.Refused t) = refused 5 t
 
 -- latitude, longitude
-abbrev pub coordinateValuesIn : CoordinateAnswer → List ℤ
-coordinateValuesIn (coordinate.Coordinate c) = c .latitude ∷ c .longitude ∷ []
-coordinateValuesIn (coordinate.Refused t) = replicate 2 (pos 0)
+abbrev pub coordinateValues : Coordinate → List ℤ
+coordinateValues c = c .latitude ∷ c .longitude ∷ []
+
+abbrev pub coordinateAnswer : CoordinateAnswer → Answer
+coordinateAnswer (coordinate.Coordinate c) = answered (coordinateValues c)
+coordinateAnswer (coordinate.Refused t) = refused 2 t

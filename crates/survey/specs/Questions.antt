@@ -6,11 +6,9 @@ use mathlib.Core.Bool.{cond}
 use mathlib.Core.List.{List}
 use lib.Dec.{ltb, leb}
 use Rattle.octets.specs.Octets.{numAt}
-use Rattle.verdict.specs.declared.Reason.{Reason}
 use Rattle.verdict.specs.declared.Reason.the-variants as reason
-use Rattle.verdict.specs.declared.Fault.{Fault}
-use Rattle.verdict.specs.declared.Verdict.{Verdict}
-use Rattle.verdict.specs.declared.Verdict.the-variants as verdict
+use Rattle.verdict.specs.Answers.{refusal, afterVerdict}
+use Rattle.seal.specs.Header.{headerIn}
 use Rattle.tracks.specs.Places as place
 use Rattle.tracks.specs.Tracks.{trackAt, pointAt, pointsIn}
 use Rattle.geography.specs.Layout.{countOf, firstOf, lastOf}
@@ -20,6 +18,8 @@ use Rattle.lookup.specs.Lookup.{findTrack}
 use Rattle.lookup.specs.declared.Found.{Found}
 use Rattle.lookup.specs.declared.Found.the-variants.{At, Absent}
 use Rattle.survey.specs.Stretch.{stretchOf, coordinateOn}
+use Rattle.survey.specs.declared.answers.HeaderAnswer.{HeaderAnswer}
+use Rattle.survey.specs.declared.answers.HeaderAnswer.the-variants as header
 use Rattle.survey.specs.declared.answers.TrackAnswer.{TrackAnswer}
 use Rattle.survey.specs.declared.answers.TrackAnswer.the-variants as track
 use Rattle.survey.specs.declared.answers.PointAnswer.{PointAnswer}
@@ -27,14 +27,10 @@ use Rattle.survey.specs.declared.answers.PointAnswer.the-variants as poi
 use Rattle.survey.specs.declared.answers.CoordinateAnswer.{CoordinateAnswer}
 use Rattle.survey.specs.declared.answers.CoordinateAnswer.the-variants as coordinate
 
--- a refusal of the question itself
-abbrev pub refusal : Reason → Fault
-refusal r = record { reason = r; place = 0 }
+-- ---- the header
 
--- the file's own fault first, and only then an answer
-abbrev pub afterVerdict : {A : Type 0} → (Fault → A) → Verdict → A → A
-afterVerdict refused verdict.Accepted a = a
-afterVerdict refused (verdict.Refused t) a = refused t
+unfoldable pub headerOf : List ℕ → HeaderAnswer
+headerOf f = afterVerdict header.Refused (verdictOf f) (header.Header (headerIn f))
 
 -- ---- track i
 

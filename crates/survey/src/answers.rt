@@ -1,7 +1,14 @@
 // The answers to the questions on an X.1 file.
+use seal::Header;
 use tracks::Point;
 use tracks::Track;
 use verdict::Fault;
+
+// The header, or why there is none.
+pub enum HeaderAnswer {
+    Header(Header),
+    Refused(Fault),
+}
 
 // A track, or why there is none.
 pub enum TrackAnswer {

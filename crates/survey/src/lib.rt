@@ -1,9 +1,9 @@
-// The questions on an X.1 file: track, point, coordinate (01: 'A question ..'). Each takes the verdict apart and returns the file's own
+// The questions on an X.1 file: header, track, point, coordinate (01: 'A question ..'). Each takes the verdict apart and returns the file's own
 // fault at once.
 ghost use mathlib.Core.Path.{_≡_};
 ghost use Prim.Native.Nat.{_+_, _*_, _<_};
 ghost use Rattle.geography.specs.Obeys.{entryAt};
-ghost use Rattle.survey.specs.Questions.{refusal, afterVerdict, trackOf, pointOf, onTrack, coordinateAsked};
+ghost use Rattle.survey.specs.Questions.{headerOf, trackOf, pointOf, onTrack, coordinateAsked};
 ghost use Rattle.survey.specs.Requires.{TrackObeys};
 
 mod answers;
@@ -11,6 +11,7 @@ mod stretch;
 
 pub use answers::Coordinate;
 pub use answers::CoordinateAnswer;
+pub use answers::HeaderAnswer;
 pub use answers::PointAnswer;
 pub use answers::TrackAnswer;
 use geography::verdicts::verdict_of;
@@ -18,50 +19,16 @@ use lookup::Found;
 use lookup::find_track;
 use octets::byte_at;
 use octets::u32_at;
+use seal::Header;
 use stretch::coordinate_on;
 use stretch::find_stretch;
 use tracks::COUNT;
 use tracks::ENTRIES;
 use tracks::Point;
 use tracks::Track;
-use verdict::Fault;
 use verdict::Reason;
 use verdict::Verdict;
-
-// A refusal of the question itself.
-fn refused(reason: Reason) -> Fault
-    ensures { λ r. ⌜ r ≡ refusal reason ⌝ }
-{
-    Fault { reason, place: 0 }
-}
-
-// The file's own fault, as the answer to each question.
-fn refused_track(v: Verdict) -> TrackAnswer
-    ensures { λ r. ⌜ r ≡ afterVerdict TrackAnswer.Refused v (TrackAnswer.Refused (refusal Reason.Question)) ⌝ }
-{
-    match v {
-        Verdict::Refused(fault) => TrackAnswer::Refused(fault),
-        Verdict::Accepted => TrackAnswer::Refused(refused(Reason::Question)),
-    }
-}
-
-fn refused_point(v: Verdict) -> PointAnswer
-    ensures { λ r. ⌜ r ≡ afterVerdict PointAnswer.Refused v (PointAnswer.Refused (refusal Reason.Question)) ⌝ }
-{
-    match v {
-        Verdict::Refused(fault) => PointAnswer::Refused(fault),
-        Verdict::Accepted => PointAnswer::Refused(refused(Reason::Question)),
-    }
-}
-
-fn refused_coordinate(v: Verdict) -> CoordinateAnswer
-    ensures { λ r. ⌜ r ≡ afterVerdict CoordinateAnswer.Refused v (CoordinateAnswer.Refused (refusal Reason.Question)) ⌝ }
-{
-    match v {
-        Verdict::Refused(fault) => CoordinateAnswer::Refused(fault),
-        Verdict::Accepted => CoordinateAnswer::Refused(refused(Reason::Question)),
-    }
-}
+use verdict::refusal;
 
 // Where the entry of track i stands.
 fn entry_at(i: usize) -> u16
@@ -79,16 +46,27 @@ fn point_at(first: usize, size: usize, j: usize) -> u16
     (first + size * j) as u16
 }
 
+// The header.
+pub fn header(f: &[u8]) -> HeaderAnswer
+    ensures { λ r. ⌜ r ≡ headerOf (now (f .entry)) ⌝ }
+{
+    let v = verdict_of(f);
+    let Verdict::Accepted = v else {
+        return HeaderAnswer::Refused(v.fault());
+    };
+    HeaderAnswer::Header(Header::read(f))
+}
+
 // The track of an index.
 pub fn track(f: &[u8], index: usize) -> TrackAnswer
     ensures { λ r. ⌜ r ≡ trackOf (now (f .entry)) index ⌝ }
 {
     let v = verdict_of(f);
     let Verdict::Accepted = v else {
-        return refused_track(v);
+        return TrackAnswer::Refused(v.fault());
     };
     if byte_at(f, COUNT) <= index {
-        return TrackAnswer::Refused(refused(Reason::Question));
+        return TrackAnswer::Refused(refusal(Reason::Question));
     }
     TrackAnswer::Track(Track::read(f, entry_at(index)))
 }
@@ -99,14 +77,14 @@ pub fn point(f: &[u8], track: usize, index: usize) -> PointAnswer
 {
     let v = verdict_of(f);
     let Verdict::Accepted = v else {
-        return refused_point(v);
+        return PointAnswer::Refused(v.fault());
     };
     if byte_at(f, COUNT) <= track {
-        return PointAnswer::Refused(refused(Reason::Question));
+        return PointAnswer::Refused(refusal(Reason::Question));
     }
     let entry = Track::read(f, entry_at(track));
     if entry.points() <= index {
-        return PointAnswer::Refused(refused(Reason::Question));
+        return PointAnswer::Refused(refusal(Reason::Question));
     }
     let at = point_at(entry.first, Point::SIZE, index);
     PointAnswer::Point(Point::read(f, at))
@@ -118,11 +96,11 @@ pub fn coordinate(f: &[u8], number: usize, position: usize) -> CoordinateAnswer
 {
     let v = verdict_of(f);
     let Verdict::Accepted = v else {
-        return refused_coordinate(v);
+        return CoordinateAnswer::Refused(v.fault());
     };
     let found = find_track(f, number);
     let Found::At(e) = found else {
-        return CoordinateAnswer::Refused(refused(Reason::Track));
+        return CoordinateAnswer::Refused(refusal(Reason::Track));
     };
     coordinate_at(f, Point::SIZE, e, position)
 }
@@ -133,11 +111,11 @@ fn coordinate_at(f: &[u8], size: usize, e: usize, x: usize) -> CoordinateAnswer
     ensures { λ r. ⌜ r ≡ onTrack (now (f .entry)) size e x ⌝ }
 {
     if u32_at(f, e + Track::END_POSITION) < x {
-        return CoordinateAnswer::Refused(refused(Reason::Position));
+        return CoordinateAnswer::Refused(refusal(Reason::Position));
     }
     let stretch = find_stretch(f, size, e, x);
     let Found::At(p) = stretch else {
-        return CoordinateAnswer::Refused(refused(Reason::Position));
+        return CoordinateAnswer::Refused(refusal(Reason::Position));
     };
     CoordinateAnswer::Coordinate(coordinate_on(f, size, e, x, p))
 }

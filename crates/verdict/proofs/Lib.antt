@@ -3,3 +3,4 @@ pub mod Walk
 pub mod Checks
 pub mod Steps
 pub mod Orders
+pub mod Questions

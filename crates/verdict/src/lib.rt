@@ -1,6 +1,7 @@
 // Reasons, faults and verdicts (01, 'Verdicts and their order'), and the one step that every check is made of.
 ghost use mathlib.Core.Path.{_≡_};
 ghost use Rattle.verdict.specs.Reasons.{numberOf, fileOf, shownOf, numberIn, placeIn, pairNumberIn, pairPlaceIn, pairFileIn};
+ghost use Rattle.verdict.specs.Answers.{refusal, faultIn};
 ghost use Rattle.verdict.specs.Facts.{also};
 
 // Why an answer is refused, in the order of 01's table: 6 comes before 5.
@@ -179,6 +180,16 @@ impl Verdict {
             Verdict::Refused(fault) => fault.place,
         }
     }
+
+    // The fault of a file that is refused, which each question on it answers. An accepted file has none.
+    pub fn fault(self) -> Fault
+        ensures { λ r. ⌜ r ≡ faultIn self ⌝ }
+    {
+        match self {
+            Verdict::Accepted => refusal(Reason::Question),
+            Verdict::Refused(fault) => fault,
+        }
+    }
 }
 
 impl PairVerdict {
@@ -232,6 +243,13 @@ impl Judged {
             }
         }
     }
+}
+
+// A refusal of the question itself, at place 0.
+pub fn refusal(reason: Reason) -> Fault
+    ensures { λ r. ⌜ r ≡ refusal reason ⌝ }
+{
+    Fault { reason, place: 0 }
 }
 
 // The verdict so far, then one fact more.

@@ -15,6 +15,8 @@ use Rattle.verdict.specs.declared.Reason.the-variants.{Question, Steps, Room}
 use Rattle.verdict.specs.Reasons.{numberOf}
 use Rattle.verdict.specs.declared.Verdict.{Verdict}
 use Rattle.verdict.specs.declared.Verdict.the-variants as verdict
+use Rattle.verdict.specs.Answers.{answerNumber, afterVerdict}
+use Rattle.verdict.proofs.Questions.{no-fault}
 use Rattle.layout.specs.Layout.{layoutOf}
 use Rattle.layout.specs.Regions.{Regions}
 use Rattle.layout.proofs.Regions.{regions}
@@ -33,20 +35,22 @@ use Rattle.walks.specs.Lent.{roomOf}
 use Rattle.walks.specs.All.{Exactly, Number}
 use Rattle.routes.specs.declared.RoutesAnswer.{RoutesAnswer}
 use Rattle.routes.specs.declared.RoutesAnswer.the-variants.{Listed, Refused}
-use Rattle.routes.specs.Answered.{limitOf, refusedFor, judged, answerAt, answerOf, answerIn, leftIn, numberIn}
+use Rattle.routes.specs.Answered.{limitOf, refusedFor, judged, answerAt, answerOf, answerIn, leftIn, routesAnswer}
 use Rattle.routes.specs.Listing.{Within, Listing}
 use Rattle.routes.proofs.Listing.{listing, question-iff, steps-iff, kept}
 use Rattle.routes.proofs.Listing.{no-room-iff as room-iff}
-use Rattle.yard.specs.Routes.{asked, left, routesOf, leftOf}
+use Rattle.yard.specs.Routes.{routesOf, leftOf}
 use Rattle.yard.proofs.Links.{joined, boundary-place}
 
 -- only from a boundary is anything else answered than 13
-from-boundary : (v : ℕ → Object) (b : Bool) (start limit budget room : ℕ) (r : RoutesAnswer) → answerOf v b start limit budget room ≡ r → ¬ (numberIn r ≡ 13) → b ≡ true
+from-boundary : (v : ℕ → Object) (b : Bool) (start limit budget room : ℕ) (r : RoutesAnswer) → answerOf v b start limit budget room ≡ r → ¬ (answerNumber (routesAnswer r) ≡ 13) → b ≡ true
 unfolding answerAt judged
 from-boundary v true start limit budget room r e n = refl
-from-boundary v false start limit budget room r e n = absurd (n (ap numberIn (sym e)))
+from-boundary v false start limit budget room r e n = absurd (n (ap answerNumber (ap routesAnswer (sym e))))
 
-keeps : (w : Verdict) (f : List ℕ) (start limit budget : ℕ) (out : List ℕ) (u : Fault) → asked w f start limit budget (roomOf out) ≡ Refused u → left w f start limit budget out ≡ out
+keeps :
+    (w : Verdict) (f : List ℕ) (start limit budget : ℕ) (out : List ℕ) (u : Fault) → afterVerdict Refused w (answerIn f (layoutOf f) start limit budget (roomOf out)) ≡ Refused u
+    → afterVerdict (λ (t : Fault). out) w (leftIn f (layoutOf f) start limit budget out) ≡ out
 keeps (verdict.Refused t) f start limit budget out u e = refl
 keeps verdict.Accepted f start limit budget out u e = kept (objectAt f (layoutOf f)) (boundaryAt (layoutOf f) start) start limit budget out u e
 
@@ -73,11 +77,11 @@ module _ (f : List ℕ) (e : verdictOf f ≡ verdict.Accepted) where
 
   asked-is : (start limit budget room : ℕ) → routesOf f start limit budget room ≡ answerIn f (layoutOf f) start limit budget room
   unfolding routesOf
-  asked-is start limit budget room = ap (λ (w : Verdict). asked w f start limit budget room) e
+  asked-is start limit budget room = no-fault Refused (verdictOf f) _ e
 
   left-is : (start limit budget : ℕ) (out : List ℕ) → leftOf f start limit budget out ≡ leftIn f (layoutOf f) start limit budget out
   unfolding leftOf
-  left-is start limit budget out = ap (λ (w : Verdict). left w f start limit budget out) e
+  left-is start limit budget out = no-fault (λ (t : Fault). out) (verdictOf f) _ e
 
   -- THEOREM: an answer lists every legal route once, in order, and nothing else
   pub listed : (start limit budget : ℕ) (out : List ℕ) (t : Tally) → routesOf f start limit budget (roomOf out) ≡ Listed t

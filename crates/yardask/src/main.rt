@@ -23,6 +23,10 @@ const RECORD: usize = 7;
 
 const ROUTES: usize = 8;
 
+const HEADER1: usize = 9;
+
+const HEADER2: usize = 10;
+
 const NO_QUESTION: usize = 0;
 
 // Where the question stands among the words of the command line, the program's own name being the first of them; and what follows it.
@@ -82,8 +86,9 @@ fn wrong(why: &[u8], i: usize) {
         b"; usage: yardask x1 FILE | x2 FILE | pair FILE1 FILE2 | track FILE INDEX | point FILE TRACK POINT",
     );
     write(
-        b" | coordinate FILE TRACKNUMBER POSITION | record FILE OFFSET | routes FILE START LIMIT BUDGET ROOM\n",
+        b" | coordinate FILE TRACKNUMBER POSITION | record FILE OFFSET | routes FILE START LIMIT BUDGET ROOM",
     );
+    write(b" | header1 FILE | header2 FILE\n");
 }
 
 // Whether two texts are the same.
@@ -125,6 +130,12 @@ fn question_in(text: &[u8]) -> usize {
     if same(text, b"routes") {
         return ROUTES;
     }
+    if same(text, b"header1") {
+        return HEADER1;
+    }
+    if same(text, b"header2") {
+        return HEADER2;
+    }
     NO_QUESTION
 }
 
@@ -141,6 +152,9 @@ fn question() -> usize {
 // How many words a command with a question has.
 fn words(question: usize) -> usize {
     if question == X1 || question == X2 {
+        return FIRST + 1;
+    }
+    if question == HEADER1 || question == HEADER2 {
         return FIRST + 1;
     }
     if question == PAIR {
@@ -246,8 +260,12 @@ fn answer(question: usize, f: &[u8], a: usize, b: usize) {
         answers::point(f, a, b);
     } else if question == COORDINATE {
         answers::coordinate(f, a, b);
-    } else {
+    } else if question == RECORD {
         answers::record(f, a);
+    } else if question == HEADER1 {
+        answers::header1(f);
+    } else {
+        answers::header2(f);
     }
 }
 

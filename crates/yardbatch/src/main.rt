@@ -1,7 +1,7 @@
-// Many questions in one run. Standard input is a sequence of cases: the question in 1 byte, four numbers of 4 bytes each, two lengths of
-// 4 bytes each, and the bytes of the first and of the second file; all numbers are little-endian. Standard output is, for each case, what
-// yardask prints, and an empty line. Input that ends inside a case, an unknown question, or a case that lends more than 65,535 words for
-// routes, is a line on standard error and ends the run.
+// Many questions in one run. Standard input is a sequence of cases: the question in 1 byte (x1, x2, pair, track, point, coordinate, record,
+// routes, header1 and header2 are 1 to 10), four numbers of 4 bytes each, two lengths of 4 bytes each, and the bytes of the first and of the
+// second file; all numbers are little-endian. Standard output is, for each case, what yardask prints, and an empty line. Input that ends
+// inside a case, an unknown question, or a case that lends more than 65,535 words for routes, is a line on standard error and ends the run.
 ghost use Prim.Native.Nat.{_≤_};
 use libc::STDERR_FILENO;
 use libc::STDIN_FILENO;
@@ -29,6 +29,10 @@ const COORDINATE: usize = 6;
 const RECORD: usize = 7;
 
 const ROUTES: usize = 8;
+
+const HEADER1: usize = 9;
+
+const HEADER2: usize = 10;
 
 // The most words that a case may lend for routes.
 const MOST_WORDS: usize = 65535;
@@ -146,6 +150,14 @@ fn answered(head: &[u8], first: &[u8], second: &[u8]) -> bool {
     }
     if question == ROUTES {
         answer_routes(head, first);
+        return true;
+    }
+    if question == HEADER1 {
+        answers::header1(first);
+        return true;
+    }
+    if question == HEADER2 {
+        answers::header2(first);
         return true;
     }
     false

@@ -1,20 +1,24 @@
 -- `application::record_at` meets its contract.
 -- Assumes nothing.
 use native.Mathlib.Omega.{arith}
-use Rattle.application.proofs.Questions.{own-fault, accepted-regions, accepted-bounded, no-record, start-small, record-there}
+use Rattle.verdict.proofs.Questions.{own-fault}
+use Rattle.application.specs.declared.RecordAnswer.the-variants as answer
+use Rattle.application.specs.Questions.{recordOf}
+use Rattle.application.proofs.Questions.{accepted-regions, accepted-bounded, no-record, start-small, record-there}
 use borrow.Author.Needs.{needs}
 use borrow.Author.Tests.{not-true, not-false}
 use Rattle.application.proofs.record_at.Statement.{statement}
 use Rattle.application.proofs.record_at.Tie as tie
 
 returns : tie.Need-returns
-returns c = own-fault _ _ _ (c .before .before .before .verdict-of .ensures) _ (c .before .enum-told2 .given .1) _ (c .refused .ensures)
+unfolding recordOf
+returns c = own-fault answer.Refused _ _ _ (c .before .before .before .verdict-of .ensures) (c .before .enum-told2 .given .1) (c .fault .ensures) _
 
 starts-record-requires : tie.Need-starts-record-requires
 starts-record-requires c κs = accepted-regions _ 0 _ (c .before .before .before .verdict-of .ensures) (c .before .enum-told .given .1) _ (c .layout-of .ensures .0)
 
 returns-2 : tie.Need-returns-2
-returns-2 c = no-record _ _ _ (c .before .before .before .before .before .before .verdict-of .ensures) (c .before .before .before .before .enum-told .given .1) _ (c .before .before .before .layout-of .ensures .0) _ (c .before .before .starts-record .ensures) (not-true _ (c .before .if1 .taken)) _ (c .out-of-range .ensures)
+returns-2 c = no-record _ _ _ (c .before .before .before .before .before .before .verdict-of .ensures) (c .before .before .before .before .enum-told .given .1) _ (c .before .before .before .layout-of .ensures .0) _ (c .before .before .starts-record .ensures) (not-true _ (c .before .if1 .taken)) (c .refusal .ensures)
 
 cast-read : tie.Need-cast-read
 cast-read c =

@@ -3,8 +3,9 @@
 use mathlib.Core.Path.{ap, _∙_}
 use Rattle.walks.specs.Lent.{roomOf}
 use Rattle.routes.specs.declared.RoutesAnswer.{RoutesAnswer}
+use Rattle.routes.specs.Answered.{routesAnswer}
 use Rattle.yard.specs.Routes.{routesOf}
-use Rattle.exports.specs.Shown.{routesShown, routesLeaves}
+use Rattle.exports.specs.Shown.{shown, leaves}
 use Rattle.exports.proofs.Ways.{scrap-shown, scrap-leaves, scrap-words, listed-words}
 use borrow.Author.Needs.{needs}
 use Rattle.exports.proofs.yard_routes.Statement.{statement}
@@ -30,7 +31,7 @@ returns c =
     let e = c .before .before .before .before .before .routes .ensures .0 in
     let s = c .before .before .show-counts .ensures in
     let counts = a .counts .now in
-    (s .0 ∙ ap (λ (x : RoutesAnswer). routesShown x counts) e ∙ scrap-shown counts h _ _ _ _ _ _, (s .1 ∙ scrap-leaves counts h (c .before .before .before .before .before .routes .result) due, scrap-words counts h _ _))
+    (s .0 ∙ ap (λ (x : RoutesAnswer). shown (routesAnswer x) counts) e ∙ scrap-shown counts h _ _ _ _ _ _, (s .1 ∙ scrap-leaves counts h (c .before .before .before .before .before .routes .result) due, scrap-words counts h _ _))
 
 routes-requires-2 : tie.Need-routes-requires-2
 routes-requires-2 c κs = search needs
@@ -50,7 +51,7 @@ returns-2 c =
     let e = c .before .before .before .before .before .before .routes2 .ensures in
     let s = c .before .before .show-counts2 .ensures in
     let counts = a .counts .now in
-    (s .0 ∙ ap (λ (x : RoutesAnswer). routesShown x counts) (e .0), (s .1 ∙ ap (λ (x : RoutesAnswer). routesLeaves x counts) (e .0), e .1 ∙ listed-words counts _ _ (c .before .before .before .before .before .before .before .before .if1 .left)))
+    (s .0 ∙ ap (λ (x : RoutesAnswer). shown (routesAnswer x) counts) (e .0), (s .1 ∙ ap (λ (x : RoutesAnswer). leaves (routesAnswer x) counts) (e .0), e .1 ∙ listed-words counts _ _ (c .before .before .before .before .before .before .before .before .if1 .left)))
 
 pub yard-routes-spec : {M : Type 1} → statement M
 yard-routes-spec =

@@ -1,7 +1,9 @@
 -- `listings::answer_lines` meets its contract.
 -- Assumes nothing.
 use mathlib.Core.Path.{ap, _∙_}
-use Rattle.routes.specs.Answered.{numberIn}
+use Rattle.routes.specs.declared.RoutesAnswer.{RoutesAnswer}
+use Rattle.verdict.specs.Answers.{answerNumber}
+use Rattle.routes.specs.Answered.{routesAnswer}
 use borrow.Author.Needs.{needs}
 use Rattle.listings.proofs.answer_lines.Statement.{statement}
 use Rattle.listings.proofs.answer_lines.Tie as tie
@@ -34,13 +36,13 @@ same-length : tie.Need-same-length
 same-length c = search needs
 
 returns : tie.Need-returns
-returns c = c .before .before .before .before .before .before .before .before .number .ensures ∙ ap numberIn (c .before .before .before .before .before .before .before .before .before .before .before .routes .ensures .0)
+returns c = c .before .before .before .before .before .before .before .before .number .ensures ∙ ap (λ (a : RoutesAnswer). answerNumber (routesAnswer a)) (c .before .before .before .before .before .before .before .before .before .before .before .routes .ensures .0)
 
 same-length-2 : tie.Need-same-length-2
 same-length-2 c = search needs
 
 returns-2 : tie.Need-returns-2
-returns-2 c = c .before .before .before .before .before .number .ensures ∙ ap numberIn (c .before .before .before .before .before .before .before .before .routes .ensures .0)
+returns-2 c = c .before .before .before .before .before .number .ensures ∙ ap (λ (a : RoutesAnswer). answerNumber (routesAnswer a)) (c .before .before .before .before .before .before .before .before .routes .ensures .0)
 
 pub answer-lines-spec : {M : Type 1} → statement M
 answer-lines-spec =

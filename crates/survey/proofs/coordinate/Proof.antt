@@ -3,9 +3,11 @@
 use mathlib.Core.Path.{sym, _∙_}
 use native.Mathlib.Omega.{arith}
 use Rattle.lookup.proofs.Lookup.{verdict-obeys}
+use Rattle.verdict.proofs.Questions.{own-fault}
+use Rattle.survey.specs.declared.answers.CoordinateAnswer.the-variants as answer
 use Rattle.survey.specs.Questions.{coordinateAsked}
 use Rattle.survey.proofs.Stretches.{found-obeys}
-use Rattle.survey.proofs.Questions.{own-fault, no-track, along-track}
+use Rattle.survey.proofs.Questions.{no-track, along-track}
 use borrow.Author.Needs.{needs}
 use Rattle.survey.proofs.coordinate.Statement.{statement}
 use Rattle.survey.proofs.coordinate.Tie as tie
@@ -19,12 +21,12 @@ enum-told c = search needs
 enum-told-2 : tie.Need-enum-told-2
 enum-told-2 c = search needs
 
-refused-coordinate-requires : tie.Need-refused-coordinate-requires
-refused-coordinate-requires c κs = search needs
+fault-requires : tie.Need-fault-requires
+fault-requires c κs = search needs
 
 returns : tie.Need-returns
 unfolding coordinateAsked
-returns c = own-fault _ _ _ _ _ _ _ (c .before .before .before .verdict-of .ensures) (c .before .enum-told2 .given .1) (c .refused-coordinate .ensures)
+returns c = own-fault answer.Refused _ _ _ (c .before .before .before .verdict-of .ensures) (c .before .enum-told2 .given .1) (c .fault .ensures) _
 
 find-track-requires : tie.Need-find-track-requires
 find-track-requires c κs = search needs
@@ -35,14 +37,14 @@ enum-known-found c = search needs
 enum-told-3 : tie.Need-enum-told-3
 enum-told-3 c = search needs
 
-refused-requires : tie.Need-refused-requires
-refused-requires c κs = search needs
+refusal-requires : tie.Need-refusal-requires
+refusal-requires c κs = search needs
 
 returns-2 : tie.Need-returns-2
 returns-2 c =
     let d = c .before .before .before in
     let v = d .before .before .before in
-    no-track (v .before .before .args .f .now) (v .before .before .args .number) _ (v .verdict-of .ensures) (d .before .enum-told .given .1) (d .find-track .ensures) (c .before .enum-told3 .given .1) (c .refused .ensures)
+    no-track (v .before .before .args .f .now) (v .before .before .args .number) _ (v .verdict-of .ensures) (d .before .enum-told .given .1) (d .find-track .ensures) (c .before .enum-told3 .given .1) (c .refusal .ensures)
 
 coordinate-at-requires : tie.Need-coordinate-at-requires
 coordinate-at-requires c κs =
@@ -65,12 +67,12 @@ coordinate-spec =
     verdict-of-requires
     enum-told
     enum-told-2
-    refused-coordinate-requires
+    fault-requires
     returns
     find-track-requires
     enum-known-found
     enum-told-3
-    refused-requires
+    refusal-requires
     returns-2
     coordinate-at-requires
     returns-3)

@@ -13,11 +13,11 @@ add-u32-at c = search needs
 u32-at-requires : tie.Need-u32-at-requires
 u32-at-requires c κs = search needs
 
-refused-requires : tie.Need-refused-requires
-refused-requires c κs = search needs
+refusal-requires : tie.Need-refusal-requires
+refusal-requires c κs = search needs
 
 returns : tie.Need-returns
-returns c = beyond-end _ _ _ _ (c .before .before .u32-at .ensures .is) (c .before .if1 .taken) (c .refused .ensures)
+returns c = beyond-end _ _ _ _ (c .before .before .u32-at .ensures .is) (c .before .if1 .taken) (c .refusal .ensures)
 
 find-stretch-requires : tie.Need-find-stretch-requires
 find-stretch-requires c κs = search needs
@@ -28,13 +28,13 @@ enum-known-stretch c = search needs
 enum-told : tie.Need-enum-told
 enum-told c = search needs
 
-refused-requires-2 : tie.Need-refused-requires-2
-refused-requires-2 c κs = search needs
+refusal-requires-2 : tie.Need-refusal-requires-2
+refusal-requires-2 c κs = search needs
 
 returns-2 : tie.Need-returns-2
 returns-2 c =
     let d = c .before .before .before in
-    no-stretch _ _ _ _ (d .before .before .u32-at .ensures .is) (d .before .if1 .left) (d .find-stretch .ensures) (c .before .enum-told .given .1) (c .refused2 .ensures)
+    no-stretch _ _ _ _ (d .before .before .u32-at .ensures .is) (d .before .if1 .left) (d .find-stretch .ensures) (c .before .enum-told .given .1) (c .refusal2 .ensures)
 
 coordinate-on-requires : tie.Need-coordinate-on-requires
 coordinate-on-requires c κs =
@@ -55,12 +55,12 @@ coordinate-at-spec =
     (tie.spec
     add-u32-at
     u32-at-requires
-    refused-requires
+    refusal-requires
     returns
     find-stretch-requires
     enum-known-stretch
     enum-told
-    refused-requires-2
+    refusal-requires-2
     returns-2
     coordinate-on-requires
     returns-3)

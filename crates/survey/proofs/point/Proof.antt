@@ -1,7 +1,9 @@
 -- `survey::point` meets its contract. The point is no further than its track's last one, and so stands below 65536.
 -- Assumes nothing.
+use Rattle.verdict.proofs.Questions.{own-fault}
+use Rattle.survey.specs.declared.answers.PointAnswer.the-variants as answer
 use Rattle.survey.specs.Questions.{pointOf}
-use Rattle.survey.proofs.Questions.{own-fault, point-no-track, point-none, point-there, point-low}
+use Rattle.survey.proofs.Questions.{point-no-track, point-none, point-there, point-low}
 use borrow.Author.Needs.{needs}
 use Rattle.survey.proofs.point.Statement.{statement}
 use Rattle.survey.proofs.point.Tie as tie
@@ -15,24 +17,24 @@ enum-told c = search needs
 enum-told-2 : tie.Need-enum-told-2
 enum-told-2 c = search needs
 
-refused-point-requires : tie.Need-refused-point-requires
-refused-point-requires c κs = search needs
+fault-requires : tie.Need-fault-requires
+fault-requires c κs = search needs
 
 returns : tie.Need-returns
 unfolding pointOf
-returns c = own-fault _ _ _ _ _ _ _ (c .before .before .before .verdict-of .ensures) (c .before .enum-told2 .given .1) (c .refused-point .ensures)
+returns c = own-fault answer.Refused _ _ _ (c .before .before .before .verdict-of .ensures) (c .before .enum-told2 .given .1) (c .fault .ensures) _
 
 byte-at-requires : tie.Need-byte-at-requires
 byte-at-requires c κs = search needs
 
-refused-requires : tie.Need-refused-requires
-refused-requires c κs = search needs
+refusal-requires : tie.Need-refusal-requires
+refusal-requires c κs = search needs
 
 returns-2 : tie.Need-returns-2
 returns-2 c =
     let d = c .before .before in
     let v = d .before .before .before in
-    point-no-track (v .before .before .args .f .now) (v .verdict-of .ensures) (d .before .enum-told .given .1) (d .byte-at .ensures .is) _ _ (c .before .if1 .taken) (c .refused .ensures)
+    point-no-track (v .before .before .args .f .now) (v .verdict-of .ensures) (d .before .enum-told .given .1) (d .byte-at .ensures .is) _ _ (c .before .if1 .taken) (c .refusal .ensures)
 
 entry-at-requires : tie.Need-entry-at-requires
 entry-at-requires c κs = search needs
@@ -43,15 +45,15 @@ read-requires c κs = search needs
 points-requires : tie.Need-points-requires
 points-requires c κs = search needs
 
-refused-requires-2 : tie.Need-refused-requires-2
-refused-requires-2 c κs = search needs
+refusal-requires-2 : tie.Need-refusal-requires-2
+refusal-requires-2 c κs = search needs
 
 returns-3 : tie.Need-returns-3
 returns-3 c =
     let r = c .before .before .before in
     let d = r .before .before .before in
     let v = d .before .before .before in
-    point-none (v .before .before .args .f .now) (v .verdict-of .ensures) (d .before .enum-told .given .1) (d .byte-at .ensures .is) _ _ (r .before .before .if1 .left) (r .before .entry-at .ensures) (r .read .ensures) (c .before .before .points .ensures) (c .before .if2 .taken) (c .refused2 .ensures)
+    point-none (v .before .before .args .f .now) (v .verdict-of .ensures) (d .before .enum-told .given .1) (d .byte-at .ensures .is) _ _ (r .before .before .if1 .left) (r .before .entry-at .ensures) (r .read .ensures) (c .before .before .points .ensures) (c .before .if2 .taken) (c .refusal2 .ensures)
 
 point-at-requires : tie.Need-point-at-requires
 point-at-requires c κs =
@@ -78,15 +80,15 @@ point-spec =
     verdict-of-requires
     enum-told
     enum-told-2
-    refused-point-requires
+    fault-requires
     returns
     byte-at-requires
-    refused-requires
+    refusal-requires
     returns-2
     entry-at-requires
     read-requires
     points-requires
-    refused-requires-2
+    refusal-requires-2
     returns-3
     point-at-requires
     read-requires-2

@@ -1,7 +1,9 @@
 -- `survey::track` meets its contract.
 -- Assumes nothing.
+use Rattle.verdict.proofs.Questions.{own-fault}
+use Rattle.survey.specs.declared.answers.TrackAnswer.the-variants as answer
 use Rattle.survey.specs.Questions.{trackOf}
-use Rattle.survey.proofs.Questions.{own-fault, track-none, track-there}
+use Rattle.survey.proofs.Questions.{track-none, track-there}
 use borrow.Author.Needs.{needs}
 use Rattle.survey.proofs.track.Statement.{statement}
 use Rattle.survey.proofs.track.Tie as tie
@@ -15,24 +17,24 @@ enum-told c = search needs
 enum-told-2 : tie.Need-enum-told-2
 enum-told-2 c = search needs
 
-refused-track-requires : tie.Need-refused-track-requires
-refused-track-requires c κs = search needs
+fault-requires : tie.Need-fault-requires
+fault-requires c κs = search needs
 
 returns : tie.Need-returns
 unfolding trackOf
-returns c = own-fault _ _ _ _ _ _ _ (c .before .before .before .verdict-of .ensures) (c .before .enum-told2 .given .1) (c .refused-track .ensures)
+returns c = own-fault answer.Refused _ _ _ (c .before .before .before .verdict-of .ensures) (c .before .enum-told2 .given .1) (c .fault .ensures) _
 
 byte-at-requires : tie.Need-byte-at-requires
 byte-at-requires c κs = search needs
 
-refused-requires : tie.Need-refused-requires
-refused-requires c κs = search needs
+refusal-requires : tie.Need-refusal-requires
+refusal-requires c κs = search needs
 
 returns-2 : tie.Need-returns-2
 returns-2 c =
     let d = c .before .before in
     let v = d .before .before .before in
-    track-none (v .before .before .args .f .now) (v .verdict-of .ensures) (d .before .enum-told .given .1) (d .byte-at .ensures .is) _ (c .before .if1 .taken) (c .refused .ensures)
+    track-none (v .before .before .args .f .now) (v .verdict-of .ensures) (d .before .enum-told .given .1) (d .byte-at .ensures .is) _ (c .before .if1 .taken) (c .refusal .ensures)
 
 entry-at-requires : tie.Need-entry-at-requires
 entry-at-requires c κs = search needs
@@ -54,10 +56,10 @@ track-spec =
     verdict-of-requires
     enum-told
     enum-told-2
-    refused-track-requires
+    fault-requires
     returns
     byte-at-requires
-    refused-requires
+    refusal-requires
     returns-2
     entry-at-requires
     read-requires

@@ -1,15 +1,19 @@
 -- `yard::routes` meets its contract.
 -- Assumes nothing.
-use Rattle.yard.proofs.Ways.{own-fault, fault-keeps, answered, written}
+use Rattle.verdict.proofs.Questions.{own-fault}
+use Rattle.routes.specs.declared.RoutesAnswer.the-variants as answer
+use Rattle.yard.specs.Routes.{routesOf}
+use Rattle.yard.proofs.Ways.{fault-keeps, answered, written}
 use borrow.Author.Needs.{needs}
 use Rattle.yard.proofs.routes.Statement.{statement}
 use Rattle.yard.proofs.routes.Tie as tie
 
 returns : tie.Need-returns
+unfolding routesOf
 returns c =
     let v = c .before .before .before .verdict-of .ensures in
     let e = c .before .enum-told2 .given .1 in
-    (own-fault _ _ _ _ _ v _ _ e _ (c .refused .ensures), fault-keeps _ _ _ _ _ v _ e _)
+    (own-fault answer.Refused _ _ _ v e (c .fault .ensures) _, fault-keeps _ _ _ _ _ v _ e _)
 
 returns-2 : tie.Need-returns-2
 returns-2 c =
