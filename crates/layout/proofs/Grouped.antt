@@ -15,26 +15,25 @@ use Rattle.verdict.specs.Walk.{startsFrom}
 use Rattle.verdict.proofs.Facts.{all-append, all-each}
 use Rattle.layout.specs.declared.Made.{Made}
 use Rattle.layout.specs.declared.Made.the-variants.{Fixed, Balises}
-use Rattle.layout.specs.Layout.{orNext, groupEnd}
-use Rattle.layout.specs.Groups.{Group, groupStart, nextStart, groupLayout, baliseBytes, baliseLayout, walkLayout, madeFacts, oneGroup, groupFacts}
+use Rattle.layout.specs.Groups.{Group, groupStart, nextStart, groupEnd, groupLayout, baliseBytes, baliseLayout, walkLayout, madeFacts, oneGroup, groupFacts}
 use Rattle.layout.specs.Obeys.{BaliseObeys, MadeOf, Grouped, none, empty, there}
 
-module _ (off before next : ℕ) where
-  pub end-empty : off ≡ 0 → groupEnd off before next ≡ before
+module _ (off due next : ℕ) where
+  pub end-empty : off ≡ 0 → groupEnd off due next ≡ due
   unfolding groupEnd
   end-empty e = rw (eq-eqb off 0 e)
 
-  pub end-there : (off ≡ 0 → ⊥) → groupEnd off before next ≡ next
+  pub end-there : (off ≡ 0 → ⊥) → groupEnd off due next ≡ next
   unfolding groupEnd
   end-there n = rw (ne-eqb off 0 n)
 
 module _ (f : List ℕ) (end : ℕ) where
   next-empty : (g : Group) (gs : List Group) → groupStart f g ≡ 0 → nextStart f end (g ∷ gs) ≡ nextStart f end gs
-  unfolding nextStart orNext
+  unfolding nextStart
   next-empty g gs e = rw (eq-eqb (groupStart f g) 0 e)
 
   next-there : (g : Group) (gs : List Group) → (groupStart f g ≡ 0 → ⊥) → nextStart f end (g ∷ gs) ≡ groupStart f g
-  unfolding nextStart orNext
+  unfolding nextStart
   next-there g gs n = rw (ne-eqb (groupStart f g) 0 n)
 
   -- what stands there runs to the next nonzero offset, else to End
@@ -83,16 +82,14 @@ module _ (f : List ℕ) (end due until : ℕ) (g : Group) where
         λ h. let above = h .1 in cut .1 ((h .0, (omega arith, (h .2, tt))), m .1 (h .3)),
       )
 
-  -- where it is right, it does not end beyond End
-  pub one-inside : AllHold (oneGroup f end due until g) → (top : ℕ) → due ≤ top → end ≤ top → groupEnd (groupStart f g) due until ≤ top
-  one-inside h top p q = by-case (ℕ-discrete (groupStart f g) 0)
-    where
-      by-case : Dec (groupStart f g ≡ 0) → groupEnd (groupStart f g) due until ≤ top
-      by-case (yes e) = let k = end-empty (groupStart f g) due until e in omega arith
-      by-case (no n) =
-          let k = end-there (groupStart f g) due until n in
-          let i = (one-iff .0 h n) .2 in
-          omega arith
+-- a group that is right does not end beyond End
+pub one-inside : (f : List ℕ) (end due next : ℕ) (g : Group)
+    → AllHold (oneGroup f end due (groupEnd (groupStart f g) due next) g) → (top : ℕ) → due ≤ top → end ≤ top → groupEnd (groupStart f g) due next ≤ top
+one-inside f end due next g h top p q = by-case (ℕ-discrete (groupStart f g) 0)
+  where
+    by-case : Dec (groupStart f g ≡ 0) → groupEnd (groupStart f g) due next ≤ top
+    by-case (yes e) = let k = end-empty (groupStart f g) due next e in omega arith
+    by-case (no n) = let i = (one-iff f end due (groupEnd (groupStart f g) due next) g .0 h n) .2 in omega arith
 
 -- all of them
 module _ (f : List ℕ) (last end : ℕ) where
@@ -100,40 +97,37 @@ module _ (f : List ℕ) (last end : ℕ) where
   unfolding groupFacts AllHold
   facts-grouped [] due h = subst (λ (d : ℕ). Grouped f end d []) (sym (h .0)) none
   facts-grouped (g ∷ gs) due h =
-      let until = nextStart f end gs in
-      let off = groupStart f g in
-      let cut = (all-append (oneGroup f end due until g) (groupFacts f last end (groupEnd off due until) gs)) .0 h in
-      let rest = facts-grouped gs (groupEnd off due until) (cut .1) in
-      by-case (ℕ-discrete off 0) (one-iff f end due until g .0 (cut .0)) rest
+      let until = groupEnd (groupStart f g) due (nextStart f end gs) in
+      let cut = (all-append (oneGroup f end due until g) (groupFacts f last end until gs)) .0 h in
+      by-case (ℕ-discrete (groupStart f g) 0) until refl (one-iff f end due until g .0 (cut .0)) (facts-grouped gs until (cut .1))
     where
       by-case :
-          Dec (groupStart f g ≡ 0)
-          → ((groupStart f g ≡ 0 → ⊥) → (groupStart f g ≡ due) × (groupStart f g < nextStart f end gs) × (nextStart f end gs ≤ end) × MadeOf f (groupStart f g) (nextStart f end gs) (g .made))
-          → Grouped f end (groupEnd (groupStart f g) due (nextStart f end gs)) gs → Grouped f end due (g ∷ gs)
-      by-case (yes e) o r = empty e (subst (λ (d : ℕ). Grouped f end d gs) (end-empty (groupStart f g) due (nextStart f end gs) e) r)
-      by-case (no n) o r =
+          Dec (groupStart f g ≡ 0) → (until : ℕ) → until ≡ groupEnd (groupStart f g) due (nextStart f end gs)
+          → ((groupStart f g ≡ 0 → ⊥) → (groupStart f g ≡ due) × (groupStart f g < until) × (until ≤ end) × MadeOf f (groupStart f g) until (g .made))
+          → Grouped f end until gs → Grouped f end due (g ∷ gs)
+      by-case (yes e) until u o r = empty e (subst (λ (d : ℕ). Grouped f end d gs) (u ∙ end-empty (groupStart f g) due (nextStart f end gs) e) r)
+      by-case (no n) until u o r =
           let h = o n in
           let due-there = h .0 in
           let above = h .1 in
-          there (nextStart f end gs) (λ z. n (due-there ∙ z)) due-there (omega arith) (subst (λ (a : ℕ). MadeOf f a (nextStart f end gs) (g .made)) due-there (h .3))
-          (subst (λ (d : ℕ). Grouped f end d gs) (end-there (groupStart f g) due (nextStart f end gs) n) r)
+          there until (λ z. n (due-there ∙ z)) due-there (omega arith) (subst (λ (a : ℕ). MadeOf f a until (g .made)) due-there (h .3)) r
 
   pub grouped-facts : {gs : List Group} {due : ℕ} → Grouped f end due gs → AllHold (groupFacts f last end due gs)
   unfolding groupFacts AllHold
   grouped-facts none = (refl, tt)
   grouped-facts (empty {due = due} {g = g} {gs = gs} e r) =
-      let until = nextStart f end gs in
-      (all-append (oneGroup f end due until g) (groupFacts f last end (groupEnd (groupStart f g) due until) gs)) .1
-      (one-iff f end due until g .1 (λ n. absurd (n e)), rw (end-empty (groupStart f g) due until e) (grouped-facts r))
+      let next = nextStart f end gs in
+      let until = groupEnd (groupStart f g) due next in
+      (all-append (oneGroup f end due until g) (groupFacts f last end until gs)) .1
+      (one-iff f end due until g .1 (λ n. absurd (n e)), rw (end-empty (groupStart f g) due next e) (grouped-facts r))
   grouped-facts (there {due = due} {g = g} {gs = gs} until n e b m r) =
       let next = nextStart f end gs in
-      let q : until ≡ next = grouped-next f end r in
-      let i = grouped-inside f end r in
-      let n′ : groupStart f g ≡ 0 → ⊥ = λ z. n (sym e ∙ z) in
-      (all-append (oneGroup f end due next g) (groupFacts f last end (groupEnd (groupStart f g) due next) gs)) .1 (
-        one-iff f end due next g .1 (λ k. (e, omega arith, omega arith, subst (λ (a : ℕ). MadeOf f a next (g .made)) (sym e) (subst (λ (b : ℕ). MadeOf f due b (g .made)) q m))),
-        rw (end-there (groupStart f g) due next n′, ← q) (grouped-facts r),
-      )
+      let ends : groupEnd (groupStart f g) due next ≡ until = end-there (groupStart f g) due next (λ z. n (sym e ∙ z)) ∙ sym (grouped-next f end r) in
+      rw ends
+      ((all-append (oneGroup f end due until g) (groupFacts f last end until gs)) .1 (
+        one-iff f end due until g .1 (λ k. (e, omega arith, grouped-inside f end r, subst (λ (a : ℕ). MadeOf f a until (g .made)) (sym e) m)),
+        grouped-facts r,
+      ))
 
   pub groups-iff : (gs : List Group) (due : ℕ) → AllHold (groupFacts f last end due gs) ↔ Grouped f end due gs
   groups-iff gs due = (facts-grouped gs due, grouped-facts)

@@ -8,6 +8,5 @@ pub mod Bounds
 pub mod Starts
 pub mod Shapes
 pub mod Walking
-pub mod Ends
 pub mod Grouped
 pub mod Loops

@@ -1,59 +1,54 @@
 -- The loops over a file's groups: one turn and the end of each.
 -- Assumes nothing.
-use Prim.Native.Nat.{ℕ, suc, zero, _+_, _-_, _*_, _≤_, _<_}
-use mathlib.Core.Path.{_≡_, _∙_, refl, sym, ap}
-use mathlib.Core.List.{List, [], _∷_, _++_}
+use Prim.Native.Nat.{ℕ, suc, _+_, _-_, _≤_, _<_}
+use mathlib.Core.Path.{_≡_, _∙_, sym}
+use mathlib.Core.List.{List, [], _∷_}
 use native.Mathlib.Omega.{arith}
 use borrow.Author.Tests.{eq-eqb, ne-eqb}
-use Rattle.octets.specs.Octets.{numAt}
 use Rattle.rules.specs.Rules.{endsAt}
 use Rattle.verdict.specs.declared.Judged.{Judged}
 use Rattle.verdict.specs.Facts.{judge}
 use Rattle.verdict.proofs.Facts.{judge-append, judge-then}
-use Rattle.layout.specs.declared.Grouping as declared
-use Rattle.layout.specs.Layout.{orNext, groupEnd}
-use Rattle.layout.specs.Groups.{offsetSize, madeOf, Group, group, groupStart, groupLayout, madeFacts, nextStart, oneGroup, groupFacts, groupsFrom, nextFrom}
+use Rattle.layout.specs.declared.Offsets.{Offsets}
+use Rattle.layout.specs.Groups.{Group, groupIn, groupsFrom, groupStart, nextStart, endFrom, groupLayout, madeFacts, oneGroup, groupFacts}
 
-module _ (f : List ℕ) (end base : ℕ) where
-  pub next-none : (count : ℕ) → end ≡ nextFrom f end base (count - count) count
-  unfolding nextFrom
-  next-none count = let e : count - count ≡ 0 = omega arith in rw e
+-- ---- the next nonzero offset, from the index j on; `off` is the one with that index
 
-  -- from behind: one group more
-  pub next-more :
-      (count j next : ℕ) → 0 < j → j ≤ count → next ≡ nextFrom f end base (count - j) j
-      → orNext (numAt 2 f (base + offsetSize * (j - 1))) next ≡ nextFrom f end base (count - (j - 1)) (j - 1)
-  unfolding nextFrom
-  next-more count j next p h e =
-      let more : count - (j - 1) ≡ suc (count - j) = omega arith in
-      let back : j - 1 + 1 ≡ j = omega arith in
-      rw (more, back, e)
+module _ (f : List ℕ) (o : Offsets) (j : ℕ) where
+  pub next-none : o .count ≤ j → o .end ≡ nextStart f (o .end) (groupsFrom o (o .count - j) j)
+  unfolding nextStart groupsFrom
+  next-none h = let none : o .count - j ≡ 0 = omega arith in rw none
 
-module _ (f : List ℕ) (last end base : ℕ) (file : declared.Grouping) where
-  next-same : (n i : ℕ) → nextStart f end (groupsFrom file base n i) ≡ nextFrom f end base n i
-  unfolding nextStart nextFrom groupsFrom
-  next-same zero i = refl
-  next-same (suc n) i = ap (orNext (numAt 2 f (base + offsetSize * i))) (next-same n (i + 1))
+  module _ (off : ℕ) (is : off ≡ groupStart f (groupIn o j)) (h : j < o .count) where
+    some : o .count - j ≡ suc (o .count - (j + 1))
+    some = omega arith
 
+    pub next-empty : off ≡ 0 → nextStart f (o .end) (groupsFrom o (o .count - (j + 1)) (j + 1)) ≡ nextStart f (o .end) (groupsFrom o (o .count - j) j)
+    unfolding nextStart groupsFrom
+    next-empty e = rw (some, eq-eqb (groupStart f (groupIn o j)) 0 (sym is ∙ e))
+
+    pub next-there : (off ≡ 0 → ⊥) → off ≡ nextStart f (o .end) (groupsFrom o (o .count - j) j)
+    unfolding nextStart groupsFrom
+    next-there n = rw (some, ne-eqb (groupStart f (groupIn o j)) 0 (λ e. n (is ∙ e))) is
+
+-- ---- the facts of the groups from the index i on, due at a place
+
+module _ (f : List ℕ) (last : ℕ) (o : Offsets) (i due : ℕ) where
   pub groups-step :
-      (count i : ℕ) → i < count → (v w : Judged) (due to next : ℕ) → next ≡ nextFrom f end base (count - (i + 1)) (i + 1)
-      → w ≡ judge v (oneGroup f end due next (group (base + offsetSize * i) (madeOf file i))) → to ≡ groupEnd (numAt 2 f (base + offsetSize * i)) due next
-      → judge w (groupFacts f last end to (groupsFrom file base (count - (i + 1)) (i + 1))) ≡ judge v (groupFacts f last end due (groupsFrom file base (count - i) i))
+      i < o .count → (v w : Judged) (until : ℕ) → until ≡ endFrom f o i due → w ≡ judge v (oneGroup f (o .end) due until (groupIn o i))
+      → judge w (groupFacts f last (o .end) until (groupsFrom o (o .count - (i + 1)) (i + 1))) ≡ judge v (groupFacts f last (o .end) due (groupsFrom o (o .count - i) i))
   unfolding groupFacts groupsFrom
-  groups-step count i h v w due to next n p q =
-      let less : count - i ≡ suc (count - (i + 1)) = omega arith in
-      let rest = groupsFrom file base (count - (i + 1)) (i + 1) in
-      let same = n ∙ sym (next-same (count - (i + 1)) (i + 1)) in
-      rw (less, p, q, same)
-      (sym (judge-append v (oneGroup f end due (nextStart f end rest) (group (base + offsetSize * i) (madeOf file i)))
-      (groupFacts f last end (groupEnd (numAt 2 f (base + offsetSize * i)) due (nextStart f end rest)) rest)))
+  groups-step h v w until e p =
+      let less : o .count - i ≡ suc (o .count - (i + 1)) = omega arith in
+      let rest = groupsFrom o (o .count - (i + 1)) (i + 1) in
+      rw (less, p, e) (sym (judge-append v (oneGroup f (o .end) due (endFrom f o i due) (groupIn o i)) (groupFacts f last (o .end) (endFrom f o i due) rest)))
 
-  pub groups-stop :
-      (count i : ℕ) → count ≤ i → (w r : Judged) (due : ℕ) → r ≡ judge w (endsAt last due end ∷ []) → r ≡ judge w (groupFacts f last end due (groupsFrom file base (count - i) i))
+  pub groups-stop : o .count ≤ i → (w r : Judged) → r ≡ judge w (endsAt last due (o .end) ∷ []) → r ≡ judge w (groupFacts f last (o .end) due (groupsFrom o (o .count - i) i))
   unfolding groupFacts groupsFrom
-  groups-stop count i h w r due e = let none : count - i ≡ 0 = omega arith in rw none e
+  groups-stop h w r e = let none : o .count - i ≡ 0 = omega arith in rw none e
 
--- one group
+-- ---- one group
+
 module _ (f : List ℕ) (end due until : ℕ) (g : Group) (off : ℕ) (v : Judged) (is : off ≡ groupStart f g) where
   pub one-empty : off ≡ 0 → v ≡ judge v (oneGroup f end due until g)
   unfolding oneGroup

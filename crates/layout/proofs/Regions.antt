@@ -10,10 +10,10 @@ use Rattle.verdict.proofs.Walk.{reach-le}
 use Rattle.records.specs.Places.{sidingSize}
 use Rattle.layout.specs.declared.Made.{Made}
 use Rattle.layout.specs.declared.Made.the-variants.{Fixed, Balises}
-use Rattle.layout.specs.Layout.{endOf, orNext, groupEnd, sidingsFrom, jointsFrom, signalsFrom, balisesFrom, turnoutsEnd, balisesEnd, signalsEnd, jointsEnd, layoutOf}
-use Rattle.layout.specs.Groups.{madeOf, Group, groupStart, nextStart, baliseBytes, groupsFrom}
+use Rattle.layout.specs.Layout.{endOf, layoutOf}
+use Rattle.layout.specs.Groups.{madeOf, Group, groupsFrom, groupStart, nextStart, groupEnd, groupEnds, baliseBytes}
 use Rattle.layout.specs.Obeys.{BaliseObeys, MadeOf, Grouped, none, empty, there, LayoutObeys}
-use Rattle.layout.specs.Regions.{Whole, WholeBalises, Regions}
+use Rattle.layout.specs.Regions.{Whole, Regions}
 use Rattle.layout.proofs.Walks.{starts-between}
 use Rattle.layout.proofs.Grouped.{end-empty, end-there, grouped-next}
 
@@ -51,11 +51,11 @@ module _ (f : List ℕ) where
 module _ (f : List ℕ) (o : LayoutObeys f (layoutOf f)) where
   -- each balise of the walk is a right one
   pub balise-obeys : (x : ℕ) → List·Memᴰ x (startsFrom (baliseBytes f) (layoutOf f .balises) (layoutOf f .turnouts)) → BaliseObeys f (layoutOf f .balises) x
-  unfolding layoutOf balisesEnd turnoutsEnd balisesFrom signalsFrom jointsFrom sidingsFrom nextStart groupsFrom madeOf MadeOf
+  unfolding layoutOf groupEnds groupsFrom nextStart madeOf MadeOf
   balise-obeys = (head f (endOf f) ((head f (endOf f) (o .groups)) .rest)) .made
 
   pub regions : Regions f (layoutOf f)
-  unfolding layoutOf turnoutsEnd balisesEnd signalsEnd jointsEnd balisesFrom signalsFrom jointsFrom sidingsFrom nextStart groupsFrom madeOf MadeOf baliseBytes
+  unfolding layoutOf groupEnds groupsFrom nextStart madeOf MadeOf baliseBytes
   regions =
       let t = head f (endOf f) (o .groups) in
       let b = head f (endOf f) (t .rest) in
@@ -81,6 +81,6 @@ module _ (f : List ℕ) (o : LayoutObeys f (layoutOf f)) where
         };
         signals = record { order = s .order; whole = s .made };
         joints = record { order = j .order; whole = j .made };
-        sidings = subst (Whole sidingSize (jointsEnd f)) (grouped-none f (endOf f) (d .rest)) (record { order = d .order; whole = d .made });
+        sidings = subst (Whole sidingSize (layoutOf f .joints)) (grouped-none f (endOf f) (d .rest)) (record { order = d .order; whole = d .made });
         inside = omega arith;
       }

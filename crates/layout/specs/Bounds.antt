@@ -1,21 +1,60 @@
--- The numbers of a layout, as a file of at most 65,535 bytes has them. The checks of the records look at no other layout, so that no place
--- they reckon with overflows.
+-- INNER: how large the numbers of a layout are, so that no place that the code reckons with overflows. No reviewer has to believe this:
+-- every right layout of a file of at most 65,535 bytes is bounded (proofs/Bounds), and the checks of the records ask nothing of another.
 -- Assumes nothing.
-use Prim.Native.Nat.{ℕ, _≤_}
+use Prim.Native.Nat.{ℕ, _+_, _*_, _^_, _≤_, _<_}
+use mathlib.Core.Path.{_≡_}
 use mathlib.Core.Bool.{cond}
 use mathlib.Core.List.{List, []}
 use Rattle.verdict.specs.Facts.{Claim, atMost, both, test, Fact}
 use Rattle.seal.specs.Seal.{mostLength}
+use Rattle.records.specs.Places.{boundarySize}
 use Rattle.layout.specs.declared.Layout.{Layout}
+use Rattle.layout.specs.declared.Offsets.{Offsets}
+use Rattle.layout.specs.Places.{headerLength}
 
--- the greatest count, which stands in one byte, and the greatest place
+-- ---- limits
+
+-- the greatest count, which stands in one byte, and the greatest place of a file
 abbrev pub countMost : ℕ
 countMost = 255
 
 abbrev pub placeMost : ℕ
 placeMost = mostLength
 
--- the numbers of a layout are those of a file
+-- the most bytes of a header, 35 + 3 · 255 + 3 · 255, and where its boundaries end at the most
+abbrev pub headerMost : ℕ
+headerMost = headerLength countMost countMost
+
+abbrev pub boundsMost : ℕ
+boundsMost = headerMost + boundarySize * (countMost + countMost)
+
+-- the most groups of a file: X.3 has at most 16
+abbrev pub groupsMost : ℕ
+groupsMost = 16
+
+-- a slice has fewer bytes than this
+abbrev pub sliceOver : ℕ
+sliceOver = 2 ^ 63
+
+-- ---- the numbers of any file, of any length
+
+-- of a layout that was read
+pub record Small (l : Layout) : Type 0 where
+  pub starts : l .starts ≤ countMost
+  pub ends : l .ends ≤ countMost
+  pub header : l .header ≡ headerLength (l .starts) (l .ends)
+  pub middle : l .middle ≡ l .header + boundarySize * l .starts
+  pub bounds : l .bounds ≡ l .middle + boundarySize * l .ends
+  pub stop : l .stop < sliceOver
+
+-- of a header's group offsets
+pub record Near (o : Offsets) : Type 0 where
+  pub base : o .base ≤ headerMost
+  pub count : o .count ≤ groupsMost
+  pub end : o .end < sliceOver
+
+-- ---- the numbers of a layout that a file of at most 65,535 bytes has
+
 abbrev pub bounded : Layout → Claim
 bounded l =
     both (atMost (l .starts) countMost)

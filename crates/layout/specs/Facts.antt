@@ -13,11 +13,10 @@ use Rattle.records.specs.Places.{boundarySize}
 use Rattle.layout.specs.declared.Layout.{Layout}
 use Rattle.layout.specs.declared.Shape.{Shape}
 use Rattle.layout.specs.declared.Shape.the-variants.{Found, Faulty}
-use Rattle.layout.specs.declared.Grouping.the-variants.{Yard}
 use Rattle.layout.specs.Places.{startCountAt, entryOffset, entrySize, startEntriesAt, endCountAt, endEntriesAt, groupsAt}
-use Rattle.layout.specs.Layout.{layoutOf}
+use Rattle.layout.specs.Layout.{yardOffsets, layoutOf}
 unfoldable pub use Rattle.layout.specs.Groups.{baliseBytes}
-use Rattle.layout.specs.Groups.{Group, groupsFrom, yardCount, groupFacts}
+use Rattle.layout.specs.Groups.{Group, groupsOf, groupFacts}
 
 -- ---- the counts: n is not 0 and k's place is below End; k is not 0 and the boundaries fit
 
@@ -45,7 +44,7 @@ offsetsLayout f entries due count = flatMap (offsetLayout f entries due) (indexe
 -- ---- the groups: the first is due where the boundaries end
 
 abbrev pub groupsIn : Layout → List Group
-groupsIn l = groupsFrom Yard (groupsAt (l .starts) (l .ends)) yardCount 0
+groupsIn l = groupsOf (yardOffsets (groupsAt (l .starts) (l .ends)) (l .stop))
 
 -- ---- all of them
 

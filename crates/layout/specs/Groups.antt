@@ -1,6 +1,6 @@
 -- Groups of records that follow each other without gaps (01: 'A group runs to the next nonzero group offset, else to End'). A group's
 -- offset stands in a field of the header; 0 is an empty group. A file's groups are a list in field order, `due` is where the first
--- nonzero one must start, and `end` is End.
+-- nonzero one must start, and `end` is End. X.2's groups are one instance (Layout), and X.3's will be another.
 -- Assumes nothing.
 use Prim.Native.Nat.{ℕ, suc, zero, _+_, _-_, _*_, max}
 use mathlib.Core.Bool.{cond}
@@ -18,13 +18,10 @@ use Rattle.layout.specs.declared.Made.{Made}
 use Rattle.layout.specs.declared.Made.the-variants.{Fixed, Balises}
 use Rattle.layout.specs.declared.Grouping.{Grouping}
 use Rattle.layout.specs.declared.Grouping.the-variants.{Yard, Elements}
-use Rattle.layout.specs.Places.{sizeLeast, sizeMost}
-use Rattle.layout.specs.Layout.{orNext, groupEnd}
+use Rattle.layout.specs.declared.Offsets.{Offsets}
+use Rattle.layout.specs.Places.{offsetSize, sizeLeast, sizeMost}
 
 -- ---- what a group is
-
-abbrev pub offsetSize : ℕ
-offsetSize = 2
 
 abbrev pub elementSize : ℕ
 elementSize = 14
@@ -43,8 +40,18 @@ pub record Group : Type 0 where
   pub field : ℕ
   pub made : Made
 
-abbrev pub group : ℕ → Made → Group
-group field made = record { field = field; made = made }
+-- the group with the index i, of those whose offsets stand one after the other
+abbrev pub groupIn : Offsets → ℕ → Group
+groupIn o i = record { field = o .base + offsetSize * i; made = madeOf (o .file) i }
+
+-- n groups from the index i on
+unfoldable pub groupsFrom : Offsets → ℕ → ℕ → List Group
+groupsFrom o zero i = []
+groupsFrom o (suc n) i = groupIn o i ∷ groupsFrom o n (i + 1)
+
+-- all of them
+abbrev pub groupsOf : Offsets → List Group
+groupsOf o = groupsFrom o (o .count) 0
 
 -- ---- where it stands
 
@@ -54,20 +61,30 @@ groupStart f g = numAt 2 f (g .field)
 -- the next nonzero offset, else End
 unfoldable pub nextStart : List ℕ → ℕ → List Group → ℕ
 nextStart f end [] = end
-nextStart f end (g ∷ gs) = orNext (groupStart f g) (nextStart f end gs)
+nextStart f end (g ∷ gs) = cond (eqb (groupStart f g) 0) (nextStart f end gs) (groupStart f g)
 
--- where each group ends: it runs to the next nonzero offset, else to End; an empty one ends where what is before it ends
+-- where a group ends, which has an offset and is due at a place: it runs to the next nonzero offset, else to End; an empty one ends where it
+-- is due
+unfoldable pub groupEnd : ℕ → ℕ → ℕ → ℕ
+groupEnd off due next = cond (eqb off 0) due next
+
+-- where each group ends; the next one is due there
 unfoldable pub groupEnds : List ℕ → ℕ → ℕ → List Group → List ℕ
 groupEnds f end due [] = []
-groupEnds f end due (g ∷ gs) = groupEnd (groupStart f g) due (nextStart f end gs) ∷ groupEnds f end (groupEnd (groupStart f g) due (nextStart f end gs)) gs
+groupEnds f end due (g ∷ gs) =
+    groupEnd (groupStart f g) due (nextStart f end gs) ∷ groupEnds f end (groupEnd (groupStart f g) due (nextStart f end gs)) gs
+
+-- where the group with the index i ends
+abbrev pub endFrom : List ℕ → Offsets → ℕ → ℕ → ℕ
+endFrom f o i due = groupEnd (groupStart f (groupIn o i)) due (nextStart f (o .end) (groupsFrom o (o .count - (i + 1)) (i + 1)))
 
 -- ---- a nonzero group, whose offset is at `field`
 
--- It starts where what is before it ends. (This asks something of the first nonzero group alone: the end of what is before a later one
--- is defined as its offset.) Its end is above its start, and not over End.
+-- It starts where it is due. (This asks something of the first nonzero group alone: a later one is due where the group before it ends,
+-- and that is defined as its offset.) Its end is above its start, and not over End.
 abbrev pub groupLayout : List ℕ → ℕ → ℕ → ℕ → ℕ → List Fact
-groupLayout f field before until stop =
-    isNumber reason.Layout f 0 field Two before ∷ fits 0 field 2 (numAt 2 f field + 1) until ∷ fits 0 field 2 until stop ∷ []
+groupLayout f field due until end =
+    isNumber reason.Layout f 0 field Two due ∷ fits 0 field offsetSize (numAt 2 f field + 1) until ∷ fits 0 field offsetSize until end ∷ []
 
 -- ---- the balises of a group, one after the other
 
@@ -95,31 +112,17 @@ walkLayout f from until = flatMap (baliseLayout f until) (startsFrom (baliseByte
 -- ---- the facts, in field order
 
 unfoldable pub madeFacts : List ℕ → ℕ → ℕ → Made → List Fact
-madeFacts f field until (Fixed size) = whole 0 field 2 (until - numAt 2 f field) size ∷ []
+madeFacts f field until (Fixed size) = whole 0 field offsetSize (until - numAt 2 f field) size ∷ []
 madeFacts f field until Balises = walkLayout f (numAt 2 f field) until
 
--- a nonzero group starts where due, its end is above its start and not over End, and it is whole records
+-- a nonzero group starts where due, its end `until` is above its start and not over End, and it is whole records
 unfoldable pub oneGroup : List ℕ → ℕ → ℕ → ℕ → Group → List Fact
 oneGroup f end due until g = cond (eqb (groupStart f g) 0) [] (groupLayout f (g .field) due until end ++ madeFacts f (g .field) until (g .made))
 
--- Each group in turn. At last, what came ends at End; this asks something only where no group is there, since the end of a group is
--- defined as the next offset or End. `last` is where the record starts that ends there.
+-- Each group in turn, from where it is due to its end. At last, what came ends at End; this asks something only where no group is there,
+-- since the end of a group is defined as the next offset or End. `last` is where the last record before the groups starts.
 unfoldable pub groupFacts : List ℕ → ℕ → ℕ → ℕ → List Group → List Fact
 groupFacts f last end due [] = endsAt last due end ∷ []
-groupFacts f last end due (g ∷ gs) = oneGroup f end due (nextStart f end gs) g ++ groupFacts f last end (groupEnd (groupStart f g) due (nextStart f end gs)) gs
-
--- ---- the groups of a file: the offset of the one with the index i stands at base + 2 i
-
--- n groups from the index i on
-unfoldable pub groupsFrom : Grouping → ℕ → ℕ → ℕ → List Group
-groupsFrom file base zero i = []
-groupsFrom file base (suc n) i = group (base + offsetSize * i) (madeOf file i) ∷ groupsFrom file base n (i + 1)
-
--- their next nonzero offset, else End
-unfoldable pub nextFrom : List ℕ → ℕ → ℕ → ℕ → ℕ → ℕ
-nextFrom f end base zero i = end
-nextFrom f end base (suc n) i = orNext (numAt 2 f (base + offsetSize * i)) (nextFrom f end base n (i + 1))
-
--- X.2 has five groups
-abbrev pub yardCount : ℕ
-yardCount = 5
+groupFacts f last end due (g ∷ gs) =
+    oneGroup f end due (groupEnd (groupStart f g) due (nextStart f end gs)) g
+    ++ groupFacts f last end (groupEnd (groupStart f g) due (nextStart f end gs)) gs

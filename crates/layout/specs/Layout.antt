@@ -2,15 +2,17 @@
 -- start boundaries, end boundaries, then the five groups. These are the numbers of any file; the facts of the layout (Facts) say whether
 -- they are right.
 -- Assumes nothing.
-use Prim.Native.Nat.{ℕ, _+_, _*_, _^_, _<_, _≤_}
-use mathlib.Core.Bool.{cond}
+use Prim.Native.Nat.{ℕ, _+_, _*_}
 use mathlib.Core.List.{List}
-use lib.Dec.{eqb}
+use lib.ListN.{getD}
 use Rattle.octets.specs.Octets.{numAt}
 pub use Rattle.seal.specs.Seal.{endOf}
 use Rattle.records.specs.Places.{boundarySize}
 use Rattle.layout.specs.declared.Layout.{Layout}
-use Rattle.layout.specs.Places.{startCountAt, endCountAt, groupsAt, headerLength, turnoutsField, balisesField, signalsField, jointsField, sidingsField}
+use Rattle.layout.specs.declared.Grouping.the-variants.{Yard}
+use Rattle.layout.specs.declared.Offsets.{Offsets}
+use Rattle.layout.specs.Places.{startCountAt, endCountAt, groupsAt, yardCount, headerLength}
+use Rattle.layout.specs.Groups.{groupsOf, groupEnds}
 
 -- ---- the boundaries
 
@@ -33,42 +35,13 @@ boundsOf f = middleOf f + boundarySize * endsOf f
 
 -- ---- the groups
 
--- the offset of the group whose field is one of the five; 0 is an empty group
-abbrev pub groupOf : List ℕ → ℕ → ℕ
-groupOf f field = numAt 2 f (groupsAt (startsOf f) (endsOf f) + field)
+-- X.2's five group offsets, the first at a base
+abbrev pub yardOffsets : ℕ → ℕ → Offsets
+yardOffsets base end = record { file = Yard; base = base; count = yardCount; end = end }
 
--- a group's offset, and where the group is empty the next one's
-unfoldable pub orNext : ℕ → ℕ → ℕ
-orNext off next = cond (eqb off 0) next off
-
--- the next nonzero offset from a group on, else End
-unfoldable pub sidingsFrom : List ℕ → ℕ
-sidingsFrom f = orNext (groupOf f sidingsField) (endOf f)
-
-unfoldable pub jointsFrom : List ℕ → ℕ
-jointsFrom f = orNext (groupOf f jointsField) (sidingsFrom f)
-
-unfoldable pub signalsFrom : List ℕ → ℕ
-signalsFrom f = orNext (groupOf f signalsField) (jointsFrom f)
-
-unfoldable pub balisesFrom : List ℕ → ℕ
-balisesFrom f = orNext (groupOf f balisesField) (signalsFrom f)
-
--- where a group ends: it runs to the next nonzero offset, else to End; an empty one ends where what is before it ends
-unfoldable pub groupEnd : ℕ → ℕ → ℕ → ℕ
-groupEnd off before next = cond (eqb off 0) before next
-
-unfoldable pub turnoutsEnd : List ℕ → ℕ
-turnoutsEnd f = groupEnd (groupOf f turnoutsField) (boundsOf f) (balisesFrom f)
-
-unfoldable pub balisesEnd : List ℕ → ℕ
-balisesEnd f = groupEnd (groupOf f balisesField) (turnoutsEnd f) (signalsFrom f)
-
-unfoldable pub signalsEnd : List ℕ → ℕ
-signalsEnd f = groupEnd (groupOf f signalsField) (balisesEnd f) (jointsFrom f)
-
-unfoldable pub jointsEnd : List ℕ → ℕ
-jointsEnd f = groupEnd (groupOf f jointsField) (signalsEnd f) (sidingsFrom f)
+-- where the group with the index i ends; the first nonzero one is due where the boundaries end
+abbrev pub groupEndOf : List ℕ → ℕ → ℕ
+groupEndOf f i = getD (groupEnds f (endOf f) (boundsOf f) (groupsOf (yardOffsets (groupsAt (startsOf f) (endsOf f)) (endOf f)))) i 0
 
 -- ---- all numbers; the sidings end at End
 
@@ -79,19 +52,9 @@ layoutOf f = record {
   header = headerOf f;
   middle = middleOf f;
   bounds = boundsOf f;
-  turnouts = turnoutsEnd f;
-  balises = balisesEnd f;
-  signals = signalsEnd f;
-  joints = jointsEnd f;
+  turnouts = groupEndOf f 0;
+  balises = groupEndOf f 1;
+  signals = groupEndOf f 2;
+  joints = groupEndOf f 3;
   stop = endOf f;
 }
-
--- how large these numbers are in any file: a slice has fewer than 2 ^ 63 bytes
-pub record Small (l : Layout) : Type 0 where
-  pub starts : l .starts < 256
-  pub ends : l .ends < 256
-  pub header : l .header < 8000
-  pub middle : l .middle < 8000
-  pub least : boundarySize ≤ l .bounds
-  pub bounds : l .bounds < 8000
-  pub stop : l .stop < 2 ^ 63

@@ -1,8 +1,8 @@
 pub mod Places
-pub mod Layout
 pub mod Groups
+pub mod Layout
 pub mod Facts
 pub mod Records
 pub mod Obeys
-pub mod Regions
 pub mod Bounds
+pub mod Regions

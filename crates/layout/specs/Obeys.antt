@@ -43,7 +43,7 @@ pub record LayoutObeys (f : List ℕ) (l : Layout) : Type 0 where
   -- k is not 0, and header plus 12 (n + k) is not over End
   pub end-count : (1 ≤ numAt 1 f (endCountAt (l .starts))) × (numAt 1 f (endCountAt (l .starts)) ≤ 255)
   pub boundary-room : l .bounds ≤ l .stop
-  -- each boundary offset is where due: the start boundaries stand behind the header, the end boundaries behind those
+  -- each boundary offset is where due: the start boundaries stand after the header, the end boundaries after those
   pub start-offsets : (i : ℕ) → i < l .starts → numAt 2 f (startEntriesAt + entrySize * i + entryOffset) ≡ l .header + boundarySize * i
   pub end-offsets : (j : ℕ) → j < l .ends → numAt 2 f (endEntriesAt (l .starts) + entrySize * j + entryOffset) ≡ l .middle + boundarySize * j
   -- from there to End there is nothing but the groups

@@ -33,32 +33,20 @@ endCountAt n = startEntriesAt + entrySize * n
 abbrev pub endEntriesAt : ℕ → ℕ
 endEntriesAt n = endCountAt n + 1
 
--- ---- the five group offsets: a field's place among them, and their size
+-- ---- the five group offsets: turnouts, balises, signals, joints, sidings
+
+abbrev pub offsetSize : ℕ
+offsetSize = 2
+
+abbrev pub yardCount : ℕ
+yardCount = 5
 
 abbrev pub groupsAt : ℕ → ℕ → ℕ
 groupsAt n k = endEntriesAt n + entrySize * k
 
-abbrev pub turnoutsField : ℕ
-turnoutsField = 0
-
-abbrev pub balisesField : ℕ
-balisesField = 2
-
-abbrev pub signalsField : ℕ
-signalsField = 4
-
-abbrev pub jointsField : ℕ
-jointsField = 6
-
-abbrev pub sidingsField : ℕ
-sidingsField = 8
-
-abbrev pub groupsSize : ℕ
-groupsSize = 10
-
 -- the header's length, where the records start: 35 + 3 n + 3 k
 abbrev pub headerLength : ℕ → ℕ → ℕ
-headerLength n k = groupsAt n k + groupsSize
+headerLength n k = groupsAt n k + offsetSize * yardCount
 
 -- ---- limits
 

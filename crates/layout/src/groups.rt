@@ -1,25 +1,33 @@
-// Groups of records that follow each other without gaps: the offset of the group with the index i stands at base + 2 i.
+// Groups of records that follow each other without gaps (01: 'A group runs to the next nonzero group offset, else to End'). A header has an
+// offset for each group, in the groups' order; 0 is an empty group. A group is due where what is before it ends.
 ghost use mathlib.Core.Path.{_≡_};
-ghost use Prim.Native.Nat.{_-_, _^_, _≤_, _<_};
+ghost use Prim.Native.Nat.{_-_, _≤_, _<_};
 ghost use Rattle.verdict.specs.Facts.{judge};
-ghost use Rattle.layout.specs.Groups.{madeOf, groupsFrom, nextFrom, madeFacts, oneGroup, group, groupFacts};
+ghost use Rattle.layout.specs.Bounds.{groupsMost, sliceOver, Near};
+ghost use Rattle.layout.specs.Groups.{madeOf, groupIn, groupsFrom, groupsOf, nextStart, endFrom, groupLayout, madeFacts, oneGroup, groupFacts};
+use crate::BALISES;
 use crate::ELEMENT_SIZE;
 use crate::Grouping;
+use crate::JOINTS;
 use crate::Made;
 use crate::OFFSET_SIZE;
-use crate::faults::group_layout;
-use crate::faults::walk_layout;
-use crate::numbers::apart;
-use crate::numbers::group_end;
-use crate::numbers::or_next;
+use crate::Offsets;
+use crate::SIGNALS;
+use crate::TURNOUTS;
+use crate::balises::walk_layout;
+use octets::Width;
+use octets::less;
 use octets::u16_at;
 use records::Joint;
 use records::Siding;
 use records::Signal;
 use records::Turnout;
 use rules::ends_at;
+use rules::fits;
+use rules::is_number;
 use rules::whole;
 use verdict::Judged;
+use verdict::Reason;
 
 // What the group with an index is made of.
 fn made_of(file: Grouping, i: usize) -> Made
@@ -28,91 +36,101 @@ fn made_of(file: Grouping, i: usize) -> Made
     let Grouping::Yard = file else {
         return Made::Fixed(ELEMENT_SIZE);
     };
-    if i == 0 {
+    if i == TURNOUTS {
         return Made::Fixed(Turnout::SIZE);
     }
-    if i == 1 {
+    if i == BALISES {
         return Made::Balises;
     }
-    if i == 2 {
+    if i == SIGNALS {
         return Made::Fixed(Signal::SIZE);
     }
-    if i == 3 {
+    if i == JOINTS {
         return Made::Fixed(Joint::SIZE);
     }
     Made::Fixed(Siding::SIZE)
 }
 
 // The first nonzero offset of the groups from an index on, else End.
-fn next_start(f: &[u8], base: usize, count: usize, i: usize, end: usize) -> usize
-    requires { ⌜ (base < 8000) × (count ≤ 16) × (i ≤ count) × (end < 2 ^ 63) ⌝ }
-    ensures { λ r. ⌜ r ≡ nextFrom (now (f .entry)) end base (count - i) i ⌝ }
-    ensures { λ r. ⌜ r < 2 ^ 63 ⌝ }
+fn next_start(f: &[u8], o: Offsets, i: usize) -> usize
+    requires { ⌜ Near o ⌝ }
+    ensures { λ r. ⌜ r ≡ nextStart (now (f .entry)) (o .end) (groupsFrom o (o .count - i) i) ⌝ }
+    ensures { λ r. ⌜ r < sliceOver ⌝ }
 {
-    let mut j = count;
-    let mut next = end;
-    while i < j {
-        j = j - 1;
-        next = or_next(f, base + OFFSET_SIZE * j, next);
+    let mut j = i;
+    while j < o.count {
+        let off = u16_at(f, o.base + OFFSET_SIZE * j);
+        if off != 0 {
+            return off;
+        }
+        j = j + 1;
     }
-    next
+    o.end
+}
+
+// Where the group with an index ends, which is due at a place: it runs to the next nonzero offset, else to End; an empty one ends where it
+// is due.
+pub fn group_end(f: &[u8], o: Offsets, i: usize, due: usize) -> usize
+    requires { ⌜ Near o × (i ≤ groupsMost) × (due < sliceOver) ⌝ }
+    ensures { λ r. ⌜ r ≡ endFrom (now (f .entry)) o i due ⌝ }
+    ensures { λ r. ⌜ r < sliceOver ⌝ }
+{
+    if u16_at(f, o.base + OFFSET_SIZE * i) == 0 {
+        return due;
+    }
+    next_start(f, o, i + 1)
+}
+
+// A nonzero group, with its offset at a field: it starts where it is due, and its end is above its start and not over End.
+fn group_layout(v: Judged, f: &[u8], field: usize, due: usize, until: usize, end: usize) -> Judged
+    ensures { λ r. ⌜ r ≡ judge v (groupLayout (now (f .entry)) field due until end) ⌝ }
+{
+    let off = u16_at(f, field);
+    let mut w = is_number(v, f, Reason::Layout, 0, field, Width::Two, due);
+    w = fits(w, 0, field, OFFSET_SIZE, off + 1, until);
+    fits(w, 0, field, OFFSET_SIZE, until, end)
 }
 
 // The records of a group, whose offset is at a field: whole ones.
-fn made_layout(f: &[u8], field: usize, until: usize, made: Made, v: Judged) -> Judged
-    requires { ⌜ until < 2 ^ 63 ⌝ }
+fn made_layout(v: Judged, f: &[u8], field: usize, until: usize, made: Made) -> Judged
+    requires { ⌜ until < sliceOver ⌝ }
     ensures { λ r. ⌜ r ≡ judge v (madeFacts (now (f .entry)) field until made) ⌝ }
 {
     let off = u16_at(f, field);
     match made {
-        Made::Fixed(size) => whole(v, 0, field, 2, apart(until, off), size),
-        Made::Balises => walk_layout(f, off, until, v),
+        Made::Fixed(size) => whole(v, 0, field, OFFSET_SIZE, less(until, off), size),
+        Made::Balises => walk_layout(v, f, off, until),
     }
 }
 
-// One group: if it is not empty, it is right and whole records.
-fn one_group(
-    f: &[u8],
-    field: usize,
-    made: Made,
-    due: usize,
-    until: usize,
-    end: usize,
-    v: Judged,
-) -> Judged
-    requires { ⌜ until < 2 ^ 63 ⌝ }
-    ensures { λ r. ⌜ r ≡ judge v (oneGroup (now (f .entry)) end due until (group field made)) ⌝ }
+// The group with an index, from where it is due to its end: if it is not empty, it is right and whole records.
+fn one_group(v: Judged, f: &[u8], o: Offsets, i: usize, due: usize, until: usize) -> Judged
+    requires { ⌜ Near o × (i ≤ groupsMost) × (until < sliceOver) ⌝ }
+    ensures { λ r. ⌜ r ≡ judge v (oneGroup (now (f .entry)) (o .end) due until (groupIn o i)) ⌝ }
 {
+    let field = o.base + OFFSET_SIZE * i;
     if u16_at(f, field) == 0 {
         return v;
     }
-    let w = group_layout(f, field, due, until, end, v);
-    made_layout(f, field, until, made, w)
+    let file = o.file;
+    let w = group_layout(v, f, field, due, until, o.end);
+    made_layout(w, f, field, until, made_of(file, i))
 }
 
-// The groups in field order, the first due at a place; at last, what came ends at End.
-pub fn check_groups(
-    f: &[u8],
-    file: Grouping,
-    base: usize,
-    count: usize,
-    last: usize,
-    first: usize,
-    end: usize,
-    v: Judged,
-) -> Judged
-    requires { ⌜ (base < 8000) × (count ≤ 16) × (first < 2 ^ 63) × (end < 2 ^ 63) ⌝ }
-    ensures { λ r. ⌜ r ≡ judge v (groupFacts (now (f .entry)) last end first (groupsFrom file base count 0)) ⌝ }
+// The groups in field order, the first due at a place; at last, what came ends at End. `last` is where the last record before the groups
+// starts.
+pub fn check_groups(v: Judged, f: &[u8], o: Offsets, first: usize, last: usize) -> Judged
+    requires { ⌜ Near o × (first < sliceOver) ⌝ }
+    ensures { λ r. ⌜ r ≡ judge v (groupFacts (now (f .entry)) last (o .end) first (groupsOf o)) ⌝ }
 {
     let mut w = v;
     let mut due = first;
     let mut i = 0;
-    while i < count {
-        let field = base + OFFSET_SIZE * i;
-        let next = next_start(f, base, count, i + 1, end);
-        w = one_group(f, field, made_of(file, i), due, next, end, w);
-        due = group_end(f, field, due, next);
+    while i < o.count {
+        let until = group_end(f, o, i, due);
+        w = one_group(w, f, o, i, due, until);
+        due = until;
         i = i + 1;
     }
-    ends_at(w, last, due, end)
+    ends_at(w, last, due, o.end)
 }

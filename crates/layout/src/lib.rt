@@ -1,8 +1,11 @@
 // X.2's layout (01, 'X.2, fixed application' and 'Layout faults'): where the records of a file stand, the first fault of that, and the
 // records one after the other.
+use octets::Width;
 use seal::MOST_LENGTH;
+use tables::Field;
 use verdict::Mark;
 
+mod balises;
 mod faults;
 mod groups;
 mod numbers;
@@ -14,19 +17,28 @@ pub use numbers::layout_of;
 pub use stream::kind_at;
 pub use stream::size_of;
 
-// The numbers of the header, and where the records stand that it speaks of: the header ends at `header`, the start boundaries at `middle`,
-// the end boundaries at `bounds`, then each of the groups at its own, and the sidings at `stop`, which is End. An empty group ends where
-// what is before it ends.
+// The two counts of a header, and where the header and each sort of records end. Each sort starts where the one before it ends, so an
+// empty group ends there too.
 pub struct Layout {
+    // n: how many start boundaries the header names
     pub starts: usize,
+    // k: how many end boundaries it names
     pub ends: usize,
+    // where the header ends and the start boundaries start
     pub header: usize,
+    // where the start boundaries end and the end boundaries start
     pub middle: usize,
+    // where the end boundaries end and the turnouts start
     pub bounds: usize,
+    // where the turnouts end and the balises start
     pub turnouts: usize,
+    // where the balises end and the signals start
     pub balises: usize,
+    // where the signals end and the joints start
     pub signals: usize,
+    // where the joints end and the sidings start
     pub joints: usize,
+    // End: the file's length without its checksum, where the sidings end
     pub stop: usize,
 }
 
@@ -48,38 +60,46 @@ pub enum Grouping {
     Elements,
 }
 
-// Table 5: where each field of the header stands, behind those that both files have alike.
+// The group offsets of a header.
+pub struct Offsets {
+    // whose groups they are
+    pub file: Grouping,
+    // where the first offset stands
+    pub base: usize,
+    // how many there are
+    pub count: usize,
+    // End, where the last group ends
+    pub end: usize,
+}
+
+// Table 5: where the fields of the header stand that come after those of both files. The station's name is given by its place.
 pub const NAME: usize = 7;
 
-pub const START_COUNT: usize = 23;
+pub const START_COUNT: Field = Field(23, Width::One);
 
 // Where the entries of the start boundaries stand, each field of an entry counted from the entry's start, and the entry's size.
 pub const START_ENTRIES: usize = 24;
 
-pub const ENTRY_TRACK: usize = 0;
+pub const ENTRY_TRACK: Field = Field(0, Width::One);
 
-pub const ENTRY_OFFSET: usize = 1;
+pub const ENTRY_OFFSET: Field = Field(1, Width::Two);
 
 pub const ENTRY_SIZE: usize = 3;
 
-// The five group offsets, each counted from the first one, and their size.
-pub const TURNOUTS: usize = 0;
-
-pub const BALISES: usize = 2;
-
-pub const SIGNALS: usize = 4;
-
-pub const JOINTS: usize = 6;
-
-pub const SIDINGS: usize = 8;
-
-pub const GROUPS_SIZE: usize = 10;
+// The size of a group's offset, how many groups X.2 has, and the index of each in the header's order. The sidings come last.
+pub const OFFSET_SIZE: usize = 2;
 
 pub const YARD_GROUPS: usize = 5;
 
-// The size of a group's offset, and of an element of X.3.
-pub const OFFSET_SIZE: usize = 2;
+pub const TURNOUTS: usize = 0;
 
+pub const BALISES: usize = 1;
+
+pub const SIGNALS: usize = 2;
+
+pub const JOINTS: usize = 3;
+
+// The size of an element of X.3.
 pub const ELEMENT_SIZE: usize = 14;
 
 // The greatest count, which stands in one byte, and the greatest place of a file.

@@ -1,26 +1,29 @@
-// Where the records of a file stand, as its header has it.
+// Where the records of an X.2 file stand, as its header has it (01, 'X.2, fixed application').
 ghost use mathlib.Core.Path.{_≡_};
-ghost use Prim.Native.Nat.{_-_, _^_, _<_};
-ghost use Rattle.octets.specs.Octets.{numAt};
+ghost use Prim.Native.Nat.{_≤_, _<_};
 ghost use Rattle.verdict.specs.Facts.{test};
-ghost use Rattle.layout.specs.Bounds.{bounded};
-ghost use Rattle.layout.specs.Layout.{orNext, groupEnd, layoutOf, Small};
+ghost use Rattle.layout.specs.Layout.{yardOffsets, layoutOf};
+ghost use Rattle.layout.specs.Bounds.{headerMost, sliceOver, bounded, Near, Small};
 use crate::BALISES;
 use crate::COUNT_MOST;
 use crate::ENTRY_SIZE;
-use crate::GROUPS_SIZE;
+use crate::Grouping;
 use crate::JOINTS;
 use crate::Layout;
+use crate::OFFSET_SIZE;
+use crate::Offsets;
 use crate::PLACE_MOST;
-use crate::SIDINGS;
 use crate::SIGNALS;
 use crate::START_COUNT;
 use crate::START_ENTRIES;
 use crate::TURNOUTS;
+use crate::YARD_GROUPS;
+use crate::groups::group_end;
 use octets::byte_at;
-use octets::u16_at;
 use records::Boundary;
-use seal::CHECKSUM_SIZE;
+use seal::HEADER;
+use seal::end_of;
+use tables::number_of;
 
 // Whether the numbers of a layout are those of a file.
 pub fn is_bounded(l: Layout) -> bool
@@ -31,31 +34,19 @@ pub fn is_bounded(l: Layout) -> bool
             & ((l.header <= PLACE_MOST) & ((l.middle <= PLACE_MOST) & (l.stop <= PLACE_MOST))))
 }
 
-// How many bytes lie between two places, and 0 where they are in the other order.
-pub fn apart(to: usize, from: usize) -> usize
-    ensures { λ r. ⌜ r ≡ to - from ⌝ }
+// X.2's five group offsets, the first at a base.
+pub fn yard_offsets(base: usize, end: usize) -> Offsets
+    requires { ⌜ (base ≤ headerMost) × (end < sliceOver) ⌝ }
+    ensures { λ r. ⌜ r ≡ yardOffsets base end ⌝ }
+    ensures { λ r. ⌜ Near r ⌝ }
 {
-    if to < from { 0 } else { to - from }
-}
-
-// The offset of the group whose field is at a place, and where the group is empty the next one's.
-pub fn or_next(f: &[u8], field: usize, next: usize) -> usize
-    requires { ⌜ next < 2 ^ 63 ⌝ }
-    ensures { λ r. ⌜ r ≡ orNext (numAt 2 (now (f .entry)) field) next ⌝ }
-    ensures { λ r. ⌜ r < 2 ^ 63 ⌝ }
-{
-    let off = u16_at(f, field);
-    if off == 0 { next } else { off }
-}
-
-// Where the group ends whose field is at a place: an empty one where what is before it ends.
-pub fn group_end(f: &[u8], field: usize, before: usize, next: usize) -> usize
-    requires { ⌜ (before < 2 ^ 63) × (next < 2 ^ 63) ⌝ }
-    ensures { λ r. ⌜ r ≡ groupEnd (numAt 2 (now (f .entry)) field) before next ⌝ }
-    ensures { λ r. ⌜ r < 2 ^ 63 ⌝ }
-{
-    let off = u16_at(f, field);
-    if off == 0 { before } else { next }
+    let file = Grouping::Yard;
+    Offsets {
+        file,
+        base,
+        count: YARD_GROUPS,
+        end,
+    }
 }
 
 // All numbers of the layout.
@@ -63,31 +54,29 @@ pub fn layout_of(f: &[u8]) -> Layout
     ensures { λ r. ⌜ r ≡ layoutOf (now (f .entry)) ⌝ }
     ensures { λ r. ⌜ Small r ⌝ }
 {
-    let stop = apart(f.len(), CHECKSUM_SIZE);
-    let starts = byte_at(f, START_COUNT);
+    let stop = end_of(f);
+    let starts = number_of(f, HEADER, START_COUNT);
     let end_count = START_ENTRIES + ENTRY_SIZE * starts;
     let ends = byte_at(f, end_count);
     let groups = end_count + 1 + ENTRY_SIZE * ends;
-    let header = groups + GROUPS_SIZE;
+    let header = groups + OFFSET_SIZE * YARD_GROUPS;
     let middle = header + Boundary::SIZE * starts;
     let bounds = middle + Boundary::SIZE * ends;
-    let sidings = or_next(f, groups + SIDINGS, stop);
-    let joints = or_next(f, groups + JOINTS, sidings);
-    let signals = or_next(f, groups + SIGNALS, joints);
-    let balises = or_next(f, groups + BALISES, signals);
-    let turnouts_end = group_end(f, groups + TURNOUTS, bounds, balises);
-    let balises_end = group_end(f, groups + BALISES, turnouts_end, signals);
-    let signals_end = group_end(f, groups + SIGNALS, balises_end, joints);
+    let o = yard_offsets(groups, stop);
+    let turnouts = group_end(f, o, TURNOUTS, bounds);
+    let balises = group_end(f, o, BALISES, turnouts);
+    let signals = group_end(f, o, SIGNALS, balises);
+    let joints = group_end(f, o, JOINTS, signals);
     Layout {
         starts,
         ends,
         header,
         middle,
         bounds,
-        turnouts: turnouts_end,
-        balises: balises_end,
-        signals: signals_end,
-        joints: group_end(f, groups + JOINTS, signals_end, sidings),
+        turnouts,
+        balises,
+        signals,
+        joints,
         stop,
     }
 }

@@ -1,6 +1,7 @@
-// The records of a file, one after the other.
+// The records of a file, one after the other: the kind and the size of each.
 ghost use mathlib.Core.Path.{_≡_};
 ghost use Prim.Native.Nat.{_≤_, _<_};
+ghost use Rattle.records.specs.Places.{baliseSize};
 ghost use Rattle.layout.specs.Facts.{baliseBytes};
 ghost use Rattle.layout.specs.Records.{kindAt, IsSize};
 use crate::Layout;
@@ -41,9 +42,9 @@ pub fn kind_at(l: Layout, at: usize) -> Kind
 // How many bytes the balise at a place has: its size byte, and never under 16.
 pub fn balise_bytes(f: &[u8], at: usize) -> usize
     ensures { λ r. ⌜ r ≡ baliseBytes (now (f .entry)) at ⌝ }
-    ensures { λ r. ⌜ (16 ≤ r) × (r < 256) ⌝ }
+    ensures { λ r. ⌜ (baliseSize ≤ r) × (r < 256) ⌝ }
 {
-    let n = byte_behind(f, at, Balise::SIZE_BYTE.0);
+    let n = byte_behind(f, at, Balise::SIZE_BYTE.0 as usize);
     if Balise::SIZE < n { n } else { Balise::SIZE }
 }
 

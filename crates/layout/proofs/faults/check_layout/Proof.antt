@@ -1,4 +1,4 @@
--- `layout::faults::check_layout` meets its contract.
+-- `layout::faults::check_layout` meets its contract. Its parts join by a law of Checks.
 -- Assumes nothing.
 use Rattle.layout.proofs.Checks.{layout-judged}
 use borrow.Author.Needs.{needs}
@@ -7,14 +7,10 @@ use Rattle.layout.proofs.faults.check_layout.Tie as tie
 
 returns : tie.Need-returns
 returns c =
-    let a = c .before .before .before .before .before .before .before .before .args in
-    let w = c .before .before .before .before .counts-layout in
-    let x = c .before .before .before .offsets-layout in
-    let y = c .before .before .offsets-layout2 in
-    layout-judged (a .f .now) (a .l) (a .v) (c .check-groups .result) (w .result) (x .result) (y .result) (w .ensures) (x .ensures) (y .ensures) (c .check-groups .ensures)
+    let counts = c .before .before .before .before in
+    let a = counts .before .before .before .before .before .args in
+    layout-judged (a .f .now) (a .l) (a .v) _ _ _ _ (counts .counts-layout .ensures) (c .before .before .before .offsets-layout .ensures) (c .before .before .offsets-layout2 .ensures)
+    (simp (c .check-groups .ensures, counts .before .yard-offsets .ensures .0))
 
 pub check-layout-spec : {M : Type 1} → statement M
-check-layout-spec =
-    tie.close
-    (tie.spec (λ c. search needs) (λ c. search needs) (λ c. search needs) (λ c. search needs) (λ c. search needs) (λ c κs. search needs) (λ c κs. search needs) (λ c κs. search needs) (λ c. search needs)
-    (λ c κs. search needs) returns)
+check-layout-spec = tie.close (tie.spec (λ c. search needs) (λ c. search needs) (λ c. search needs) (λ c. search needs) (λ c. search needs) (λ c κs. search needs) (λ c κs. search needs) (λ c κs. search needs) (λ c κs. search needs) (λ c. search needs) (λ c κs. search needs) returns)

@@ -5,22 +5,15 @@ use borrow.Author.Needs.{needs}
 use Rattle.layout.proofs.faults.find_layout.Statement.{statement}
 use Rattle.layout.proofs.faults.find_layout.Tie as tie
 
-layout-of-requires : tie.Need-layout-of-requires
-layout-of-requires c κs = search needs
-
 returns : tie.Need-returns
-returns c = is-found _ _ _ (c .before .before .before .layout-of .ensures .0) (c .before .before .check-layout .ensures) (c .enum-told .given .1)
+returns c =
+    let judged = c .before .before in
+    is-found _ _ _ (judged .before .layout-of .ensures .0) (judged .check-layout .ensures) (c .enum-told .given .1)
 
 returns-2 : tie.Need-returns-2
-returns-2 c = is-faulty _ _ _ (c .before .before .before .before .layout-of .ensures .0) (c .before .before .before .check-layout .ensures) _ (c .before .mark .given .1)
+returns-2 c =
+    let judged = c .before .before .before in
+    is-faulty _ _ _ (judged .before .layout-of .ensures .0) (judged .check-layout .ensures) _ (c .before .mark .given .1)
 
 pub find-layout-spec : {M : Type 1} → statement M
-find-layout-spec =
-    tie.close
-    (tie.spec
-    layout-of-requires
-    (λ c κs. search needs)
-    (λ c. search needs)
-    (λ c. search needs)
-    returns
-    returns-2)
+find-layout-spec = tie.close (tie.spec (λ c κs. search needs) (λ c κs. search needs) (λ c. search needs) (λ c. search needs) returns returns-2)

@@ -10,13 +10,11 @@ unfolding madeFacts
 returns c =
     let made = c .before .before .before .made .given .1 in
     let off = c .before .before .before .before .before .u16-at .ensures .is in
-    rw made (simp (c .whole .ensures, c .before .apart .ensures, off))
+    rw made (simp (c .whole .ensures, c .before .less .ensures, off))
 
 returns-2 : tie.Need-returns-2
 unfolding madeFacts
 returns-2 c = rw (c .before .enum-told .given .1) (simp (c .walk-layout .ensures, c .before .before .before .u16-at .ensures .is))
 
 pub made-layout-spec : {M : Type 1} → statement M
-made-layout-spec =
-    tie.close
-    (tie.spec (λ c κs. search needs) (λ c. search needs) (λ c κs. search needs) (λ c κs. search needs) (λ c. search needs) (λ c κs. search needs) returns returns-2)
+made-layout-spec = tie.close (tie.spec (λ c κs. search needs) (λ c. search needs) (λ c κs. search needs) (λ c κs. search needs) (λ c. search needs) (λ c κs. search needs) returns returns-2)

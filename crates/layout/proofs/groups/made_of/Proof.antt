@@ -1,4 +1,4 @@
--- `layout::groups::made_of` meets its contract.
+-- `layout::groups::made_of` meets its contract: at the k-th index every test before the k-th failed.
 -- Assumes nothing.
 use borrow.Author.Tests.{eq-eqb, ne-eqb}
 use Rattle.layout.specs.Groups.{madeOf}
@@ -16,19 +16,32 @@ returns-2 c = rw (c .before .enum-told .given .1, eq-eqb _ _ (c .if1 .taken))
 
 returns-3 : tie.Need-returns-3
 unfolding madeOf
-returns-3 c = rw (c .before .before .enum-told .given .1, ne-eqb _ _ (c .before .if1 .left), eq-eqb _ _ (c .if2 .taken))
+returns-3 c =
+    let t1 = c .before in
+    rw (t1 .before .enum-told .given .1, ne-eqb _ _ (t1 .if1 .left), eq-eqb _ _ (c .if2 .taken))
 
 returns-4 : tie.Need-returns-4
 unfolding madeOf
-returns-4 c = rw (c .before .before .before .enum-told .given .1, ne-eqb _ _ (c .before .before .if1 .left), ne-eqb _ _ (c .before .if2 .left), eq-eqb _ _ (c .if3 .taken))
+returns-4 c =
+    let t2 = c .before in
+    let t1 = t2 .before in
+    rw (t1 .before .enum-told .given .1, ne-eqb _ _ (t1 .if1 .left), ne-eqb _ _ (t2 .if2 .left), eq-eqb _ _ (c .if3 .taken))
 
 returns-5 : tie.Need-returns-5
 unfolding madeOf
-returns-5 c = rw (c .before .before .before .before .enum-told .given .1, ne-eqb _ _ (c .before .before .before .if1 .left), ne-eqb _ _ (c .before .before .if2 .left), ne-eqb _ _ (c .before .if3 .left), eq-eqb _ _ (c .if4 .taken))
+returns-5 c =
+    let t3 = c .before in
+    let t2 = t3 .before in
+    let t1 = t2 .before in
+    rw (t1 .before .enum-told .given .1, ne-eqb _ _ (t1 .if1 .left), ne-eqb _ _ (t2 .if2 .left), ne-eqb _ _ (t3 .if3 .left), eq-eqb _ _ (c .if4 .taken))
 
 returns-6 : tie.Need-returns-6
 unfolding madeOf
-returns-6 c = rw (c .before .before .before .before .enum-told .given .1, ne-eqb _ _ (c .before .before .before .if1 .left), ne-eqb _ _ (c .before .before .if2 .left), ne-eqb _ _ (c .before .if3 .left), ne-eqb _ _ (c .if4 .left))
+returns-6 c =
+    let t3 = c .before in
+    let t2 = t3 .before in
+    let t1 = t2 .before in
+    rw (t1 .before .enum-told .given .1, ne-eqb _ _ (t1 .if1 .left), ne-eqb _ _ (t2 .if2 .left), ne-eqb _ _ (t3 .if3 .left), ne-eqb _ _ (c .if4 .left))
 
 pub made-of-spec : {M : Type 1} → statement M
 made-of-spec = tie.close (tie.spec (λ c. search needs) (λ c. search needs) returns returns-2 returns-3 returns-4 returns-5 returns-6)

@@ -1,40 +1,37 @@
--- `layout::groups::next_start` meets its contract, from the last group back.
+-- `layout::groups::next_start` meets its contract. The invariant: the next nonzero offset from j on is the one from i on.
 -- Assumes nothing.
-use Prim.Native.Nat.{ℕ, _-_, _^_, _≤_, _<_}
-use mathlib.Core.Path.{_≡_, _∙_, ap}
+use Prim.Native.Nat.{_-_}
+use mathlib.Core.Path.{_≡_, _∙_, refl}
 use native.Mathlib.Omega.{arith}
-use Rattle.layout.specs.Groups.{nextFrom}
-use Rattle.layout.proofs.Loops.{next-none, next-more}
+use Rattle.layout.specs.Groups.{groupsFrom, nextStart}
+use Rattle.layout.proofs.Loops.{next-none, next-empty, next-there}
 use borrow.Author.Needs.{needs}
 use Rattle.layout.proofs.groups.next_start.Statement.{statement}
 use Rattle.layout.proofs.groups.next_start.Tie as tie
 
 abbrev Inv-loop : tie.InvT-loop
-Inv-loop f base count i end j₀ next₀ j next = (i ≤ j) × (j ≤ j₀) × (next < 2 ^ 63) × (next ≡ nextFrom f next₀ base (j₀ - j) j)
+Inv-loop f o i j₀ j = nextStart f (o .end) (groupsFrom o (o .count - j) j) ≡ nextStart f (o .end) (groupsFrom o (o .count - i) i)
 
 abbrev μ-loop : tie.MeasureT-loop
-μ-loop f base count i end j₀ next₀ j next = j
-
-loop-again : tie.Need-loop-again Inv-loop μ-loop
-loop-again c =
-    let a = c .before .before .before .before .args in
-    let h = c .before .before .loop in
-    let below = c .before .loop-test .taken in (
-      omega arith,
-      omega arith,
-      c .or-next .ensures .1,
-      c .or-next .ensures .0 ∙ next-more (a .f .now) (a .end) (a .base) (a .count) (h .j) (h .next) (omega arith) (omega arith) (h .inv .3),
-    )
+μ-loop f o i j₀ j = o .count - j
 
 returns : tie.Need-returns Inv-loop μ-loop
 returns c =
-    let h = c .before .loop in
-    let a = c .before .before .before .args in
-    let left = c .loop-test .left in
-    let at : h .j ≡ a .i = omega arith in
-    (h .inv .3 ∙ ap (λ (j : ℕ). nextFrom (a .f .now) (a .end) (a .base) (a .count - j) j) at, h .inv .2)
+    let off = c .before .u16-at in
+    let below = off .ensures .below in
+    let h = c .before .before .before .before .before .loop in
+    (next-there _ _ (h .j) (off .result) (off .ensures .is) (c .before .before .before .if1 .taken) (c .if2 .taken) ∙ h .inv, omega arith)
+
+loop-again : tie.Need-loop-again Inv-loop μ-loop
+loop-again c =
+    let off = c .before .u16-at in
+    let h = c .before .before .before .before .before .loop in
+    next-empty _ _ (h .j) (off .result) (off .ensures .is) (c .before .before .before .if1 .taken) (c .if2 .left) ∙ h .inv
+
+returns-2 : tie.Need-returns-2 Inv-loop μ-loop
+returns-2 c =
+    let h = c .before .before .loop in
+    (next-none _ _ (h .j) (c .if1 .left) ∙ h .inv, search needs)
 
 pub next-start-spec : {M : Type 1} → statement M
-next-start-spec =
-    tie.close
-    (tie.spec Inv-loop μ-loop (λ c. (omega arith, omega arith, search needs, next-none _ _ _ _)) (λ c. search needs) (λ c. search needs) (λ c. search needs) (λ c κs. search needs) (λ c. search needs) loop-again returns)
+next-start-spec = tie.close (tie.spec Inv-loop μ-loop (λ c. refl) (λ c. search needs) (λ c. search needs) (λ c κs. search needs) returns (λ c. search needs) (λ c. search needs) loop-again returns-2)

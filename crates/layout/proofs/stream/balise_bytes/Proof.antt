@@ -17,6 +17,7 @@ returns-2 c = omega (arith, c .before .byte-behind .ensures .is)
 pub balise-bytes-spec : {M : Type 1} → statement M
 balise-bytes-spec = tie.close
     (tie.spec
+    (λ c. search needs)
     (λ c κs. search needs)
     returns
     returns-2)

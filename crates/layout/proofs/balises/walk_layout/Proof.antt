@@ -1,18 +1,18 @@
--- `layout::faults::walk_layout` meets its contract. The invariant: the verdict so far, then the facts of the balises from `at` on, is the
+-- `layout::balises::walk_layout` meets its contract. The invariant: the verdict so far, then the facts of the balises from `at` on, is the
 -- verdict before the loop and then the facts of all balises.
 -- Assumes nothing.
 use Prim.Native.Nat.{_-_}
 use mathlib.Core.Path.{_≡_, _∙_, refl, sym}
 use mathlib.Core.List.{flatMap}
 use native.Mathlib.Omega.{arith}
-use borrow.Author.Needs.{needs}
 use Rattle.verdict.specs.Facts.{judge}
 use Rattle.verdict.specs.Walk.{startsFrom}
 use Rattle.verdict.proofs.Checks.{judge-step, judge-stop}
 use Rattle.layout.specs.Groups.{baliseBytes, baliseLayout, walkLayout}
 use Rattle.layout.proofs.Records.{baliseBytes-pos}
-use Rattle.layout.proofs.faults.walk_layout.Statement.{statement}
-use Rattle.layout.proofs.faults.walk_layout.Tie as tie
+use borrow.Author.Needs.{needs}
+use Rattle.layout.proofs.balises.walk_layout.Statement.{statement}
+use Rattle.layout.proofs.balises.walk_layout.Tie as tie
 
 abbrev Inv-loop : tie.InvT-loop
 Inv-loop f from until w₀ at₀ w at =
@@ -39,15 +39,4 @@ returns c =
     sym (judge-stop (baliseBytes (a .f .now)) (a .until) (baliseLayout (a .f .now) (a .until)) _ _ (omega arith)) ∙ c .before .loop .inv
 
 pub walk-layout-spec : {M : Type 1} → statement M
-walk-layout-spec =
-    tie.close
-    (tie.spec
-    Inv-loop
-    μ-loop
-    loop-holds
-    (λ c κs. search needs)
-    (λ c κs. search needs)
-    (λ c. search needs)
-    (λ c. search needs)
-    loop-again
-    returns)
+walk-layout-spec = tie.close (tie.spec Inv-loop μ-loop loop-holds (λ c κs. search needs) (λ c κs. search needs) (λ c. search needs) (λ c. search needs) loop-again returns)

@@ -1,0 +1,66 @@
+// The balises of a group, one after the other (01, 'Layout faults'): each has its own size.
+ghost use mathlib.Core.Path.{_≡_};
+ghost use mathlib.Core.List.{[], _∷_};
+ghost use Prim.Native.Nat.{_<_};
+ghost use Rattle.verdict.specs.Facts.{judge};
+ghost use Rattle.layout.specs.Bounds.{sliceOver};
+ghost use Rattle.layout.specs.Groups.{sizeByte, baliseLayout, walkLayout};
+use crate::SIZE_LEAST;
+use crate::SIZE_MOST;
+use crate::stream::balise_bytes;
+use octets::byte_at;
+use records::Balise;
+use rules::fits;
+use verdict::Judged;
+use verdict::Mark;
+use verdict::Reason;
+use verdict::Rule;
+use verdict::also_fact;
+
+// The size byte of the balise at a place is 16, or 18 to 120.
+fn size_byte(v: Judged, f: &[u8], at: usize) -> Judged
+    requires { ⌜ at < sliceOver ⌝ }
+    ensures { λ r. ⌜ r ≡ judge v (sizeByte (now (f .entry)) at ∷ []) ⌝ }
+{
+    let field = at + Balise::SIZE_BYTE.0 as usize;
+    let n = byte_at(f, field);
+    let reason = Reason::Layout;
+    let rule = Rule::SizeByte(field, SIZE_LEAST, SIZE_MOST);
+    let mark = Mark {
+        reason,
+        start: at,
+        place: at,
+        width: 1,
+        rule,
+    };
+    also_fact(
+        v,
+        (n == Balise::SIZE) | ((SIZE_LEAST <= n) & (n <= SIZE_MOST)),
+        mark,
+    )
+}
+
+// The balise at a place: 16 bytes are left of its group, its size byte is right, and it is not too large for the rest.
+fn balise_layout(v: Judged, f: &[u8], at: usize, until: usize) -> Judged
+    requires { ⌜ at < sliceOver ⌝ }
+    ensures { λ r. ⌜ r ≡ judge v (baliseLayout (now (f .entry)) until at) ⌝ }
+{
+    let n = byte_at(f, at + Balise::SIZE_BYTE.0 as usize);
+    let mut w = fits(v, at, at, 0, at + Balise::SIZE, until);
+    w = size_byte(w, f, at);
+    fits(w, at, at, 0, at + n, until)
+}
+
+// The balises of the group that stands from a place to another.
+pub fn walk_layout(v: Judged, f: &[u8], from: usize, until: usize) -> Judged
+    requires { ⌜ until < sliceOver ⌝ }
+    ensures { λ r. ⌜ r ≡ judge v (walkLayout (now (f .entry)) from until) ⌝ }
+{
+    let mut w = v;
+    let mut at = from;
+    while at < until {
+        w = balise_layout(w, f, at, until);
+        at = at + balise_bytes(f, at);
+    }
+    w
+}
