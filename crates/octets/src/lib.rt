@@ -218,3 +218,10 @@ pub fn least(a: usize, b: usize) -> usize
 {
     if a < b { a } else { b }
 }
+
+// a without b, and 0 where b is greater.
+pub fn less(a: usize, b: usize) -> usize
+    ensures { λ r. ⌜ r ≡ a - b ⌝ }
+{
+    if a < b { 0 } else { a - b }
+}
