@@ -203,7 +203,7 @@ module _ (f : List ℕ) (size : ℕ) (positive : 0 < size) where
         ),
       )
 
--- ---- agreement, of a track whose last point stands k + 1 sizes behind its first
+-- ---- agreement, of a track whose last point stands k + 1 sizes after its first
 
 module _ (f : List ℕ) (size e k : ℕ) (positive : 0 < size) (spread : lastOf f e ≡ pointPlace f size e (suc k)) where
   -- point j is one of the track's points exactly where it is not after the last one
