@@ -52,7 +52,7 @@ pointPlaceIn (point.Refused t) = t .place
 
 -- position, both increments, heading, near flag
 abbrev pub pointValuesIn : PointAnswer → List ℤ
-pointValuesIn (point.Point p) = pos (p .position) ∷ p .latitude ∷ p .longitude ∷ p .heading ∷ pos (p .near) ∷ []
+pointValuesIn (point.Point p) = pos (p .position) ∷ p .«latitude_increment» ∷ p .«longitude_increment» ∷ p .heading ∷ pos (p .near) ∷ []
 pointValuesIn (point.Refused t) = replicate 5 (pos 0)
 
 -- ---- a coordinate

@@ -1,4 +1,4 @@
-// The answers to the questions on an X.1 file.
+// The answers to the questions on an X.1 file (01: 'A question ..'): what was asked for, or the number and the place of the refusal.
 use tracks::Point;
 use tracks::Track;
 use verdict::Fault;

@@ -1,8 +1,9 @@
-// The questions on an X.1 file: track, point, coordinate (01: 'A question ..'). Each takes the verdict apart and returns the file's own
-// fault at once.
+// The questions on an X.1 file, track geography (01: 'A question ..'): track, point, and the coordinate at a position. Each takes the verdict
+// apart and returns the file's own fault at once.
 ghost use mathlib.Core.Path.{_≡_};
-ghost use Prim.Native.Nat.{_+_, _*_, _<_};
-ghost use Rattle.geography.specs.Obeys.{entryAt};
+ghost use Prim.Native.Nat.{_+_, _*_, _≤_, _<_};
+ghost use Rattle.seal.specs.Seal.{mostLength};
+ghost use Rattle.geography.specs.Obeys.{entryPlace};
 ghost use Rattle.survey.specs.Questions.{refusal, afterVerdict, trackOf, pointOf, onTrack, coordinateAsked};
 ghost use Rattle.survey.specs.Requires.{TrackObeys};
 
@@ -16,10 +17,10 @@ pub use answers::TrackAnswer;
 use geography::verdicts::verdict_of;
 use lookup::Found;
 use lookup::find_track;
-use octets::byte_at;
-use octets::u32_at;
+use seal::HEADER;
 use stretch::coordinate_on;
 use stretch::find_stretch;
+use tables::number_of;
 use tracks::COUNT;
 use tracks::ENTRIES;
 use tracks::Point;
@@ -64,19 +65,18 @@ fn refused_coordinate(v: Verdict) -> CoordinateAnswer
 }
 
 // Where the entry of track i stands.
-fn entry_at(i: usize) -> u16
-    requires { ⌜ i < 256 ⌝ }
-    ensures { λ r. ⌜ r ≡ entryAt i ⌝ }
+fn entry_place(i: u8) -> u16
+    ensures { λ r. ⌜ r ≡ entryPlace i ⌝ }
 {
-    (ENTRIES + Track::SIZE * i) as u16
+    ENTRIES as u16 + Track::SIZE as u16 * i as u16
 }
 
 // Where point j stands, of a track whose first point is at `first`.
-fn point_at(first: usize, size: usize, j: usize) -> u16
-    requires { ⌜ first + size * j < 65536 ⌝ }
+fn point_place(first: usize, size: u8, j: usize) -> u16
+    requires { ⌜ first + size * j ≤ mostLength ⌝ }
     ensures { λ r. ⌜ r ≡ first + size * j ⌝ }
 {
-    (first + size * j) as u16
+    (first + size as usize * j) as u16
 }
 
 // The track of an index.
@@ -87,10 +87,10 @@ pub fn track(f: &[u8], index: usize) -> TrackAnswer
     let Verdict::Accepted = v else {
         return refused_track(v);
     };
-    if byte_at(f, COUNT) <= index {
+    if number_of(f, HEADER, COUNT) <= index {
         return TrackAnswer::Refused(refused(Reason::Question));
     }
-    TrackAnswer::Track(Track::read(f, entry_at(index)))
+    TrackAnswer::Track(Track::read(f, entry_place(index as u8)))
 }
 
 // The point of an index in the track of an index.
@@ -101,14 +101,14 @@ pub fn point(f: &[u8], track: usize, index: usize) -> PointAnswer
     let Verdict::Accepted = v else {
         return refused_point(v);
     };
-    if byte_at(f, COUNT) <= track {
+    if number_of(f, HEADER, COUNT) <= track {
         return PointAnswer::Refused(refused(Reason::Question));
     }
-    let entry = Track::read(f, entry_at(track));
+    let entry = Track::read(f, entry_place(track as u8));
     if entry.points() <= index {
         return PointAnswer::Refused(refused(Reason::Question));
     }
-    let at = point_at(entry.first, Point::SIZE, index);
+    let at = point_place(entry.first, Point::SIZE, index);
     PointAnswer::Point(Point::read(f, at))
 }
 
@@ -128,11 +128,11 @@ pub fn coordinate(f: &[u8], number: usize, position: usize) -> CoordinateAnswer
 }
 
 // The coordinate at a position of the track whose entry is at e.
-fn coordinate_at(f: &[u8], size: usize, e: usize, x: usize) -> CoordinateAnswer
-    requires { ⌜ (0 < size) × (size < 256) × TrackObeys (now f) size e ⌝ }
+fn coordinate_at(f: &[u8], size: u8, e: u32, x: usize) -> CoordinateAnswer
+    requires { ⌜ (0 < size) × TrackObeys (now f) size e ⌝ }
     ensures { λ r. ⌜ r ≡ onTrack (now (f .entry)) size e x ⌝ }
 {
-    if u32_at(f, e + Track::END_POSITION) < x {
+    if number_of(f, e, Track::END_POSITION) < x {
         return CoordinateAnswer::Refused(refused(Reason::Position));
     }
     let stretch = find_stretch(f, size, e, x);

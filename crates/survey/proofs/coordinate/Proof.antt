@@ -10,33 +10,9 @@ use borrow.Author.Needs.{needs}
 use Rattle.survey.proofs.coordinate.Statement.{statement}
 use Rattle.survey.proofs.coordinate.Tie as tie
 
-verdict-of-requires : tie.Need-verdict-of-requires
-verdict-of-requires c κs = search needs
-
-enum-told : tie.Need-enum-told
-enum-told c = search needs
-
-enum-told-2 : tie.Need-enum-told-2
-enum-told-2 c = search needs
-
-refused-coordinate-requires : tie.Need-refused-coordinate-requires
-refused-coordinate-requires c κs = search needs
-
 returns : tie.Need-returns
 unfolding coordinateAsked
 returns c = own-fault _ _ _ _ _ _ _ (c .before .before .before .verdict-of .ensures) (c .before .enum-told2 .given .1) (c .refused-coordinate .ensures)
-
-find-track-requires : tie.Need-find-track-requires
-find-track-requires c κs = search needs
-
-enum-known-found : tie.Need-enum-known-found
-enum-known-found c = search needs
-
-enum-told-3 : tie.Need-enum-told-3
-enum-told-3 c = search needs
-
-refused-requires : tie.Need-refused-requires
-refused-requires c κs = search needs
 
 returns-2 : tie.Need-returns-2
 returns-2 c =
@@ -50,7 +26,7 @@ coordinate-at-requires c κs =
     let v = d .before .before .before in
     let a = v .before .before .args in
     let o = (verdict-obeys (a .f .now)) .0 (sym (v .verdict-of .ensures) ∙ d .before .enum-told .given .1) in
-    (omega arith, omega arith, found-obeys (a .f .now) o (a .number) _ (sym (d .find-track .ensures) ∙ c .before .found .given .1))
+    (omega arith, found-obeys (a .f .now) o (a .number) _ (sym (d .find-track .ensures) ∙ c .before .found .given .1))
 
 returns-3 : tie.Need-returns-3
 returns-3 c =
@@ -62,15 +38,15 @@ pub coordinate-spec : {M : Type 1} → statement M
 coordinate-spec =
     tie.close
     (tie.spec
-    verdict-of-requires
-    enum-told
-    enum-told-2
-    refused-coordinate-requires
+    (λ c κs. search needs)
+    (λ c. search needs)
+    (λ c. search needs)
+    (λ c κs. search needs)
     returns
-    find-track-requires
-    enum-known-found
-    enum-told-3
-    refused-requires
+    (λ c κs. search needs)
+    (λ c. search needs)
+    (λ c. search needs)
+    (λ c κs. search needs)
     returns-2
     coordinate-at-requires
     returns-3)

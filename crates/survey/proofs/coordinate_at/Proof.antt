@@ -7,60 +7,37 @@ use borrow.Author.Needs.{needs}
 use Rattle.survey.proofs.coordinate_at.Statement.{statement}
 use Rattle.survey.proofs.coordinate_at.Tie as tie
 
-add-u32-at : tie.Need-add-u32-at
-add-u32-at c = search needs
-
-u32-at-requires : tie.Need-u32-at-requires
-u32-at-requires c κs = search needs
-
-refused-requires : tie.Need-refused-requires
-refused-requires c κs = search needs
-
 returns : tie.Need-returns
-returns c = beyond-end _ _ _ _ (c .before .before .u32-at .ensures .is) (c .before .if1 .taken) (c .refused .ensures)
-
-find-stretch-requires : tie.Need-find-stretch-requires
-find-stretch-requires c κs = search needs
-
-enum-known-stretch : tie.Need-enum-known-stretch
-enum-known-stretch c = search needs
-
-enum-told : tie.Need-enum-told
-enum-told c = search needs
-
-refused-requires-2 : tie.Need-refused-requires-2
-refused-requires-2 c κs = search needs
+returns c = beyond-end _ _ _ _ (c .before .before .number-of .ensures .is) (c .before .if1 .taken) (c .refused .ensures)
 
 returns-2 : tie.Need-returns-2
 returns-2 c =
     let d = c .before .before .before in
-    no-stretch _ _ _ _ (d .before .before .u32-at .ensures .is) (d .before .if1 .left) (d .find-stretch .ensures) (c .before .enum-told .given .1) (c .refused2 .ensures)
+    no-stretch _ _ _ _ (d .before .before .number-of .ensures .is) (d .before .if1 .left) (d .find-stretch .ensures) (c .before .enum-told .given .1) (c .refused2 .ensures)
 
 coordinate-on-requires : tie.Need-coordinate-on-requires
 coordinate-on-requires c κs =
     let d = c .before .before .before in
     let s = d .before .before .before .before in
     let a = s .args in
-    let w = on-found (a .f .now) (a .size) (a .e) (s .pre .0) (s .pre .2) (a .x) _ (sym (d .find-stretch .ensures) ∙ c .before .stretch .given .1) in
-    (s .pre .1, s .pre .2 .entry-low, w .0, w .1)
+    on-found (a .f .now) (a .size) (a .e) (s .pre .0) (s .pre .1) (a .x) _ (sym (d .find-stretch .ensures) ∙ c .before .stretch .given .1)
 
 returns-3 : tie.Need-returns-3
 returns-3 c =
     let d = c .before .before .before .before in
-    along-stretch _ _ _ _ (d .before .before .u32-at .ensures .is) (d .before .if1 .left) (d .find-stretch .ensures) (c .before .before .stretch .given .1) (c .coordinate-on .ensures)
+    along-stretch _ _ _ _ (d .before .before .number-of .ensures .is) (d .before .if1 .left) (d .find-stretch .ensures) (c .before .before .stretch .given .1) (c .coordinate-on .ensures)
 
 pub coordinate-at-spec : {M : Type 1} → statement M
 coordinate-at-spec =
     tie.close
     (tie.spec
-    add-u32-at
-    u32-at-requires
-    refused-requires
+    (λ c κs. search needs)
+    (λ c κs. search needs)
     returns
-    find-stretch-requires
-    enum-known-stretch
-    enum-told
-    refused-requires-2
+    (λ c κs. search needs)
+    (λ c. search needs)
+    (λ c. search needs)
+    (λ c κs. search needs)
     returns-2
     coordinate-on-requires
     returns-3)

@@ -1,93 +1,63 @@
--- `survey::point` meets its contract. The point is no further than its track's last one, and so stands below 65536.
+-- `survey::point` meets its contract. The point is no further than its track's last one, and so stands in the file.
 -- Assumes nothing.
 use Rattle.survey.specs.Questions.{pointOf}
-use Rattle.survey.proofs.Questions.{own-fault, point-no-track, point-none, point-there, point-low}
+use Rattle.survey.proofs.Questions.{own-fault, point-no-track, point-none, point-there, point-in-file}
 use borrow.Author.Needs.{needs}
 use Rattle.survey.proofs.point.Statement.{statement}
 use Rattle.survey.proofs.point.Tie as tie
-
-verdict-of-requires : tie.Need-verdict-of-requires
-verdict-of-requires c κs = search needs
-
-enum-told : tie.Need-enum-told
-enum-told c = search needs
-
-enum-told-2 : tie.Need-enum-told-2
-enum-told-2 c = search needs
-
-refused-point-requires : tie.Need-refused-point-requires
-refused-point-requires c κs = search needs
 
 returns : tie.Need-returns
 unfolding pointOf
 returns c = own-fault _ _ _ _ _ _ _ (c .before .before .before .verdict-of .ensures) (c .before .enum-told2 .given .1) (c .refused-point .ensures)
 
-byte-at-requires : tie.Need-byte-at-requires
-byte-at-requires c κs = search needs
-
-refused-requires : tie.Need-refused-requires
-refused-requires c κs = search needs
-
 returns-2 : tie.Need-returns-2
 returns-2 c =
     let d = c .before .before in
     let v = d .before .before .before in
-    point-no-track (v .before .before .args .f .now) (v .verdict-of .ensures) (d .before .enum-told .given .1) (d .byte-at .ensures .is) _ _ (c .before .if1 .taken) (c .refused .ensures)
-
-entry-at-requires : tie.Need-entry-at-requires
-entry-at-requires c κs = search needs
-
-read-requires : tie.Need-read-requires
-read-requires c κs = search needs
-
-points-requires : tie.Need-points-requires
-points-requires c κs = search needs
-
-refused-requires-2 : tie.Need-refused-requires-2
-refused-requires-2 c κs = search needs
+    point-no-track (v .before .before .args .f .now) (v .verdict-of .ensures) (d .before .enum-told .given .1) (d .number-of .ensures .is) _ _ (c .before .if1 .taken) (c .refused .ensures)
 
 returns-3 : tie.Need-returns-3
 returns-3 c =
     let r = c .before .before .before in
     let d = r .before .before .before in
     let v = d .before .before .before in
-    point-none (v .before .before .args .f .now) (v .verdict-of .ensures) (d .before .enum-told .given .1) (d .byte-at .ensures .is) _ _ (r .before .before .if1 .left) (r .before .entry-at .ensures) (r .read .ensures) (c .before .before .points .ensures) (c .before .if2 .taken) (c .refused2 .ensures)
+    point-none (v .before .before .args .f .now) (v .verdict-of .ensures) (d .before .enum-told .given .1) (d .number-of .ensures .is) _ _ (r .before .before .if1 .left) (r .before .entry-place .ensures) (r .read .ensures) (c .before .before .points .ensures)
+    (c .before .if2 .taken) (c .refused2 .ensures)
 
-point-at-requires : tie.Need-point-at-requires
-point-at-requires c κs =
+point-place-requires : tie.Need-point-place-requires
+point-place-requires c κs =
     let r = c .before .before in
     let d = r .before .before .before in
     let v = d .before .before .before in
-    point-low (v .before .before .args .f .now) (v .verdict-of .ensures) (d .before .enum-told .given .1) (d .byte-at .ensures .is) _ _ (r .before .before .if1 .left) (r .before .entry-at .ensures) (r .read .ensures) (c .before .points .ensures) (c .if2 .left)
-
-read-requires-2 : tie.Need-read-requires-2
-read-requires-2 c κs = search needs
+    point-in-file (v .before .before .args .f .now) (v .verdict-of .ensures) (d .before .enum-told .given .1) (d .number-of .ensures .is) _ _ (r .before .before .if1 .left) (r .before .entry-place .ensures) (r .read .ensures) (c .before .points .ensures)
+    (c .if2 .left)
 
 returns-4 : tie.Need-returns-4
 returns-4 c =
     let r = c .before .before .before .before in
     let d = r .before .before .before in
     let v = d .before .before .before in
-    point-there (v .before .before .args .f .now) (v .verdict-of .ensures) (d .before .enum-told .given .1) (d .byte-at .ensures .is) _ _ (r .before .before .if1 .left) (r .before .entry-at .ensures) (r .read .ensures) (c .before .before .before .points .ensures) (c .before .before .if2 .left)
-    (c .before .point-at .ensures) (c .read2 .ensures)
+    point-there (v .before .before .args .f .now) (v .verdict-of .ensures) (d .before .enum-told .given .1) (d .number-of .ensures .is) _ _ (r .before .before .if1 .left) (r .before .entry-place .ensures) (r .read .ensures) (c .before .before .before .points .ensures)
+    (c .before .before .if2 .left) (c .before .point-place .ensures) (c .read2 .ensures)
 
 pub point-spec : {M : Type 1} → statement M
 point-spec =
     tie.close
     (tie.spec
-    verdict-of-requires
-    enum-told
-    enum-told-2
-    refused-point-requires
+    (λ c κs. search needs)
+    (λ c. search needs)
+    (λ c. search needs)
+    (λ c κs. search needs)
     returns
-    byte-at-requires
-    refused-requires
+    (λ c κs. search needs)
+    (λ c κs. search needs)
     returns-2
-    entry-at-requires
-    read-requires
-    points-requires
-    refused-requires-2
+    (λ c. search needs)
+    (λ c κs. search needs)
+    (λ c κs. search needs)
+    (λ c κs. search needs)
+    (λ c κs. search needs)
     returns-3
-    point-at-requires
-    read-requires-2
+    point-place-requires
+    (λ c κs. search needs)
     returns-4)

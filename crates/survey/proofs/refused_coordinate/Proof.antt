@@ -7,15 +7,6 @@ use borrow.Author.Needs.{needs}
 use Rattle.survey.proofs.refused_coordinate.Statement.{statement}
 use Rattle.survey.proofs.refused_coordinate.Tie as tie
 
-enum-known-v : tie.Need-enum-known-v
-enum-known-v c = search needs
-
-enum-told : tie.Need-enum-told
-enum-told c = search needs
-
-refused-requires : tie.Need-refused-requires
-refused-requires c κs = search needs
-
 returns : tie.Need-returns
 returns c = sym (fault-is coordinate.Refused (c .before .before .before .args .v) (c .before .v .given .0 .0) _ (c .before .v .given .1))
 
@@ -24,4 +15,10 @@ returns-2 c = ap coordinate.Refused (c .refused .ensures) ∙ sym (no-fault coor
 
 pub refused-coordinate-spec : {M : Type 1} → statement M
 refused-coordinate-spec =
-    tie.close (tie.spec enum-known-v enum-told refused-requires returns returns-2)
+    tie.close
+    (tie.spec
+    (λ c. search needs)
+    (λ c. search needs)
+    (λ c κs. search needs)
+    returns
+    returns-2)
