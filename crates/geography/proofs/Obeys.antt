@@ -90,7 +90,7 @@ module _ (f : List ℕ) (size : ℕ) (positive : 0 < size) where
 
   due-next : (i : ℕ) → dueAt f size (entryPlace (suc i)) ≡ lastOf f (entryPlace i) + size
   unfolding dueAt
-  due-next i = rw (le-ltb (entryPlace (suc i)) 38 (omega arith)) (ap (λ (p : ℕ). numAt 2 f p + size) (omega arith))
+  due-next i = rw (le-ltb (entryPlace (suc i)) (place.entriesAt + place.entrySize) (omega arith)) (ap (λ (p : ℕ). numAt 2 f p + size) (omega arith))
 
   stop-last : (i : ℕ) → suc i ≡ countOf f → stopBefore f size (pointsAt f) ≡ lastOf f (entryPlace i) + size
   stop-last i e = ap (λ (p : ℕ). numAt 2 f p + size) (omega arith)
@@ -142,33 +142,42 @@ module _ (f : List ℕ) (size : ℕ) (positive : 0 < size) where
 
 -- ---- fields
 
-entry-iff : (f : List ℕ) (e : ℕ) → AllHold (entryFields f e) ↔ EntryObeys f e
+-- LAW: an entry obeys its table exactly where it obeys in 01's words and numbers.
+pub entry-table : (f : List ℕ) (e : ℕ) → TableObeys f e rows.entryTable ↔ EntryObeys f e
 unfolding AllHold
-entry-iff f e = (
-  λ h. record {
-    number = h .0;
-    property = h .1 .0;
-    start-position = h .1 .1 .0;
-    start-latitude = h .1 .1 .1 .0;
-    start-longitude = h .1 .1 .1 .1 .0;
-    end-position = h .1 .1 .1 .1 .1 .0;
-    end-latitude = h .1 .1 .1 .1 .1 .1 .0;
-    end-longitude = h .1 .1 .1 .1 .1 .1 .1 .0;
-  },
-  λ o. (o .number, (o .property, (o .start-position, (o .start-latitude, (o .start-longitude, (o .end-position, (o .end-latitude, (o .end-longitude, tt)))))))),
-)
+entry-table f e =
+    let table = table-iff f e rows.entryTable in (
+      λ t.
+          let h = table .1 t in
+          record {
+            number = h .0;
+            property = h .1 .0;
+            start-position = h .1 .1 .0;
+            start-latitude = h .1 .1 .1 .0;
+            start-longitude = h .1 .1 .1 .1 .0;
+            end-position = h .1 .1 .1 .1 .1 .0;
+            end-latitude = h .1 .1 .1 .1 .1 .1 .0;
+            end-longitude = h .1 .1 .1 .1 .1 .1 .1 .0;
+          },
+      λ o.
+          table .0
+          (o .number, (o .property, (o .start-position, (o .start-latitude, (o .start-longitude, (o .end-position, (o .end-latitude, (o .end-longitude, tt)))))))),
+    )
+
+-- LAW: and so a point.
+pub point-table : (f : List ℕ) (p : ℕ) → TableObeys f p rows.pointTable ↔ PointObeys f p
+unfolding AllHold
+point-table f p =
+    let table = table-iff f p rows.pointTable in (
+      λ t. let h = table .1 t in record { position = h .0; heading = h .1 .0; near = h .1 .1 .0 },
+      λ o. table .0 (o .position, (o .heading, (o .near, tt))),
+    )
+
+entry-iff : (f : List ℕ) (e : ℕ) → AllHold (entryFields f e) ↔ EntryObeys f e
+entry-iff f e = let table = table-iff f e rows.entryTable in let words = entry-table f e in (λ h. words .0 (table .0 h), λ o. table .1 (words .1 o))
 
 point-iff : (f : List ℕ) (p : ℕ) → AllHold (pointFields f p) ↔ PointObeys f p
-unfolding AllHold
-point-iff f p = (λ h. record { position = h .0; heading = h .1 .0; near = h .1 .1 .0 }, λ o. (o .position, (o .heading, (o .near, tt))))
-
--- LAW: an entry obeys its table exactly where it obeys in 01's words
-pub entry-table : (f : List ℕ) (e : ℕ) → TableObeys f e rows.entryTable ↔ EntryObeys f e
-entry-table f e = let t = table-iff f e rows.entryTable in let o = entry-iff f e in (λ h. o .0 (t .1 h), λ h. t .0 (o .1 h))
-
--- LAW: and so a point
-pub point-table : (f : List ℕ) (p : ℕ) → TableObeys f p rows.pointTable ↔ PointObeys f p
-point-table f p = let t = table-iff f p rows.pointTable in let o = point-iff f p in (λ h. o .0 (t .1 h), λ h. t .0 (o .1 h))
+point-iff f p = let table = table-iff f p rows.pointTable in let words = point-table f p in (λ h. words .0 (table .0 h), λ o. table .1 (words .1 o))
 
 module _ (f : List ℕ) (size : ℕ) (positive : 0 < size) where
   points-iff : AllHold (flatMap (pointFields f) (allPoints f size)) ↔ ((j : ℕ) → pointsAt f + size * j < endOf f → PointObeys f (pointsAt f + size * j))
@@ -326,8 +335,8 @@ module _ (f : List ℕ) (size : ℕ) (positive : 0 < size) (laid : LayoutObeys f
   unfolding AllHold
   numbers-iff i =
       let e : entryPlace (suc i) - place.entrySize ≡ entryPlace i = omega arith in (
-        λ h. subst (λ (p : ℕ). valueOf f p rows.number < valueOf f (entryPlace (suc i)) rows.number) e ((rw (le-ltb (entryPlace (suc i)) 38 (omega arith)) at h) .0),
-        λ h. rw (le-ltb (entryPlace (suc i)) 38 (omega arith)) (subst (λ (p : ℕ). valueOf f p rows.number < valueOf f (entryPlace (suc i)) rows.number) (sym e) h, tt),
+        λ h. subst (λ (p : ℕ). valueOf f p rows.number < valueOf f (entryPlace (suc i)) rows.number) e ((rw (le-ltb (entryPlace (suc i)) (place.entriesAt + place.entrySize) (omega arith)) at h) .0),
+        λ h. rw (le-ltb (entryPlace (suc i)) (place.entriesAt + place.entrySize) (omega arith)) (subst (λ (p : ℕ). valueOf f p rows.number < valueOf f (entryPlace (suc i)) rows.number) (sym e) h, tt),
       )
 
   pub agreement-iff : AllHold (agreementFacts f size) ↔ AgreementObeys f size
