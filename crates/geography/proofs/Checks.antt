@@ -39,6 +39,7 @@ module _ (f : List ℕ) (size : ℕ) (v x y r : Judged) where
       (a ∙ ap (λ (n : ℕ). judge v (cond (ltb p (n + size)) (opens f size p) (rises f size p))) i)
       (judge-then x y r (stays f e p) (cond (eqb p (lastOf f e)) (closes f e p) []) b (d ∙ ap (λ (n : ℕ). judge y (cond (eqb p n) (closes f e p) [])) j))
 
+module _ (f : List ℕ) (size : ℕ) (v x r : Judged) where
   pub track-judged : (e : ℕ) → x ≡ judge v (numberAgrees f e) → r ≡ judge x (flatMap (pointAgrees f size e) (pointsOf f size e)) → r ≡ judge v (trackAgrees f size e)
   unfolding trackAgrees
   track-judged e p q = judge-then v x r (numberAgrees f e) (flatMap (pointAgrees f size e) (pointsOf f size e)) p q

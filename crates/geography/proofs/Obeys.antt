@@ -19,12 +19,16 @@ use Rattle.verdict.specs.Facts.{Fact, AllHold, Holds, firstFault}
 use Rattle.verdict.specs.declared.Judged.the-variants.{Accepted}
 use Rattle.verdict.proofs.Facts.{accepted-iff, all-append, all-each}
 use Rattle.verdict.proofs.Steps.{Stands, fixed-iff}
+use Rattle.tables.specs.Table.{placeIn, valueOf, signedOf}
+use Rattle.tables.specs.Rows.{TableObeys}
+use Rattle.tables.proofs.Rows.{table-iff}
 use Rattle.tracks.specs.Places as place
+use Rattle.tracks.specs.Rows as rows
 use Rattle.geography.specs.Layout.{endOf, countOf, pointsAt, entries, firstOf, lastOf, isFirst, stopBefore, dueAt, entryLayout, countLayout, stopLayout, layoutFacts}
 use Rattle.geography.specs.Fields.{headerFields, entryFields, pointFields, allPoints, fieldFacts}
 use Rattle.geography.specs.Agreement.{sumOf, numberAgrees, opens, rises, stays, closes, pointAgrees, pointsOf, trackAgrees, agreementFacts}
 use Rattle.geography.specs.Facts.{fileType, checkFacts, facts, judgedOf}
-use Rattle.geography.specs.Obeys.{Between, Within, entryAt, pointAt, LayoutObeys, EntryObeys, PointObeys, FieldsObey, TrackAgrees, AgreementObeys, Obeys}
+use Rattle.geography.specs.Obeys.{Between, Within, entryPlace, pointPlace, LayoutObeys, EntryObeys, PointObeys, FieldsObey, TrackAgrees, AgreementObeys, Obeys}
 
 -- ---- two signed numbers that are 0 apart
 
@@ -41,18 +45,18 @@ apart-iff a b = (
 -- ---- each entry, by the track's number in the file
 
 module _ (f : List ℕ) where
-  pub entry-start : (i : ℕ) → i < countOf f → List·Memᴰ (entryAt i) (entries f)
+  pub entry-start : (i : ℕ) → i < countOf f → List·Memᴰ (entryPlace i) (entries f)
   unfolding entries
-  entry-start i h = (fixed-iff place.entrySize (pointsAt f) (omega arith) place.entriesAt (entryAt i)) .1 (i, refl, omega arith)
+  entry-start i h = (fixed-iff place.entrySize (pointsAt f) (omega arith) place.entriesAt (entryPlace i)) .1 (i, refl, omega arith)
 
-  pub start-entry : (e : ℕ) → List·Memᴰ e (entries f) → (i : ℕ) × (i < countOf f) × (e ≡ entryAt i)
+  pub start-entry : (e : ℕ) → List·Memᴰ e (entries f) → (i : ℕ) × (i < countOf f) × (e ≡ entryPlace i)
   unfolding entries
   start-entry e m = let w = (fixed-iff place.entrySize (pointsAt f) (omega arith) place.entriesAt e) .0 m in (w .0, omega (arith, w .1, w .2), w .1)
 
-  pub entries-iff : (g : ℕ → List Fact) → AllHold (flatMap g (entries f)) ↔ ((i : ℕ) → i < countOf f → AllHold (g (entryAt i)))
+  pub entries-iff : (g : ℕ → List Fact) → AllHold (flatMap g (entries f)) ↔ ((i : ℕ) → i < countOf f → AllHold (g (entryPlace i)))
   entries-iff g =
       let each = all-each g (entries f) in (
-        λ h i l. each .0 h (entryAt i) (entry-start i l),
+        λ h i l. each .0 h (entryPlace i) (entry-start i l),
         λ h. each .1 (λ e m. let w = start-entry e m in subst (λ (x : ℕ). AllHold (g x)) (sym (w .2)) (h (w .0) (w .1))),
       )
 
@@ -80,22 +84,22 @@ two-iff size first last positive = (λ h. steps ((last - first) / size) refl (h 
         (omega arith, ap (λ (x : ℕ). x % size) s ∙ mul-mod-right size (suc k))
 
 module _ (f : List ℕ) (size : ℕ) (positive : 0 < size) where
-  due-first : dueAt f size (entryAt 0) ≡ pointsAt f
+  due-first : dueAt f size (entryPlace 0) ≡ pointsAt f
   unfolding dueAt
   due-first = refl
 
-  due-next : (i : ℕ) → dueAt f size (entryAt (suc i)) ≡ lastOf f (entryAt i) + size
+  due-next : (i : ℕ) → dueAt f size (entryPlace (suc i)) ≡ lastOf f (entryPlace i) + size
   unfolding dueAt
-  due-next i = rw (le-ltb (entryAt (suc i)) 38 (omega arith)) (ap (λ (p : ℕ). numAt 2 f p + size) (omega arith))
+  due-next i = rw (le-ltb (entryPlace (suc i)) (place.entriesAt + place.entrySize) (omega arith)) (ap (λ (p : ℕ). numAt 2 f p + size) (omega arith))
 
-  stop-last : (i : ℕ) → suc i ≡ countOf f → stopBefore f size (pointsAt f) ≡ lastOf f (entryAt i) + size
+  stop-last : (i : ℕ) → suc i ≡ countOf f → stopBefore f size (pointsAt f) ≡ lastOf f (entryPlace i) + size
   stop-last i e = ap (λ (p : ℕ). numAt 2 f p + size) (omega arith)
 
-  due-iff : ((i : ℕ) → i < countOf f → firstOf f (entryAt i) ≡ dueAt f size (entryAt i)) → 0 < countOf f
-      → (firstOf f (entryAt 0) ≡ pointsAt f) × ((i : ℕ) → suc i < countOf f → firstOf f (entryAt (suc i)) ≡ lastOf f (entryAt i) + size)
+  due-iff : ((i : ℕ) → i < countOf f → firstOf f (entryPlace i) ≡ dueAt f size (entryPlace i)) → 0 < countOf f
+      → (firstOf f (entryPlace 0) ≡ pointsAt f) × ((i : ℕ) → suc i < countOf f → firstOf f (entryPlace (suc i)) ≡ lastOf f (entryPlace i) + size)
   due-iff h z = (h 0 z ∙ due-first, λ i l. h (suc i) l ∙ due-next i)
 
-  due-back : LayoutObeys f size → (i : ℕ) → i < countOf f → firstOf f (entryAt i) ≡ dueAt f size (entryAt i)
+  due-back : LayoutObeys f size → (i : ℕ) → i < countOf f → firstOf f (entryPlace i) ≡ dueAt f size (entryPlace i)
   due-back o zero l = o .first-due ∙ sym due-first
   due-back o (suc i) l = o .next-due i l ∙ sym (due-next i)
 
@@ -115,7 +119,7 @@ module _ (f : List ℕ) (size : ℕ) (positive : 0 < size) where
               entries-fit = count .1 .0;
               first-due = due .0;
               next-due = due .1;
-              two-points = λ i l. (two-iff size (firstOf f (entryAt i)) (lastOf f (entryAt i)) positive) .0 ((track i l) .1 .0, (track i l) .1 .1 .0);
+              two-points = λ i l. (two-iff size (firstOf f (entryPlace i)) (lastOf f (entryPlace i)) positive) .0 ((track i l) .1 .0, (track i l) .1 .1 .0);
               points-fit = λ i l. (track i l) .1 .1 .1 .0;
               final = λ i e. sym (stop-last i e) ∙ (more .1) .0;
             },
@@ -123,7 +127,7 @@ module _ (f : List ℕ) (size : ℕ) (positive : 0 < size) where
           (o .some-track, (o .entries-fit, tt)),
           rest .1 (
             each .1 (λ i l.
-                let two = (two-iff size (firstOf f (entryAt i)) (lastOf f (entryAt i)) positive) .1 (o .two-points i l) in
+                let two = (two-iff size (firstOf f (entryPlace i)) (lastOf f (entryPlace i)) positive) .1 (o .two-points i l) in
                 (due-back o i l, (two .0, (two .1, (o .points-fit i l, tt))))),
             (stops o, tt),
           ),
@@ -138,25 +142,42 @@ module _ (f : List ℕ) (size : ℕ) (positive : 0 < size) where
 
 -- ---- fields
 
-entry-iff : (f : List ℕ) (e : ℕ) → AllHold (entryFields f e) ↔ EntryObeys f e
+-- LAW: an entry obeys its table exactly where it obeys in 01's words and numbers.
+pub entry-table : (f : List ℕ) (e : ℕ) → TableObeys f e rows.entryTable ↔ EntryObeys f e
 unfolding AllHold
-entry-iff f e = (
-  λ h. record {
-    number = h .0;
-    property = h .1 .0;
-    start-position = h .1 .1 .0;
-    start-latitude = h .1 .1 .1 .0;
-    start-longitude = h .1 .1 .1 .1 .0;
-    end-position = h .1 .1 .1 .1 .1 .0;
-    end-latitude = h .1 .1 .1 .1 .1 .1 .0;
-    end-longitude = h .1 .1 .1 .1 .1 .1 .1 .0;
-  },
-  λ o. (o .number, (o .property, (o .start-position, (o .start-latitude, (o .start-longitude, (o .end-position, (o .end-latitude, (o .end-longitude, tt)))))))),
-)
+entry-table f e =
+    let table = table-iff f e rows.entryTable in (
+      λ t.
+          let h = table .1 t in
+          record {
+            number = h .0;
+            property = h .1 .0;
+            start-position = h .1 .1 .0;
+            start-latitude = h .1 .1 .1 .0;
+            start-longitude = h .1 .1 .1 .1 .0;
+            end-position = h .1 .1 .1 .1 .1 .0;
+            end-latitude = h .1 .1 .1 .1 .1 .1 .0;
+            end-longitude = h .1 .1 .1 .1 .1 .1 .1 .0;
+          },
+      λ o.
+          table .0
+          (o .number, (o .property, (o .start-position, (o .start-latitude, (o .start-longitude, (o .end-position, (o .end-latitude, (o .end-longitude, tt)))))))),
+    )
+
+-- LAW: and so a point.
+pub point-table : (f : List ℕ) (p : ℕ) → TableObeys f p rows.pointTable ↔ PointObeys f p
+unfolding AllHold
+point-table f p =
+    let table = table-iff f p rows.pointTable in (
+      λ t. let h = table .1 t in record { position = h .0; heading = h .1 .0; near = h .1 .1 .0 },
+      λ o. table .0 (o .position, (o .heading, (o .near, tt))),
+    )
+
+entry-iff : (f : List ℕ) (e : ℕ) → AllHold (entryFields f e) ↔ EntryObeys f e
+entry-iff f e = let table = table-iff f e rows.entryTable in let words = entry-table f e in (λ h. words .0 (table .0 h), λ o. table .1 (words .1 o))
 
 point-iff : (f : List ℕ) (p : ℕ) → AllHold (pointFields f p) ↔ PointObeys f p
-unfolding AllHold
-point-iff f p = (λ h. record { position = h .0; heading = h .1 .0; near = h .1 .1 .0 }, λ o. (o .position, (o .heading, (o .near, tt))))
+point-iff f p = let table = table-iff f p rows.pointTable in let words = point-table f p in (λ h. words .0 (table .0 h), λ o. table .1 (words .1 o))
 
 module _ (f : List ℕ) (size : ℕ) (positive : 0 < size) where
   points-iff : AllHold (flatMap (pointFields f) (allPoints f size)) ↔ ((j : ℕ) → pointsAt f + size * j < endOf f → PointObeys f (pointsAt f + size * j))
@@ -182,20 +203,20 @@ module _ (f : List ℕ) (size : ℕ) (positive : 0 < size) where
             record {
               data-version = head .0;
               station = head .1 .0;
-              each-entry = λ i l. (entry-iff f (entryAt i)) .0 (each .0 (more .0) i l);
+              each-entry = λ i l. (entry-iff f (entryPlace i)) .0 (each .0 (more .0) i l);
               each-point = points-iff .0 (more .1);
             },
         λ o. cut .1 (
           (o .data-version, (o .station, tt)),
-          rest .1 (each .1 (λ i l. (entry-iff f (entryAt i)) .1 (o .each-entry i l)), points-iff .1 (o .each-point)),
+          rest .1 (each .1 (λ i l. (entry-iff f (entryPlace i)) .1 (o .each-entry i l)), points-iff .1 (o .each-point)),
         ),
       )
 
--- ---- agreement, of a track whose last point stands k + 1 sizes behind its first
+-- ---- agreement, of a track whose last point stands k + 1 sizes after its first
 
-module _ (f : List ℕ) (size e k : ℕ) (positive : 0 < size) (spread : lastOf f e ≡ pointAt f size e (suc k)) where
-  -- point j is one of the track's points exactly where it is not behind the last one
-  in-track : (j : ℕ) → pointAt f size e j < lastOf f e + size → pointAt f size e j ≤ lastOf f e
+module _ (f : List ℕ) (size e k : ℕ) (positive : 0 < size) (spread : lastOf f e ≡ pointPlace f size e (suc k)) where
+  -- point j is one of the track's points exactly where it is not after the last one
+  in-track : (j : ℕ) → pointPlace f size e j < lastOf f e + size → pointPlace f size e j ≤ lastOf f e
   in-track j h =
       let a = mul-suc size k in
       let b = mul-suc size (suc k) in
@@ -204,14 +225,14 @@ module _ (f : List ℕ) (size e k : ℕ) (positive : 0 < size) (spread : lastOf 
       let m = mul-le-mul-left size n in
       omega arith
 
-  track-points : (g : ℕ → List Fact) → AllHold (flatMap g (pointsOf f size e)) ↔ ((j : ℕ) → pointAt f size e j ≤ lastOf f e → AllHold (g (pointAt f size e j)))
+  track-points : (g : ℕ → List Fact) → AllHold (flatMap g (pointsOf f size e)) ↔ ((j : ℕ) → pointPlace f size e j ≤ lastOf f e → AllHold (g (pointPlace f size e j)))
   unfolding pointsOf
   track-points g =
       let each = all-each g (pointsOf f size e) in (
-        λ h j l. each .0 h (pointAt f size e j) ((fixed-iff size (lastOf f e + size) positive (firstOf f e) (pointAt f size e j)) .1 (j, refl, omega arith)),
+        λ h j l. each .0 h (pointPlace f size e j) ((fixed-iff size (lastOf f e + size) positive (firstOf f e) (pointPlace f size e j)) .1 (j, refl, omega arith)),
         λ h. each .1 (λ p m.
             let w = (fixed-iff size (lastOf f e + size) positive (firstOf f e) p) .0 m in
-            let l : pointAt f size e (w .0) < lastOf f e + size = omega (arith, w .1, w .2) in
+            let l : pointPlace f size e (w .0) < lastOf f e + size = omega (arith, w .1, w .2) in
             subst (λ (x : ℕ). AllHold (g x)) (sym (w .1)) (h (w .0) (in-track (w .0) l))),
       )
 
@@ -228,11 +249,11 @@ module _ (f : List ℕ) (size e k : ℕ) (positive : 0 < size) (spread : lastOf 
       let b = all-append (stays f e p) (end-part p) in
       (λ h. ((a .0 h) .0, b .0 ((a .0 h) .1)), λ h. a .1 (h .0, b .1 (h .1)))
 
-  opens-first : start-part (pointAt f size e 0) ≡ opens f size (pointAt f size e 0)
-  opens-first = let z = mul-zero size in rw (lt-ltb (pointAt f size e 0) (firstOf f e + size) (omega arith))
+  opens-first : start-part (pointPlace f size e 0) ≡ opens f size (pointPlace f size e 0)
+  opens-first = let z = mul-zero size in rw (lt-ltb (pointPlace f size e 0) (firstOf f e + size) (omega arith))
 
-  rises-later : (j : ℕ) → start-part (pointAt f size e (suc j)) ≡ rises f size (pointAt f size e (suc j))
-  rises-later j = let z = mul-suc size j in rw (le-ltb (pointAt f size e (suc j)) (firstOf f e + size) (omega arith))
+  rises-later : (j : ℕ) → start-part (pointPlace f size e (suc j)) ≡ rises f size (pointPlace f size e (suc j))
+  rises-later j = let z = mul-suc size j in rw (le-ltb (pointPlace f size e (suc j)) (firstOf f e + size) (omega arith))
 
   closes-last : (p : ℕ) → p ≡ lastOf f e → end-part p ≡ closes f e p
   closes-last p q = rw (eq-eqb p (lastOf f e) q)
@@ -241,27 +262,27 @@ module _ (f : List ℕ) (size e k : ℕ) (positive : 0 < size) (spread : lastOf 
   closes-none p q = rw (ne-eqb p (lastOf f e) q)
 
   -- the place of the point before point j + 1
-  before : (j : ℕ) → pointAt f size e (suc j) - size ≡ pointAt f size e j
+  before : (j : ℕ) → pointPlace f size e (suc j) - size ≡ pointPlace f size e j
   before j = let z = mul-suc size j in omega arith
 
-  first-in : pointAt f size e 0 ≤ lastOf f e
+  first-in : pointPlace f size e 0 ≤ lastOf f e
   first-in = let z = mul-zero size in omega arith
 
-  next-near : pointAt f size e 0 + size + place.near ≡ pointAt f size e 1 + place.near
+  next-near : placeIn (pointPlace f size e 0 + size) rows.near ≡ placeIn (pointPlace f size e 1) rows.near
   next-near = let z = mul-zero size in let s = mul-suc size 0 in omega arith
 
-  track-iff : ((j : ℕ) → pointAt f size e j ≤ lastOf f e → AllHold (pointAgrees f size e (pointAt f size e j))) ↔ TrackAgrees f size e
+  track-iff : ((j : ℕ) → pointPlace f size e j ≤ lastOf f e → AllHold (pointAgrees f size e (pointPlace f size e j))) ↔ TrackAgrees f size e
   unfolding AllHold
   track-iff = (there, back)
     where
-      there : ((j : ℕ) → pointAt f size e j ≤ lastOf f e → AllHold (pointAgrees f size e (pointAt f size e j))) → TrackAgrees f size e
+      there : ((j : ℕ) → pointPlace f size e j ≤ lastOf f e → AllHold (pointAgrees f size e (pointPlace f size e j))) → TrackAgrees f size e
       there h =
-          let at : (j : ℕ) → pointAt f size e j ≤ lastOf f e → AllHold (start-part (pointAt f size e j)) × (AllHold (stays f e (pointAt f size e j)) × AllHold (end-part (pointAt f size e j))) =
-          λ j l. (parts-iff (pointAt f size e j)) .0 (h j l)
+          let at : (j : ℕ) → pointPlace f size e j ≤ lastOf f e → AllHold (start-part (pointPlace f size e j)) × (AllHold (stays f e (pointPlace f size e j)) × AllHold (end-part (pointPlace f size e j))) =
+          λ j l. (parts-iff (pointPlace f size e j)) .0 (h j l)
           in
-          let open-facts : AllHold (opens f size (pointAt f size e 0)) = subst AllHold opens-first ((at 0 first-in) .0) in
-          let last : pointAt f size e (suc k) ≤ lastOf f e = omega arith in
-          let shut : AllHold (closes f e (pointAt f size e (suc k))) = subst AllHold (closes-last (pointAt f size e (suc k)) (sym spread)) ((at (suc k) last) .1 .1) in
+          let open-facts : AllHold (opens f size (pointPlace f size e 0)) = subst AllHold opens-first ((at 0 first-in) .0) in
+          let last : pointPlace f size e (suc k) ≤ lastOf f e = omega arith in
+          let shut : AllHold (closes f e (pointPlace f size e (suc k))) = subst AllHold (closes-last (pointPlace f size e (suc k)) (sym spread)) ((at (suc k) last) .1 .1) in
           let ends : AllHold (closes f e (lastOf f e)) = subst (λ (p : ℕ). AllHold (closes f e p)) (sym spread) shut in
           record {
             first-position = open-facts .0;
@@ -269,21 +290,21 @@ module _ (f : List ℕ) (size e k : ℕ) (positive : 0 < size) (spread : lastOf 
             first-longitude = open-facts .1 .1 .0;
             first-near = open-facts .1 .1 .1 .0 ∙ ap (λ (p : ℕ). numAt 1 f p) next-near;
             rising = λ j l.
-                let r : AllHold (rises f size (pointAt f size e (suc j))) = subst AllHold (rises-later j) ((at (suc j) l) .0) in
-                subst (λ (p : ℕ). numAt 4 f (p + place.position) < numAt 4 f (pointAt f size e (suc j) + place.position)) (before j) (r .0);
+                let r : AllHold (rises f size (pointPlace f size e (suc j))) = subst AllHold (rises-later j) ((at (suc j) l) .0) in
+                subst (λ (p : ℕ). valueOf f p rows.position < valueOf f (pointPlace f size e (suc j)) rows.position) (before j) (r .0);
             latitudes = λ j l. ((at j l) .1 .0) .0;
             longitudes = λ j l. ((at j l) .1 .0) .1 .0;
             last-position = ends .0;
-            last-latitude = (apart-iff (sumOf f (e + place.startLatitude) (lastOf f e + place.latitude)) (signedAt 4 f (e + place.endLatitude))) .0 (ends .1 .0);
-            last-longitude = (apart-iff (sumOf f (e + place.startLongitude) (lastOf f e + place.longitude)) (signedAt 4 f (e + place.endLongitude))) .0 (ends .1 .1 .0);
+            last-latitude = (apart-iff (sumOf f e rows.startLatitude (lastOf f e) rows.latitudeIncrement) (signedOf f e rows.endLatitude)) .0 (ends .1 .0);
+            last-longitude = (apart-iff (sumOf f e rows.startLongitude (lastOf f e) rows.longitudeIncrement) (signedOf f e rows.endLongitude)) .0 (ends .1 .1 .0);
           }
 
-      start-held : TrackAgrees f size e → (j : ℕ) → pointAt f size e j ≤ lastOf f e → AllHold (start-part (pointAt f size e j))
+      start-held : TrackAgrees f size e → (j : ℕ) → pointPlace f size e j ≤ lastOf f e → AllHold (start-part (pointPlace f size e j))
       start-held o zero l =
           subst AllHold (sym opens-first) (o .first-position, (o .first-latitude, (o .first-longitude, (o .first-near ∙ sym (ap (λ (p : ℕ). numAt 1 f p) next-near), tt))))
       start-held o (suc j) l =
           subst AllHold (sym (rises-later j)) (
-            subst (λ (p : ℕ). numAt 4 f (p + place.position) < numAt 4 f (pointAt f size e (suc j) + place.position)) (sym (before j)) (o .rising j l),
+            subst (λ (p : ℕ). valueOf f p rows.position < valueOf f (pointPlace f size e (suc j)) rows.position) (sym (before j)) (o .rising j l),
             tt,
           )
 
@@ -293,16 +314,16 @@ module _ (f : List ℕ) (size e k : ℕ) (positive : 0 < size) (spread : lastOf 
           subst AllHold (sym (closes-last p q)) (subst (λ (x : ℕ). AllHold (closes f e x)) (sym q) (
             o .last-position,
             (
-              (apart-iff (sumOf f (e + place.startLatitude) (lastOf f e + place.latitude)) (signedAt 4 f (e + place.endLatitude))) .1 (o .last-latitude),
-              ((apart-iff (sumOf f (e + place.startLongitude) (lastOf f e + place.longitude)) (signedAt 4 f (e + place.endLongitude))) .1 (o .last-longitude), tt),
+              (apart-iff (sumOf f e rows.startLatitude (lastOf f e) rows.latitudeIncrement) (signedOf f e rows.endLatitude)) .1 (o .last-latitude),
+              ((apart-iff (sumOf f e rows.startLongitude (lastOf f e) rows.longitudeIncrement) (signedOf f e rows.endLongitude)) .1 (o .last-longitude), tt),
             ),
           ))
 
-      back : TrackAgrees f size e → (j : ℕ) → pointAt f size e j ≤ lastOf f e → AllHold (pointAgrees f size e (pointAt f size e j))
+      back : TrackAgrees f size e → (j : ℕ) → pointPlace f size e j ≤ lastOf f e → AllHold (pointAgrees f size e (pointPlace f size e j))
       back o j l =
-          (parts-iff (pointAt f size e j)) .1 (
+          (parts-iff (pointPlace f size e j)) .1 (
             start-held o j l,
-            ((o .latitudes j l, (o .longitudes j l, tt)), end-held o (pointAt f size e j) (ℕ-discrete (pointAt f size e j) (lastOf f e))),
+            ((o .latitudes j l, (o .longitudes j l, tt)), end-held o (pointPlace f size e j) (ℕ-discrete (pointPlace f size e j) (lastOf f e))),
           )
 
   pub points-agree-iff : AllHold (flatMap (pointAgrees f size e) (pointsOf f size e)) ↔ TrackAgrees f size e
@@ -310,23 +331,23 @@ module _ (f : List ℕ) (size e k : ℕ) (positive : 0 < size) (spread : lastOf 
 
 module _ (f : List ℕ) (size : ℕ) (positive : 0 < size) (laid : LayoutObeys f size) where
   -- a later track's number is above the one before it
-  numbers-iff : (i : ℕ) → AllHold (numberAgrees f (entryAt (suc i))) ↔ (numAt 1 f (entryAt i + place.number) < numAt 1 f (entryAt (suc i) + place.number))
+  numbers-iff : (i : ℕ) → AllHold (numberAgrees f (entryPlace (suc i))) ↔ (valueOf f (entryPlace i) rows.number < valueOf f (entryPlace (suc i)) rows.number)
   unfolding AllHold
   numbers-iff i =
-      let e : entryAt (suc i) - place.entrySize ≡ entryAt i = omega arith in (
-        λ h. subst (λ (p : ℕ). numAt 1 f (p + place.number) < numAt 1 f (entryAt (suc i) + place.number)) e ((rw (le-ltb (entryAt (suc i)) 38 (omega arith)) at h) .0),
-        λ h. rw (le-ltb (entryAt (suc i)) 38 (omega arith)) (subst (λ (p : ℕ). numAt 1 f (p + place.number) < numAt 1 f (entryAt (suc i) + place.number)) (sym e) h, tt),
+      let e : entryPlace (suc i) - place.entrySize ≡ entryPlace i = omega arith in (
+        λ h. subst (λ (p : ℕ). valueOf f p rows.number < valueOf f (entryPlace (suc i)) rows.number) e ((rw (le-ltb (entryPlace (suc i)) (place.entriesAt + place.entrySize) (omega arith)) at h) .0),
+        λ h. rw (le-ltb (entryPlace (suc i)) (place.entriesAt + place.entrySize) (omega arith)) (subst (λ (p : ℕ). valueOf f p rows.number < valueOf f (entryPlace (suc i)) rows.number) (sym e) h, tt),
       )
 
   pub agreement-iff : AllHold (agreementFacts f size) ↔ AgreementObeys f size
   unfolding agreementFacts trackAgrees AllHold
   agreement-iff =
       let each = entries-iff f (trackAgrees f size) in
-      let cut : (i : ℕ) → AllHold (trackAgrees f size (entryAt i)) ↔ (AllHold (numberAgrees f (entryAt i)) × AllHold (flatMap (pointAgrees f size (entryAt i)) (pointsOf f size (entryAt i)))) =
-      λ i. all-append (numberAgrees f (entryAt i)) (flatMap (pointAgrees f size (entryAt i)) (pointsOf f size (entryAt i)))
+      let cut : (i : ℕ) → AllHold (trackAgrees f size (entryPlace i)) ↔ (AllHold (numberAgrees f (entryPlace i)) × AllHold (flatMap (pointAgrees f size (entryPlace i)) (pointsOf f size (entryPlace i)))) =
+      λ i. all-append (numberAgrees f (entryPlace i)) (flatMap (pointAgrees f size (entryPlace i)) (pointsOf f size (entryPlace i)))
       in
-      let points : (i : ℕ) → i < countOf f → AllHold (flatMap (pointAgrees f size (entryAt i)) (pointsOf f size (entryAt i))) ↔ TrackAgrees f size (entryAt i) =
-      λ i l. points-agree-iff f size (entryAt i) ((laid .two-points i l) .0) positive ((laid .two-points i l) .1)
+      let points : (i : ℕ) → i < countOf f → AllHold (flatMap (pointAgrees f size (entryPlace i)) (pointsOf f size (entryPlace i))) ↔ TrackAgrees f size (entryPlace i) =
+      λ i l. points-agree-iff f size (entryPlace i) ((laid .two-points i l) .0) positive ((laid .two-points i l) .1)
       in (
         λ h. record {
           numbers = λ i l. (numbers-iff i) .0 (((cut (suc i)) .0 (each .0 h (suc i) l)) .0);
@@ -335,7 +356,7 @@ module _ (f : List ℕ) (size : ℕ) (positive : 0 < size) (laid : LayoutObeys f
         λ o. each .1 (λ i l. (cut i) .1 (held o i l, (points i l) .1 (o .each-track i l))),
       )
     where
-      held : AgreementObeys f size → (i : ℕ) → i < countOf f → AllHold (numberAgrees f (entryAt i))
+      held : AgreementObeys f size → (i : ℕ) → i < countOf f → AllHold (numberAgrees f (entryPlace i))
       held o zero l = tt
       held o (suc i) l = (numbers-iff i) .1 (o .numbers i l)
 

@@ -8,63 +8,82 @@ use mathlib.Core.List.{List, [], _∷_, _++_, flatMap}
 use lib.Dec.{ltb, eqb}
 use lib.IntN.{ℤ, natAbs, _+ℤ_, _-ℤ_}
 use lib.Signed.{mag}
-use Rattle.octets.specs.Octets.{numAt, signedAt}
+use Rattle.octets.specs.Octets.{bytesOf}
 use Rattle.octets.specs.declared.Width.the-variants.{One, Three, Four}
 use Rattle.verdict.specs.Facts.{Fact, fact, same, atMost}
 use Rattle.verdict.specs.Walk.{startsFrom}
+use Rattle.verdict.specs.declared.Mark.{Mark}
+use Rattle.verdict.specs.declared.Rule.{Rule}
 use Rattle.verdict.specs.declared.Reason.the-variants as reason
 use Rattle.verdict.specs.declared.Rule.the-variants as rule
 use Rattle.rules.specs.Rules.{zeroAt, sameAs, above}
-use Rattle.tracks.specs.Places.{entrySize, number, startLatitude, startLongitude, endPosition, endLatitude, endLongitude, position, latitude, longitude, near, latitudeMost, longitudeMost}
+use Rattle.tables.specs.Table.{any, Row, signedRow, placeIn, signedOf}
+use Rattle.tables.specs.declared.Field.{Field}
+use Rattle.tracks.specs.Places.{entrySize, latitudeMost, longitudeMost}
+use Rattle.tracks.specs.Rows as rows
 use Rattle.geography.specs.Layout.{isFirst, firstOf, lastOf, entries}
 
--- a start, at `base`, plus an increment, at `field`
-abbrev pub sumOf : List ℕ → ℕ → ℕ → ℤ
-sumOf f base field = signedAt 4 f base +ℤ signedAt 3 f field
+-- ---- start plus increment
+
+-- a start, of the entry at e, plus an increment, of the point at p
+abbrev pub sumOf : List ℕ → ℕ → Row → ℕ → Row → ℤ
+sumOf f e start p increment = signedOf f e start +ℤ signedOf f p increment
+
+-- a field of the code as a row: its place and its width
+abbrev pub fieldRow : Field → Row
+fieldRow k = signedRow "" (k .0) (bytesOf (k .1)) any
 
 -- r is that sum, and small
-pub record SumOf (f : List ℕ) (base field : ℕ) (r : ℤ) : Type 0 where
-  pub is : r ≡ sumOf f base field
-  pub near : mag r < 2 ^ 33
+pub record SumOf (f : List ℕ) (e : ℕ) (start : Field) (p : ℕ) (increment : Field) (r : ℤ) : Type 0 where
+  pub is : r ≡ sumOf f e (fieldRow start) p (fieldRow increment)
+  pub small : mag r < 2 ^ 33
+
+-- the mark of a rule of the point at p
+abbrev pub pointMark : ℕ → ℕ → Rule → Mark
+pointMark p w r = record { reason = reason.Agreement; start = p; place = p; width = w; rule = r }
 
 -- start plus increment is at most so far from 0
-abbrev pub sumWithin : List ℕ → ℕ → ℕ → ℕ → ℕ → Fact
-sumWithin f p field base limit =
-    fact (atMost (natAbs (sumOf f base field)) limit) (record { reason = reason.Agreement; start = p; place = p; width = 3; rule = rule.SumWithin field base limit })
+abbrev pub sumWithin : List ℕ → ℕ → Row → ℕ → Row → ℕ → Fact
+sumWithin f e start p increment limit =
+    fact (atMost (natAbs (sumOf f e start p increment)) limit) (pointMark p (increment .width) (rule.SumWithin (placeIn p increment) (placeIn e start) limit))
 
 -- start plus increment is the end: they are 0 apart
-abbrev pub sumIs : List ℕ → ℕ → ℕ → ℕ → ℕ → Fact
-sumIs f p field base end =
-    fact (same (natAbs (sumOf f base field -ℤ signedAt 4 f end)) 0) (record { reason = reason.Agreement; start = p; place = p; width = 3; rule = rule.SumIs field base end })
+abbrev pub sumIs : List ℕ → ℕ → Row → Row → ℕ → Row → Fact
+sumIs f e start end p increment =
+    fact (same (natAbs (sumOf f e start p increment -ℤ signedOf f e end)) 0) (pointMark p (increment .width) (rule.SumIs (placeIn p increment) (placeIn e start) (placeIn e end)))
+
+-- ---- the facts
 
 -- track numbers strictly rise
 abbrev pub numberAgrees : List ℕ → ℕ → List Fact
-numberAgrees f e = cond (isFirst e) [] (above f e (e + number) One (e + number) (e - entrySize + number) ∷ [])
+numberAgrees f e = cond (isFirst e) [] (above f e (placeIn e rows.number) One (placeIn e rows.number) (placeIn (e - entrySize) rows.number) ∷ [])
 
 -- the first point has position and both increments 0, and its near flag equals the second's
 abbrev pub opens : List ℕ → ℕ → ℕ → List Fact
 opens f size p =
-    zeroAt f p p Four (p + position)
-    ∷ zeroAt f p p Three (p + latitude)
-    ∷ zeroAt f p p Three (p + longitude)
-    ∷ sameAs f p p One (p + near) (p + size + near)
+    zeroAt f p p Four (placeIn p rows.position)
+    ∷ zeroAt f p p Three (placeIn p rows.latitudeIncrement)
+    ∷ zeroAt f p p Three (placeIn p rows.longitudeIncrement)
+    ∷ sameAs f p p One (placeIn p rows.near) (placeIn (p + size) rows.near)
     ∷ []
 
 -- positions strictly rise
 abbrev pub rises : List ℕ → ℕ → ℕ → List Fact
-rises f size p = above f p p Four (p + position) (p - size + position) ∷ []
+rises f size p = above f p p Four (placeIn p rows.position) (placeIn (p - size) rows.position) ∷ []
 
 -- start plus increment stays in the coordinate's range
 abbrev pub stays : List ℕ → ℕ → ℕ → List Fact
 stays f e p =
-    sumWithin f p (p + latitude) (e + startLatitude) latitudeMost ∷ sumWithin f p (p + longitude) (e + startLongitude) longitudeMost ∷ []
+    sumWithin f e rows.startLatitude p rows.latitudeIncrement latitudeMost
+    ∷ sumWithin f e rows.startLongitude p rows.longitudeIncrement longitudeMost
+    ∷ []
 
 -- the last point equals the track's end position, latitude and longitude
 abbrev pub closes : List ℕ → ℕ → ℕ → List Fact
 closes f e p =
-    sameAs f p p Four (p + position) (e + endPosition)
-    ∷ sumIs f p (p + latitude) (e + startLatitude) (e + endLatitude)
-    ∷ sumIs f p (p + longitude) (e + startLongitude) (e + endLongitude)
+    sameAs f p p Four (placeIn p rows.position) (placeIn e rows.endPosition)
+    ∷ sumIs f e rows.startLatitude rows.endLatitude p rows.latitudeIncrement
+    ∷ sumIs f e rows.startLongitude rows.endLongitude p rows.longitudeIncrement
     ∷ []
 
 -- what the point at p is asked of the entry at e: as the first point or a later one, as any point, and as the last one

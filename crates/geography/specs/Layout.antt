@@ -4,22 +4,27 @@ use Prim.Native.Nat.{ℕ, _+_, _-_, _*_}
 use mathlib.Core.Bool.{Bool, cond}
 use mathlib.Core.List.{List, [], _∷_, _++_, flatMap}
 use lib.Dec.{ltb}
-use Rattle.octets.specs.Octets.{numAt}
 use Rattle.octets.specs.declared.Width.the-variants.{One, Two}
 use Rattle.verdict.specs.Facts.{Fact}
 use Rattle.verdict.specs.Walk.{startsFrom}
 use Rattle.verdict.specs.declared.Reason.the-variants as reason
 use Rattle.rules.specs.Rules.{isNumber, between, fits, whole, endsAt}
+use Rattle.tables.specs.Table.{placeIn, valueOf}
 pub use Rattle.seal.specs.Seal.{endOf}
-use Rattle.tracks.specs.Places.{countAt, entriesAt, entrySize, firstPoint, lastPoint}
+use Rattle.tracks.specs.Places.{entriesAt, entrySize}
+use Rattle.tracks.specs.Rows as rows
 
 -- the track count n
 abbrev pub countOf : List ℕ → ℕ
-countOf f = numAt 1 f countAt
+countOf f = valueOf f 0 rows.count
 
 -- where the entries end and the points start: 8 + 30 n
 abbrev pub pointsAt : List ℕ → ℕ
 pointsAt f = entriesAt + entrySize * countOf f
+
+-- that is at most after 255 entries
+abbrev pub pointsMost : ℕ
+pointsMost = entriesAt + entrySize * 255
 
 -- the starts of the entries
 unfoldable pub entries : List ℕ → List ℕ
@@ -27,18 +32,18 @@ entries f = startsFrom (λ _. entrySize) (pointsAt f) entriesAt
 
 -- the first and the last point offset of the entry at e
 abbrev pub firstOf : List ℕ → ℕ → ℕ
-firstOf f e = numAt 2 f (e + firstPoint)
+firstOf f e = valueOf f e rows.first
 
 abbrev pub lastOf : List ℕ → ℕ → ℕ
-lastOf f e = numAt 2 f (e + lastPoint)
+lastOf f e = valueOf f e rows.last
 
 -- the entry at e is the first one
 abbrev pub isFirst : ℕ → Bool
 isFirst e = ltb e (entriesAt + entrySize)
 
--- where the points end of the track whose entry ends at e: its last point offset stands just before e
+-- where the points end of the track whose entry ends at e
 abbrev pub stopBefore : List ℕ → ℕ → ℕ → ℕ
-stopBefore f size e = numAt 2 f (e - 2) + size
+stopBefore f size e = lastOf f (e - entrySize) + size
 
 -- where the points of the entry at e are due: after the entries, and then where the last track's end
 unfoldable pub dueAt : List ℕ → ℕ → ℕ → ℕ
@@ -47,19 +52,22 @@ dueAt f size e = cond (isFirst e) (pointsAt f) (stopBefore f size e)
 -- by track: the first offset is where due; the last offset is the first plus a positive multiple of the size, and its point fits
 abbrev pub entryLayout : List ℕ → ℕ → ℕ → List Fact
 entryLayout f size e =
-    isNumber reason.Layout f e (e + firstPoint) Two (dueAt f size e)
-    ∷ fits e (e + lastPoint) 2 (firstOf f e + size) (lastOf f e)
-    ∷ whole e (e + lastPoint) 2 (lastOf f e - firstOf f e) size
-    ∷ fits e (e + lastPoint) 2 (lastOf f e + size) (endOf f)
+    isNumber reason.Layout f e (placeIn e rows.first) Two (dueAt f size e)
+    ∷ fits e (placeIn e rows.last) (rows.last .width) (firstOf f e + size) (lastOf f e)
+    ∷ whole e (placeIn e rows.last) (rows.last .width) (lastOf f e - firstOf f e) size
+    ∷ fits e (placeIn e rows.last) (rows.last .width) (lastOf f e + size) (endOf f)
     ∷ []
 
 -- n is not 0, and the entries fit
 abbrev pub countLayout : List ℕ → List Fact
-countLayout f = between reason.Layout f 0 countAt One 1 255 ∷ fits 0 countAt 1 (pointsAt f) (endOf f) ∷ []
+countLayout f =
+    between reason.Layout f 0 (placeIn 0 rows.count) One 1 255
+    ∷ fits 0 (placeIn 0 rows.count) (rows.count .width) (pointsAt f) (endOf f)
+    ∷ []
 
 -- at last, the points do not stop short of End
 abbrev pub stopLayout : List ℕ → ℕ → List Fact
-stopLayout f size = endsAt (numAt 2 f (pointsAt f - 2)) (stopBefore f size (pointsAt f)) (endOf f) ∷ []
+stopLayout f size = endsAt (lastOf f (pointsAt f - entrySize)) (stopBefore f size (pointsAt f)) (endOf f) ∷ []
 
 unfoldable pub layoutFacts : List ℕ → ℕ → List Fact
 layoutFacts f size = countLayout f ++ (flatMap (entryLayout f size) (entries f) ++ stopLayout f size)

@@ -5,26 +5,25 @@ use Prim.Native.Nat.{ℕ, suc, _+_, _*_, _≤_, _<_}
 use mathlib.Core.Path.{_≡_}
 use mathlib.Core.List.{List}
 use lib.ListN.{length, take}
-use lib.IntN.{ℤ, natAbs}
+use lib.IntN.{ℤ, natAbs, _+ℤ_}
 use Rattle.octets.specs.Octets.{numAt, signedAt}
 use Rattle.checksum.specs.Checksum.{checksumOf}
 pub use Rattle.rules.specs.Rules.{Between}
-use Rattle.seal.specs.Seal.{mostLength, typeAt, structureAt, dataAt, stationAt}
+use Rattle.seal.specs.Seal.{mostLength, typeAt, structureAt}
 use Rattle.tracks.specs.Places as place
 use Rattle.geography.specs.Layout.{endOf, countOf, pointsAt, firstOf, lastOf}
-use Rattle.geography.specs.Agreement.{sumOf}
 
 -- z lies within plus or minus a limit
 abbrev pub Within : ℕ → ℤ → Type 0
 Within limit z = natAbs z ≤ limit
 
 -- where the entry of track i stands
-abbrev pub entryAt : ℕ → ℕ
-entryAt i = place.entriesAt + place.entrySize * i
+abbrev pub entryPlace : ℕ → ℕ
+entryPlace i = place.entriesAt + place.entrySize * i
 
 -- where point j stands, of the track whose entry is at e
-abbrev pub pointAt : List ℕ → ℕ → ℕ → ℕ → ℕ
-pointAt f size e j = firstOf f e + size * j
+abbrev pub pointPlace : List ℕ → ℕ → ℕ → ℕ → ℕ
+pointPlace f size e j = firstOf f e + size * j
 
 -- ---- layout
 
@@ -33,61 +32,61 @@ pub record LayoutObeys (f : List ℕ) (size : ℕ) : Type 0 where
   pub some-track : Between 1 255 (countOf f)
   pub entries-fit : pointsAt f ≤ endOf f
   -- the first track's points start at 8 + 30 n
-  pub first-due : firstOf f (entryAt 0) ≡ pointsAt f
+  pub first-due : firstOf f (entryPlace 0) ≡ pointsAt f
   -- each next track's start where the last one's end
-  pub next-due : (i : ℕ) → suc i < countOf f → firstOf f (entryAt (suc i)) ≡ lastOf f (entryAt i) + size
-  -- a track has at least two points: the last stands a positive number of points behind the first
-  pub two-points : (i : ℕ) → i < countOf f → (k : ℕ) × (lastOf f (entryAt i) ≡ pointAt f size (entryAt i) (suc k))
+  pub next-due : (i : ℕ) → suc i < countOf f → firstOf f (entryPlace (suc i)) ≡ lastOf f (entryPlace i) + size
+  -- a track has at least two points: the last stands a positive number of points after the first
+  pub two-points : (i : ℕ) → i < countOf f → (k : ℕ) × (lastOf f (entryPlace i) ≡ pointPlace f size (entryPlace i) (suc k))
   -- a track's points end by End
-  pub points-fit : (i : ℕ) → i < countOf f → lastOf f (entryAt i) + size ≤ endOf f
+  pub points-fit : (i : ℕ) → i < countOf f → lastOf f (entryPlace i) + size ≤ endOf f
   -- the final point ends at End
-  pub final : (i : ℕ) → suc i ≡ countOf f → lastOf f (entryAt i) + size ≡ endOf f
+  pub final : (i : ℕ) → suc i ≡ countOf f → lastOf f (entryPlace i) + size ≡ endOf f
 
--- ---- fields
+-- ---- fields: the numbers are those of 01 and the places those of the standard's tables, written here a second time
 
 pub record EntryObeys (f : List ℕ) (e : ℕ) : Type 0 where
-  pub number : Between 1 255 (numAt 1 f (e + place.number))
-  pub property : Between 1 5 (numAt 1 f (e + place.property))
-  pub start-position : numAt 4 f (e + place.startPosition) ≡ 0
-  pub start-latitude : Within place.latitudeMost (signedAt 4 f (e + place.startLatitude))
-  pub start-longitude : Within place.longitudeMost (signedAt 4 f (e + place.startLongitude))
-  pub end-position : Between 0 place.positionMost (numAt 4 f (e + place.endPosition))
-  pub end-latitude : Within place.latitudeMost (signedAt 4 f (e + place.endLatitude))
-  pub end-longitude : Within place.longitudeMost (signedAt 4 f (e + place.endLongitude))
+  pub number : Between 1 255 (numAt 1 f (e + 0))
+  pub property : Between 1 5 (numAt 1 f (e + 1))
+  pub start-position : numAt 4 f (e + 2) ≡ 0
+  pub start-latitude : Within 324000000 (signedAt 4 f (e + 6))
+  pub start-longitude : Within 648000000 (signedAt 4 f (e + 10))
+  pub end-position : Between 0 2147483647 (numAt 4 f (e + 14))
+  pub end-latitude : Within 324000000 (signedAt 4 f (e + 18))
+  pub end-longitude : Within 648000000 (signedAt 4 f (e + 22))
 
 pub record PointObeys (f : List ℕ) (p : ℕ) : Type 0 where
-  pub position : Between 0 place.positionMost (numAt 4 f (p + place.position))
-  pub heading : Within place.headingMost (signedAt 2 f (p + place.heading))
-  pub near : Between 0 1 (numAt 1 f (p + place.near))
+  pub position : Between 0 2147483647 (numAt 4 f (p + 0))
+  pub heading : Within 31416 (signedAt 2 f (p + 10))
+  pub near : Between 0 1 (numAt 1 f (p + 12))
 
 pub record FieldsObey (f : List ℕ) (size : ℕ) : Type 0 where
-  pub data-version : Between 1 65535 (numAt 2 f dataAt)
-  pub station : Between 1 65535 (numAt 2 f stationAt)
-  pub each-entry : (i : ℕ) → i < countOf f → EntryObeys f (entryAt i)
+  pub data-version : Between 1 65535 (numAt 2 f 3)
+  pub station : Between 1 65535 (numAt 2 f 5)
+  pub each-entry : (i : ℕ) → i < countOf f → EntryObeys f (entryPlace i)
   pub each-point : (j : ℕ) → pointsAt f + size * j < endOf f → PointObeys f (pointsAt f + size * j)
 
 -- ---- agreement
 
 pub record TrackAgrees (f : List ℕ) (size e : ℕ) : Type 0 where
   -- the first point has position and both increments 0, and its near flag equals the second's
-  pub first-position : numAt 4 f (pointAt f size e 0 + place.position) ≡ 0
-  pub first-latitude : numAt 3 f (pointAt f size e 0 + place.latitude) ≡ 0
-  pub first-longitude : numAt 3 f (pointAt f size e 0 + place.longitude) ≡ 0
-  pub first-near : numAt 1 f (pointAt f size e 0 + place.near) ≡ numAt 1 f (pointAt f size e 1 + place.near)
+  pub first-position : numAt 4 f (pointPlace f size e 0 + 0) ≡ 0
+  pub first-latitude : numAt 3 f (pointPlace f size e 0 + 4) ≡ 0
+  pub first-longitude : numAt 3 f (pointPlace f size e 0 + 7) ≡ 0
+  pub first-near : numAt 1 f (pointPlace f size e 0 + 12) ≡ numAt 1 f (pointPlace f size e 1 + 12)
   -- positions strictly rise
-  pub rising : (j : ℕ) → pointAt f size e (suc j) ≤ lastOf f e → numAt 4 f (pointAt f size e j + place.position) < numAt 4 f (pointAt f size e (suc j) + place.position)
+  pub rising : (j : ℕ) → pointPlace f size e (suc j) ≤ lastOf f e → numAt 4 f (pointPlace f size e j + 0) < numAt 4 f (pointPlace f size e (suc j) + 0)
   -- start plus increment stays in the coordinate's range
-  pub latitudes : (j : ℕ) → pointAt f size e j ≤ lastOf f e → Within place.latitudeMost (sumOf f (e + place.startLatitude) (pointAt f size e j + place.latitude))
-  pub longitudes : (j : ℕ) → pointAt f size e j ≤ lastOf f e → Within place.longitudeMost (sumOf f (e + place.startLongitude) (pointAt f size e j + place.longitude))
+  pub latitudes : (j : ℕ) → pointPlace f size e j ≤ lastOf f e → Within 324000000 (signedAt 4 f (e + 6) +ℤ signedAt 3 f (pointPlace f size e j + 4))
+  pub longitudes : (j : ℕ) → pointPlace f size e j ≤ lastOf f e → Within 648000000 (signedAt 4 f (e + 10) +ℤ signedAt 3 f (pointPlace f size e j + 7))
   -- the last point equals the track's end position, latitude and longitude
-  pub last-position : numAt 4 f (lastOf f e + place.position) ≡ numAt 4 f (e + place.endPosition)
-  pub last-latitude : sumOf f (e + place.startLatitude) (lastOf f e + place.latitude) ≡ signedAt 4 f (e + place.endLatitude)
-  pub last-longitude : sumOf f (e + place.startLongitude) (lastOf f e + place.longitude) ≡ signedAt 4 f (e + place.endLongitude)
+  pub last-position : numAt 4 f (lastOf f e + 0) ≡ numAt 4 f (e + 14)
+  pub last-latitude : signedAt 4 f (e + 6) +ℤ signedAt 3 f (lastOf f e + 4) ≡ signedAt 4 f (e + 18)
+  pub last-longitude : signedAt 4 f (e + 10) +ℤ signedAt 3 f (lastOf f e + 7) ≡ signedAt 4 f (e + 22)
 
 pub record AgreementObeys (f : List ℕ) (size : ℕ) : Type 0 where
   -- track numbers strictly rise
-  pub numbers : (i : ℕ) → suc i < countOf f → numAt 1 f (entryAt i + place.number) < numAt 1 f (entryAt (suc i) + place.number)
-  pub each-track : (i : ℕ) → i < countOf f → TrackAgrees f size (entryAt i)
+  pub numbers : (i : ℕ) → suc i < countOf f → numAt 1 f (entryPlace i + 0) < numAt 1 f (entryPlace (suc i) + 0)
+  pub each-track : (i : ℕ) → i < countOf f → TrackAgrees f size (entryPlace i)
 
 -- ---- the file
 

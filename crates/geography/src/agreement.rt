@@ -1,21 +1,25 @@
-// The agreement of X.1: 7 in 01's table.
+// The agreement of X.1 (01, 'Agreement' and 'Agreement in X.1'): 7 in 01's table.
 ghost use mathlib.Core.Path.{_≡_};
 ghost use mathlib.Core.Bool.{cond};
 ghost use mathlib.Core.List.{[], _∷_, flatMap};
-ghost use Prim.Native.Nat.{_+_, _-_, _≤_, _<_};
+ghost use Prim.Native.Nat.{_+_, _<_};
 ghost use lib.Dec.{ltb, eqb};
-ghost use Rattle.verdict.specs.Facts.{judge};
-ghost use Rattle.geography.specs.Layout.{pointsAt, firstOf, lastOf};
-ghost use Rattle.geography.specs.Agreement.{SumOf, sumWithin, sumIs, numberAgrees, opens, rises, stays, closes, pointAgrees, pointsOf, trackAgrees, agreementFacts};
+ghost use Rattle.octets.specs.Octets.{bytesOf};
+ghost use Rattle.verdict.specs.Facts.{also, judge};
+ghost use Rattle.rules.specs.Rules.{zeroAt, sameAs, above};
+ghost use Rattle.geography.specs.Layout.{firstOf, lastOf};
+ghost use Rattle.geography.specs.Agreement.{SumOf, fieldRow, pointMark, sumWithin, sumIs, numberAgrees, opens, rises, stays, closes, pointAgrees, pointsOf, trackAgrees, agreementFacts};
+use crate::layout::entry_before;
+use crate::layout::is_first;
 use crate::layout::points_at;
-use octets::Width;
 use octets::distance;
-use octets::i24_at;
-use octets::i32_at;
-use octets::u16_at;
 use rules::above;
 use rules::same_as;
 use rules::zero_at;
+use tables::Field;
+use tables::number_of;
+use tables::place_of;
+use tables::signed_of;
 use tracks::ENTRIES;
 use tracks::LATITUDE_MOST;
 use tracks::LONGITUDE_MOST;
@@ -27,217 +31,217 @@ use verdict::Reason;
 use verdict::Rule;
 use verdict::also_fact;
 
-// A start plus an increment.
-pub fn sum_of(f: &[u8], base: usize, field: usize) -> i64
-    ensures { λ r. ⌜ SumOf (now (f .entry)) base field r ⌝ }
+// ---- start plus increment
+
+// A start, of the entry at e, plus an increment, of the point at p.
+pub fn sum_of(f: &[u8], e: u32, start: Field, p: u32, increment: Field) -> i64
+    ensures { λ r. ⌜ SumOf (now (f .entry)) e start p increment r ⌝ }
 {
-    i32_at(f, base) + i24_at(f, field)
+    signed_of(f, e, start) + signed_of(f, p, increment)
+}
+
+// The verdict so far, then one rule of the point at p.
+fn ask(v: Judged, ok: bool, p: u32, k: Field, rule: Rule) -> Judged
+    ensures { λ r. ⌜ r ≡ also v ok (pointMark p (bytesOf (k .1)) rule) ⌝ }
+{
+    let reason = Reason::Agreement;
+    let width = k.1;
+    let at = p as usize;
+    let mark = Mark {
+        reason,
+        start: at,
+        place: at,
+        width: width.bytes(),
+        rule,
+    };
+    also_fact(v, ok, mark)
 }
 
 // Start plus increment is at most so far from 0.
-fn sum_within(v: Judged, f: &[u8], p: usize, field: usize, base: usize, limit: usize) -> Judged
-    ensures { λ r. ⌜ r ≡ judge v (sumWithin (now (f .entry)) p field base limit ∷ []) ⌝ }
+fn sum_within(
+    v: Judged,
+    f: &[u8],
+    e: u32,
+    start: Field,
+    p: u32,
+    increment: Field,
+    limit: usize,
+) -> Judged
+    ensures { λ r. ⌜ r ≡ judge v (sumWithin (now (f .entry)) e (fieldRow start) p (fieldRow increment) limit ∷ []) ⌝ }
 {
-    let far = distance(sum_of(f, base, field));
-    let reason = Reason::Agreement;
-    let rule = Rule::SumWithin(field, base, limit);
-    let mark = Mark {
-        reason,
-        start: p,
-        place: p,
-        width: 3,
-        rule,
-    };
-    also_fact(v, far <= limit, mark)
+    let far = distance(sum_of(f, e, start, p, increment));
+    let rule = Rule::SumWithin(place_of(p, increment), place_of(e, start), limit);
+    ask(v, far <= limit, p, increment, rule)
 }
 
 // Start plus increment is the end.
-fn sum_is(v: Judged, f: &[u8], p: usize, field: usize, base: usize, end: usize) -> Judged
-    ensures { λ r. ⌜ r ≡ judge v (sumIs (now (f .entry)) p field base end ∷ []) ⌝ }
+fn sum_is(v: Judged, f: &[u8], e: u32, start: Field, end: Field, p: u32, increment: Field) -> Judged
+    ensures { λ r. ⌜ r ≡ judge v (sumIs (now (f .entry)) e (fieldRow start) (fieldRow end) p (fieldRow increment) ∷ []) ⌝ }
 {
-    let far = distance(sum_of(f, base, field) - i32_at(f, end));
-    let reason = Reason::Agreement;
-    let rule = Rule::SumIs(field, base, end);
-    let mark = Mark {
-        reason,
-        start: p,
-        place: p,
-        width: 3,
-        rule,
-    };
-    also_fact(v, far == 0, mark)
+    let far = distance(sum_of(f, e, start, p, increment) - signed_of(f, e, end));
+    let rule = Rule::SumIs(place_of(p, increment), place_of(e, start), place_of(e, end));
+    ask(v, far == 0, p, increment, rule)
 }
 
+// ---- one field of a record against another
+
+// The field of the point at p is 0.
+fn is_zero(v: Judged, f: &[u8], p: u32, k: Field) -> Judged
+    ensures { λ r. ⌜ r ≡ judge v (zeroAt (now (f .entry)) p p (k .1) (p + k .0) ∷ []) ⌝ }
+{
+    let at = p as usize;
+    let width = k.1;
+    zero_at(v, f, at, at, width, place_of(p, k))
+}
+
+// The field of the point at p is the one at another place.
+fn is_same(v: Judged, f: &[u8], p: u32, k: Field, other: usize) -> Judged
+    ensures { λ r. ⌜ r ≡ judge v (sameAs (now (f .entry)) p p (k .1) (p + k .0) other ∷ []) ⌝ }
+{
+    let at = p as usize;
+    let width = k.1;
+    same_as(v, f, at, at, width, place_of(p, k), other)
+}
+
+// The field of a record is above that of the record before it; a fault is at `place`.
+fn is_above(v: Judged, f: &[u8], at: u32, before: u32, k: Field, place: usize) -> Judged
+    ensures { λ r. ⌜ r ≡ judge v (above (now (f .entry)) at place (k .1) (at + k .0) (before + k .0) ∷ []) ⌝ }
+{
+    let width = k.1;
+    let other = place_of(before, k);
+    above(v, f, at as usize, place, width, place_of(at, k), other)
+}
+
+// ---- the facts
+
 // The number of the entry at e is above that of the entry before it.
-fn number_agrees(f: &[u8], e: usize, v: Judged) -> Judged
-    requires { ⌜ e < 8000 ⌝ }
+fn number_agrees(v: Judged, f: &[u8], e: u32) -> Judged
     ensures { λ r. ⌜ r ≡ judge v (numberAgrees (now (f .entry)) e) ⌝ }
 {
-    if e < ENTRIES + Track::SIZE {
+    if is_first(e) {
         return v;
     }
-    above(
-        v,
-        f,
-        e,
-        e + Track::NUMBER,
-        Width::One,
-        e + Track::NUMBER,
-        e - Track::SIZE + Track::NUMBER,
-    )
+    let place = place_of(e, Track::NUMBER);
+    is_above(v, f, e, entry_before(e), Track::NUMBER, place)
 }
 
 // The first point of a track.
-fn opens_at(f: &[u8], size: usize, p: usize, v: Judged) -> Judged
-    requires { ⌜ (p < 70000) × (size < 256) ⌝ }
+fn opens_at(v: Judged, f: &[u8], size: u8, p: u32) -> Judged
     ensures { λ r. ⌜ r ≡ judge v (opens (now (f .entry)) size p) ⌝ }
 {
-    let v1 = zero_at(v, f, p, p, Width::Four, p + Point::POSITION);
-    let v2 = zero_at(v1, f, p, p, Width::Three, p + Point::LATITUDE);
-    let v3 = zero_at(v2, f, p, p, Width::Three, p + Point::LONGITUDE);
-    same_as(
-        v3,
-        f,
-        p,
-        p,
-        Width::One,
-        p + Point::NEAR,
-        p + size + Point::NEAR,
-    )
+    let step = size as usize;
+    let mut w = is_zero(v, f, p, Point::POSITION);
+    w = is_zero(w, f, p, Point::LATITUDE_INCREMENT);
+    w = is_zero(w, f, p, Point::LONGITUDE_INCREMENT);
+    let second = place_of(p, Point::NEAR) + step;
+    is_same(w, f, p, Point::NEAR, second)
 }
 
 // A point of a track, as its first one or as a later one.
-fn starts_right(f: &[u8], size: usize, first: usize, p: usize, v: Judged) -> Judged
-    requires { ⌜ (p < 70000) × (size < 256) × (first < 65536) ⌝ }
+fn starts_right(v: Judged, f: &[u8], size: u8, first: u16, p: u32) -> Judged
     ensures { λ r. ⌜ r ≡ judge v (cond (ltb p (first + size)) (opens (now (f .entry)) size p) (rises (now (f .entry)) size p)) ⌝ }
 {
-    if p < first + size {
-        return opens_at(f, size, p, v);
+    let step = size as u32;
+    if p < first as u32 + step {
+        return opens_at(v, f, size, p);
     }
-    above(
-        v,
-        f,
-        p,
-        p,
-        Width::Four,
-        p + Point::POSITION,
-        p - size + Point::POSITION,
-    )
+    is_above(v, f, p, p - step, Point::POSITION, p as usize)
 }
 
 // Every point of a track.
-fn stays_in(f: &[u8], e: usize, p: usize, v: Judged) -> Judged
-    requires { ⌜ (e < 8000) × (p < 70000) ⌝ }
+fn stays_in(v: Judged, f: &[u8], e: u32, p: u32) -> Judged
     ensures { λ r. ⌜ r ≡ judge v (stays (now (f .entry)) e p) ⌝ }
 {
-    let w = sum_within(
-        v,
-        f,
-        p,
-        p + Point::LATITUDE,
-        e + Track::START_LATITUDE,
-        LATITUDE_MOST,
-    );
+    let start = Track::START_LATITUDE;
+    let w = sum_within(v, f, e, start, p, Point::LATITUDE_INCREMENT, LATITUDE_MOST);
     sum_within(
         w,
         f,
+        e,
+        Track::START_LONGITUDE,
         p,
-        p + Point::LONGITUDE,
-        e + Track::START_LONGITUDE,
+        Point::LONGITUDE_INCREMENT,
         LONGITUDE_MOST,
     )
 }
 
 // A point of a track, where it is the last one.
-fn ends_right(f: &[u8], e: usize, last: usize, p: usize, v: Judged) -> Judged
-    requires { ⌜ (e < 8000) × (p < 70000) ⌝ }
+fn ends_right(v: Judged, f: &[u8], e: u32, last: u16, p: u32) -> Judged
     ensures { λ r. ⌜ r ≡ judge v (cond (eqb p last) (closes (now (f .entry)) e p) []) ⌝ }
 {
-    if p != last {
+    if p != last as u32 {
         return v;
     }
-    let v1 = same_as(
-        v,
+    let end = place_of(e, Track::END_POSITION);
+    let mut w = is_same(v, f, p, Point::POSITION, end);
+    w = sum_is(
+        w,
         f,
+        e,
+        Track::START_LATITUDE,
+        Track::END_LATITUDE,
         p,
-        p,
-        Width::Four,
-        p + Point::POSITION,
-        e + Track::END_POSITION,
-    );
-    let v2 = sum_is(
-        v1,
-        f,
-        p,
-        p + Point::LATITUDE,
-        e + Track::START_LATITUDE,
-        e + Track::END_LATITUDE,
+        Point::LATITUDE_INCREMENT,
     );
     sum_is(
-        v2,
+        w,
         f,
+        e,
+        Track::START_LONGITUDE,
+        Track::END_LONGITUDE,
         p,
-        p + Point::LONGITUDE,
-        e + Track::START_LONGITUDE,
-        e + Track::END_LONGITUDE,
+        Point::LONGITUDE_INCREMENT,
     )
 }
 
 // One point of the entry at e.
-fn point_agrees(
-    f: &[u8],
-    size: usize,
-    e: usize,
-    first: usize,
-    last: usize,
-    p: usize,
-    v: Judged,
-) -> Judged
-    requires { ⌜ (size < 256) × (e < 8000) × (first < 65536) × (p < 70000) × (first ≡ firstOf (now f) e) × (last ≡ lastOf (now f) e) ⌝ }
+fn point_agrees(v: Judged, f: &[u8], size: u8, e: u32, first: u16, last: u16, p: u32) -> Judged
+    requires { ⌜ (first ≡ firstOf (now f) e) × (last ≡ lastOf (now f) e) ⌝ }
     ensures { λ r. ⌜ r ≡ judge v (pointAgrees (now (f .entry)) size e p) ⌝ }
 {
-    let v1 = starts_right(f, size, first, p, v);
-    let v2 = stays_in(f, e, p, v1);
-    ends_right(f, e, last, p, v2)
+    let mut w = starts_right(v, f, size, first, p);
+    w = stays_in(w, f, e, p);
+    ends_right(w, f, e, last, p)
 }
 
 // The points of the entry at e.
-fn points_agree(f: &[u8], size: usize, e: usize, v: Judged) -> Judged
-    requires { ⌜ (0 < size) × (size < 256) × (e < 8000) ⌝ }
+fn points_agree(v: Judged, f: &[u8], size: u8, e: u32) -> Judged
+    requires { ⌜ 0 < size ⌝ }
     ensures { λ r. ⌜ r ≡ judge v (flatMap (pointAgrees (now (f .entry)) size e) (pointsOf (now (f .entry)) size e)) ⌝ }
 {
-    let first = u16_at(f, e + Track::FIRST);
-    let last = u16_at(f, e + Track::LAST);
-    let stop = last + size;
+    let first = number_of(f, e, Track::FIRST) as u16;
+    let last = number_of(f, e, Track::LAST) as u16;
+    let step = size as u32;
+    let stop = last as u32 + step;
     let mut w = v;
-    let mut p = first;
+    let mut p = first as u32;
     while p < stop {
-        w = point_agrees(f, size, e, first, last, p, w);
-        p = p + size;
+        w = point_agrees(w, f, size, e, first, last, p);
+        p = p + step;
     }
     w
 }
 
 // The entry at e and its points.
-fn track_agrees(f: &[u8], size: usize, e: usize, v: Judged) -> Judged
-    requires { ⌜ (0 < size) × (size < 256) × (e < 8000) ⌝ }
+fn track_agrees(v: Judged, f: &[u8], size: u8, e: u32) -> Judged
+    requires { ⌜ 0 < size ⌝ }
     ensures { λ r. ⌜ r ≡ judge v (trackAgrees (now (f .entry)) size e) ⌝ }
 {
-    let w = number_agrees(f, e, v);
-    points_agree(f, size, e, w)
+    let w = number_agrees(v, f, e);
+    points_agree(w, f, size, e)
 }
 
 // The verdict so far, then the agreement.
-pub fn check_agreement(f: &[u8], size: usize, v: Judged) -> Judged
-    requires { ⌜ (0 < size) × (size < 256) ⌝ }
+pub fn check_agreement(v: Judged, f: &[u8], size: u8) -> Judged
+    requires { ⌜ 0 < size ⌝ }
     ensures { λ r. ⌜ r ≡ judge v (agreementFacts (now (f .entry)) size) ⌝ }
 {
     let points = points_at(f);
     let mut w = v;
     let mut e = ENTRIES;
     while e < points {
-        w = track_agrees(f, size, e, w);
-        e = e + Track::SIZE;
+        w = track_agrees(w, f, size, e);
+        e = e + Track::SIZE as u32;
     }
     w
 }

@@ -1,18 +1,21 @@
-// The fields of X.1: 5 in 01's table.
+// The fields of X.1 (01, 'Fields'): 5 in 01's table, a line for each field in the page's order.
 ghost use mathlib.Core.Path.{_≡_};
 ghost use mathlib.Core.List.{flatMap};
-ghost use Prim.Native.Nat.{_+_, _-_, _≤_, _<_};
+ghost use Prim.Native.Nat.{_≤_, _<_};
 ghost use lib.ListN.{length};
 ghost use Rattle.verdict.specs.Facts.{judge};
-ghost use Rattle.geography.specs.Layout.{endOf, pointsAt, entries};
-ghost use Rattle.geography.specs.Fields.{entryFields, pointFields, allPoints, fieldFacts};
+ghost use Rattle.seal.specs.Seal.{mostLength};
+ghost use Rattle.geography.specs.Layout.{entries};
+ghost use Rattle.geography.specs.Fields.{headerFields, entryFields, pointFields, allPoints, fieldFacts};
 use crate::layout::points_at;
-use octets::Width;
-use rules::between;
-use rules::is_number;
-use rules::within;
 use seal::DATA;
+use seal::HEADER;
+use seal::NUMBER_MOST;
 use seal::STATION;
+use seal::end_of;
+use tables::between;
+use tables::exactly;
+use tables::within;
 use tracks::ENTRIES;
 use tracks::HEADING_MOST;
 use tracks::LATITUDE_MOST;
@@ -21,142 +24,73 @@ use tracks::POSITION_MOST;
 use tracks::Point;
 use tracks::Track;
 use verdict::Judged;
-use verdict::Reason;
+
+// The fields of the header.
+fn header_fields(v: Judged, f: &[u8]) -> Judged
+    ensures { λ r. ⌜ r ≡ judge v (headerFields (now (f .entry))) ⌝ }
+{
+    let w = between(v, f, HEADER, DATA, 1, NUMBER_MOST);
+    between(w, f, HEADER, STATION, 1, NUMBER_MOST)
+}
 
 // The fields of the entry at e.
-fn entry_fields(f: &[u8], e: usize, v: Judged) -> Judged
-    requires { ⌜ e < 8000 ⌝ }
+fn entry_fields(v: Judged, f: &[u8], e: u32) -> Judged
     ensures { λ r. ⌜ r ≡ judge v (entryFields (now (f .entry)) e) ⌝ }
 {
-    let v1 = between(
-        v,
-        f,
-        Reason::Field,
-        e,
-        e + Track::NUMBER,
-        Width::One,
-        1,
-        255,
-    );
-    let v2 = between(
-        v1,
-        f,
-        Reason::Field,
-        e,
-        e + Track::PROPERTY,
-        Width::One,
-        1,
-        5,
-    );
-    let v3 = is_number(
-        v2,
-        f,
-        Reason::Field,
-        e,
-        e + Track::START_POSITION,
-        Width::Four,
-        0,
-    );
-    let v4 = within(
-        v3,
-        f,
-        e,
-        e + Track::START_LATITUDE,
-        Width::Four,
-        LATITUDE_MOST,
-    );
-    let v5 = within(
-        v4,
-        f,
-        e,
-        e + Track::START_LONGITUDE,
-        Width::Four,
-        LONGITUDE_MOST,
-    );
-    let v6 = between(
-        v5,
-        f,
-        Reason::Field,
-        e,
-        e + Track::END_POSITION,
-        Width::Four,
-        0,
-        POSITION_MOST,
-    );
-    let v7 = within(
-        v6,
-        f,
-        e,
-        e + Track::END_LATITUDE,
-        Width::Four,
-        LATITUDE_MOST,
-    );
-    within(
-        v7,
-        f,
-        e,
-        e + Track::END_LONGITUDE,
-        Width::Four,
-        LONGITUDE_MOST,
-    )
+    let mut w = between(v, f, e, Track::NUMBER, 1, 255);
+    w = between(w, f, e, Track::PROPERTY, 1, 5);
+    w = exactly(w, f, e, Track::START_POSITION, 0);
+    w = within(w, f, e, Track::START_LATITUDE, LATITUDE_MOST);
+    w = within(w, f, e, Track::START_LONGITUDE, LONGITUDE_MOST);
+    w = between(w, f, e, Track::END_POSITION, 0, POSITION_MOST);
+    w = within(w, f, e, Track::END_LATITUDE, LATITUDE_MOST);
+    within(w, f, e, Track::END_LONGITUDE, LONGITUDE_MOST)
 }
 
 // The fields of every entry.
-fn entries_fields(f: &[u8], points: usize, v: Judged) -> Judged
-    requires { ⌜ (points < 8000) × (points ≡ pointsAt (now f)) ⌝ }
+fn entries_fields(v: Judged, f: &[u8]) -> Judged
     ensures { λ r. ⌜ r ≡ judge v (flatMap (entryFields (now (f .entry))) (entries (now (f .entry)))) ⌝ }
 {
+    let points = points_at(f);
     let mut w = v;
     let mut e = ENTRIES;
     while e < points {
-        w = entry_fields(f, e, w);
-        e = e + Track::SIZE;
+        w = entry_fields(w, f, e);
+        e = e + Track::SIZE as u32;
     }
     w
 }
 
 // The fields of the point at p.
-fn point_fields(f: &[u8], p: usize, v: Judged) -> Judged
-    requires { ⌜ p < 66000 ⌝ }
+fn point_fields(v: Judged, f: &[u8], p: u32) -> Judged
     ensures { λ r. ⌜ r ≡ judge v (pointFields (now (f .entry)) p) ⌝ }
 {
-    let v1 = between(
-        v,
-        f,
-        Reason::Field,
-        p,
-        p + Point::POSITION,
-        Width::Four,
-        0,
-        POSITION_MOST,
-    );
-    let v2 = within(v1, f, p, p + Point::HEADING, Width::Two, HEADING_MOST);
-    between(v2, f, Reason::Field, p, p + Point::NEAR, Width::One, 0, 1)
+    let mut w = between(v, f, p, Point::POSITION, 0, POSITION_MOST);
+    w = within(w, f, p, Point::HEADING, HEADING_MOST);
+    between(w, f, p, Point::NEAR, 0, 1)
 }
 
 // The fields of every point.
-fn points_fields(f: &[u8], size: usize, points: usize, end: usize, v: Judged) -> Judged
-    requires { ⌜ (0 < size) × (size < 256) × (points < 8000) × (end < 65536) × (points ≡ pointsAt (now f)) × (end ≡ endOf (now f)) ⌝ }
+fn points_fields(v: Judged, f: &[u8], size: u8) -> Judged
+    requires { ⌜ (length (now f) ≤ mostLength) × (0 < size) ⌝ }
     ensures { λ r. ⌜ r ≡ judge v (flatMap (pointFields (now (f .entry))) (allPoints (now (f .entry)) size)) ⌝ }
 {
+    let end = end_of(f) as u32;
     let mut w = v;
-    let mut p = points;
+    let mut p = points_at(f);
     while p < end {
-        w = point_fields(f, p, w);
-        p = p + size;
+        w = point_fields(w, f, p);
+        p = p + size as u32;
     }
     w
 }
 
 // The verdict so far, then the fields.
-pub fn check_fields(f: &[u8], size: usize, v: Judged) -> Judged
-    requires { ⌜ (4 ≤ length (now f)) × (length (now f) < 65536) × (0 < size) × (size < 256) ⌝ }
+pub fn check_fields(v: Judged, f: &[u8], size: u8) -> Judged
+    requires { ⌜ (length (now f) ≤ mostLength) × (0 < size) ⌝ }
     ensures { λ r. ⌜ r ≡ judge v (fieldFacts (now (f .entry)) size) ⌝ }
 {
-    let end = f.len() - 4;
-    let points = points_at(f);
-    let v1 = between(v, f, Reason::Field, 0, DATA, Width::Two, 1, 65535);
-    let v2 = between(v1, f, Reason::Field, 0, STATION, Width::Two, 1, 65535);
-    let v3 = entries_fields(f, points, v2);
-    points_fields(f, size, points, end, v3)
+    let mut w = header_fields(v, f);
+    w = entries_fields(w, f);
+    points_fields(w, f, size)
 }

@@ -1,19 +1,23 @@
-// The layout of X.1: 6 in 01's table. `size` is the size of a point, `points` where the entries end and the points start, `end` the
-// length without the checksum.
+// The layout of X.1 (01, 'Layout' and 'Layout faults in X.1'): 6 in 01's table.
 ghost use mathlib.Core.Path.{_≡_};
-ghost use mathlib.Core.List.{flatMap};
-ghost use Prim.Native.Nat.{_+_, _-_, _≤_, _<_};
-ghost use lib.ListN.{length};
+ghost use mathlib.Core.List.{[], _∷_, flatMap};
+ghost use Prim.Native.Nat.{_+_, _-_, _≤_};
+ghost use Rattle.octets.specs.Octets.{bytesOf};
 ghost use Rattle.verdict.specs.Facts.{judge};
-ghost use Rattle.geography.specs.Layout.{endOf, pointsAt, stopBefore, dueAt, entryLayout, entries, layoutFacts};
-use octets::Width;
-use octets::byte_at;
-use octets::u16_at;
-use rules::between;
+ghost use Rattle.rules.specs.Rules.{fits, whole};
+ghost use Rattle.tracks.specs.Places.{entrySize};
+ghost use Rattle.geography.specs.Layout.{pointsAt, pointsMost, isFirst, stopBefore, dueAt, entryLayout, entries, layoutFacts};
+use octets::less;
 use rules::ends_at;
 use rules::fits;
-use rules::is_number;
 use rules::whole;
+use seal::HEADER;
+use seal::end_of;
+use tables::Field;
+use tables::number_between;
+use tables::number_is;
+use tables::number_of;
+use tables::place_of;
 use tracks::COUNT;
 use tracks::ENTRIES;
 use tracks::Track;
@@ -21,79 +25,103 @@ use verdict::Judged;
 use verdict::Reason;
 
 // Where the entries end and the points start.
-pub fn points_at(f: &[u8]) -> usize
+pub fn points_at(f: &[u8]) -> u32
     ensures { λ r. ⌜ r ≡ pointsAt (now (f .entry)) ⌝ }
-    ensures { λ r. ⌜ r < 8000 ⌝ }
+    ensures { λ r. ⌜ r ≤ pointsMost ⌝ }
 {
-    ENTRIES + Track::SIZE * byte_at(f, COUNT)
+    ENTRIES + Track::SIZE as u32 * number_of(f, HEADER, COUNT) as u32
+}
+
+// The entry at e is the first one.
+pub fn is_first(e: u32) -> bool
+    ensures { λ r. ⌜ r ≡ isFirst e ⌝ }
+{
+    e < ENTRIES + Track::SIZE as u32
+}
+
+// Where the entry starts that ends at e; 0 where none has room before e.
+pub fn entry_before(e: u32) -> u32
+    ensures { λ r. ⌜ r ≡ e - entrySize ⌝ }
+{
+    less(e as usize, Track::SIZE as usize) as u32
 }
 
 // Where the points end of the track whose entry ends at e.
-fn stop_before(f: &[u8], size: usize, e: usize) -> usize
-    requires { ⌜ (8 ≤ e) × (size < 256) ⌝ }
+fn stop_before(f: &[u8], size: u8, e: u32) -> usize
     ensures { λ r. ⌜ r ≡ stopBefore (now (f .entry)) size e ⌝ }
-    ensures { λ r. ⌜ r < 66000 ⌝ }
 {
-    u16_at(f, e - 2) + size
+    number_of(f, entry_before(e), Track::LAST) + size as usize
 }
 
 // Where the points of the entry at e are due.
-fn due_at(f: &[u8], size: usize, points: usize, e: usize) -> usize
-    requires { ⌜ (8 ≤ e) × (size < 256) × (points ≡ pointsAt (now f)) ⌝ }
+fn due_at(f: &[u8], size: u8, e: u32) -> usize
     ensures { λ r. ⌜ r ≡ dueAt (now (f .entry)) size e ⌝ }
 {
-    if e < ENTRIES + Track::SIZE {
-        return points;
+    if is_first(e) {
+        return points_at(f) as usize;
     }
     stop_before(f, size, e)
 }
 
-// The offsets of the entry at e.
-fn entry_layout(f: &[u8], size: usize, points: usize, end: usize, e: usize, v: Judged) -> Judged
-    requires { ⌜ (8 ≤ e) × (e < 8000) × (size < 256) × (points ≡ pointsAt (now f)) × (end ≡ endOf (now f)) ⌝ }
-    ensures { λ r. ⌜ r ≡ judge v (entryLayout (now (f .entry)) size e) ⌝ }
+// What ends at `reach` fits into a room that ends at `room`; a fault is at the field.
+fn fits_at(v: Judged, at: u32, k: Field, reach: usize, room: usize) -> Judged
+    ensures { λ r. ⌜ r ≡ judge v (fits at (at + k .0) (bytesOf (k .1)) reach room ∷ []) ⌝ }
 {
-    let due = due_at(f, size, points, e);
-    let at = e + Track::LAST;
-    let first = u16_at(f, e + Track::FIRST);
-    let last = u16_at(f, at);
-    let v1 = is_number(v, f, Reason::Layout, e, e + Track::FIRST, Width::Two, due);
-    let v2 = fits(v1, e, at, 2, first + size, last);
-    let v3 = whole(v2, e, at, 2, apart(last, first), size);
-    fits(v3, e, at, 2, last + size, end)
+    let width = k.1;
+    fits(v, at as usize, place_of(at, k), width.bytes(), reach, room)
 }
 
-// How many bytes lie between two places, and 0 where they are in the other order.
-fn apart(to: usize, from: usize) -> usize
-    ensures { λ r. ⌜ r ≡ to - from ⌝ }
+// So many bytes are whole records of a size; a fault is at the field.
+fn whole_at(v: Judged, at: u32, k: Field, bytes: usize, size: u8) -> Judged
+    ensures { λ r. ⌜ r ≡ judge v (whole at (at + k .0) (bytesOf (k .1)) bytes size ∷ []) ⌝ }
 {
-    if to < from { 0 } else { to - from }
+    let width = k.1;
+    whole(
+        v,
+        at as usize,
+        place_of(at, k),
+        width.bytes(),
+        bytes,
+        size as usize,
+    )
+}
+
+// The offsets of the entry at e.
+fn entry_layout(v: Judged, f: &[u8], size: u8, e: u32) -> Judged
+    ensures { λ r. ⌜ r ≡ judge v (entryLayout (now (f .entry)) size e) ⌝ }
+{
+    let first = number_of(f, e, Track::FIRST);
+    let last = number_of(f, e, Track::LAST);
+    let step = size as usize;
+    let mut w = number_is(v, f, Reason::Layout, e, Track::FIRST, due_at(f, size, e));
+    w = fits_at(w, e, Track::LAST, first + step, last);
+    w = whole_at(w, e, Track::LAST, less(last, first), size);
+    fits_at(w, e, Track::LAST, last + step, end_of(f))
 }
 
 // The offsets of every entry.
-fn entries_layout(f: &[u8], size: usize, points: usize, end: usize, v: Judged) -> Judged
-    requires { ⌜ (size < 256) × (points < 8000) × (points ≡ pointsAt (now f)) × (end ≡ endOf (now f)) ⌝ }
+fn entries_layout(v: Judged, f: &[u8], size: u8) -> Judged
     ensures { λ r. ⌜ r ≡ judge v (flatMap (entryLayout (now (f .entry)) size) (entries (now (f .entry)))) ⌝ }
 {
+    let points = points_at(f);
     let mut w = v;
     let mut e = ENTRIES;
     while e < points {
-        w = entry_layout(f, size, points, end, e, w);
-        e = e + Track::SIZE;
+        w = entry_layout(w, f, size, e);
+        e = e + Track::SIZE as u32;
     }
     w
 }
 
 // The verdict so far, then the layout.
-pub fn check_layout(f: &[u8], size: usize, v: Judged) -> Judged
-    requires { ⌜ (4 ≤ length (now f)) × (size < 256) ⌝ }
+pub fn check_layout(v: Judged, f: &[u8], size: u8) -> Judged
     ensures { λ r. ⌜ r ≡ judge v (layoutFacts (now (f .entry)) size) ⌝ }
 {
-    let end = f.len() - 4;
+    let end = end_of(f);
     let points = points_at(f);
-    let v1 = between(v, f, Reason::Layout, 0, COUNT, Width::One, 1, 255);
-    let v2 = fits(v1, 0, COUNT, 1, points, end);
-    let v3 = entries_layout(f, size, points, end, v2);
-    let stop = stop_before(f, size, points);
-    ends_at(v3, u16_at(f, points - 2), stop, end)
+    let mut w = number_between(v, f, Reason::Layout, HEADER, COUNT, 1, 255);
+    w = fits_at(w, HEADER, COUNT, points as usize, end);
+    w = entries_layout(w, f, size);
+    let last = number_of(f, entry_before(points), Track::LAST);
+    ends_at(w, last, last + size as usize, end)
 }

@@ -1,4 +1,4 @@
-// The verdict of an X.1 file: the checks in 01's order.
+// The verdict of an X.1 file (01, 'Verdicts and their order'): the checks in 01's order.
 ghost use mathlib.Core.Path.{_≡_};
 ghost use Rattle.geography.specs.Facts.{judgedOf, verdictOf};
 use crate::agreement::check_agreement;
@@ -23,19 +23,19 @@ pub fn first_fault(f: &[u8]) -> Judged
     let Judged::Accepted = sized else {
         return sized;
     };
-    let sealed = check_seal(f, FILE_TYPE, Judged::Accepted);
+    let sealed = check_seal(Judged::Accepted, f, FILE_TYPE);
     let Judged::Accepted = sealed else {
         return sealed;
     };
-    let laid = check_layout(f, Point::SIZE, Judged::Accepted);
+    let laid = check_layout(Judged::Accepted, f, Point::SIZE);
     let Judged::Accepted = laid else {
         return laid;
     };
-    let filled = check_fields(f, Point::SIZE, Judged::Accepted);
+    let filled = check_fields(Judged::Accepted, f, Point::SIZE);
     let Judged::Accepted = filled else {
         return filled;
     };
-    check_agreement(f, Point::SIZE, Judged::Accepted)
+    check_agreement(Judged::Accepted, f, Point::SIZE)
 }
 
 // The verdict of an X.1 file.

@@ -14,7 +14,7 @@ use Rattle.verdict.specs.Reasons.{shownOf}
 use Rattle.tracks.specs.Places as place
 use Rattle.geography.specs.Layout.{countOf, pointsAt, entries}
 use Rattle.geography.specs.Facts.{judgedOf, verdictOf}
-use Rattle.geography.specs.Obeys.{entryAt, Obeys}
+use Rattle.geography.specs.Obeys.{entryPlace, Obeys}
 use Rattle.geography.proofs.Obeys.{accepted-obeys}
 use Rattle.lookup.specs.Lookup.{numberAt, hasNumber, findTrack}
 use Rattle.lookup.specs.declared.Found.the-variants.{At, Absent}
@@ -39,20 +39,20 @@ verdict-obeys f =
 pub record HasNumber (f : List ℕ) (number e : ℕ) : Type 0 where
   pub track : ℕ
   pub in-file : track < countOf f
-  pub there : e ≡ entryAt track
+  pub there : e ≡ entryPlace track
   pub same : numberAt f e ≡ number
 
 module _ (f : List ℕ) (number : ℕ) where
-  start-in : (i : ℕ) → i < countOf f → entryAt i < pointsAt f
+  start-in : (i : ℕ) → i < countOf f → entryPlace i < pointsAt f
   start-in i h = omega arith
 
   -- THEOREM: no track is found exactly where none has the number.
-  pub absent-iff : (findTrack f number ≡ Absent) ↔ ((i : ℕ) → i < countOf f → numberAt f (entryAt i) ≡ number → ⊥)
+  pub absent-iff : (findTrack f number ≡ Absent) ↔ ((i : ℕ) → i < countOf f → numberAt f (entryPlace i) ≡ number → ⊥)
   unfolding findTrack entries
   absent-iff =
       let none = no-start-iff (hasNumber f number) place.entrySize (pointsAt f) (omega arith) place.entriesAt in (
-        λ e i h. eqb-false (numberAt f (entryAt i)) number (none .0 e i (start-in i h)),
-        λ h. none .1 (λ j l. ne-eqb (numberAt f (entryAt j)) number (h j (omega arith))),
+        λ e i h. eqb-false (numberAt f (entryPlace i)) number (none .0 e i (start-in i h)),
+        λ h. none .1 (λ j l. ne-eqb (numberAt f (entryPlace j)) number (h j (omega arith))),
       )
 
   -- what is found has the number, in every file
@@ -68,12 +68,12 @@ module _ (f : List ℕ) (number : ℕ) where
 
 module _ (f : List ℕ) (o : Obeys f) where
   -- numbers strictly rise, from any track to any later one
-  pub numbers-rise : (j i : ℕ) → i < j → j < countOf f → numberAt f (entryAt i) < numberAt f (entryAt j)
-  numbers-rise = rise (λ k. numberAt f (entryAt k)) (countOf f) (o .agreement .numbers)
+  pub numbers-rise : (j i : ℕ) → i < j → j < countOf f → numberAt f (entryPlace i) < numberAt f (entryPlace j)
+  numbers-rise = rise (λ k. numberAt f (entryPlace k)) (countOf f) (o .agreement .numbers)
 
   -- no two tracks have one number
-  pub one-track : (i j : ℕ) → i < countOf f → j < countOf f → numberAt f (entryAt i) ≡ numberAt f (entryAt j) → i ≡ j
-  one-track = rise-one (λ k. numberAt f (entryAt k)) (countOf f) (o .agreement .numbers)
+  pub one-track : (i j : ℕ) → i < countOf f → j < countOf f → numberAt f (entryPlace i) ≡ numberAt f (entryPlace j) → i ≡ j
+  one-track = rise-one (λ k. numberAt f (entryPlace k)) (countOf f) (o .agreement .numbers)
 
   -- THEOREM: in a file that obeys, a track's entry is found exactly where the track has the number.
   pub found-iff : (number e : ℕ) → (findTrack f number ≡ At e) ↔ HasNumber f number e
@@ -89,10 +89,6 @@ module _ (f : List ℕ) (o : Obeys f) where
           there = p;
           inside = omega (arith, w .in-file);
           passes = eq-eqb (numberAt f e) number s;
-          failed = λ k l. ne-eqb (numberAt f (entryAt k)) number (λ q. let n = numbers-rise i k l (w .in-file) in let r = ap (numberAt f) p in omega arith);
+          failed = λ k l. ne-eqb (numberAt f (entryPlace k)) number (λ q. let n = numbers-rise i k l (w .in-file) in let r = ap (numberAt f) p in omega arith);
         }),
   )
-
-  -- it stands among the first bytes of the file
-  pub found-place : (number e : ℕ) → findTrack f number ≡ At e → e < 8000
-  found-place number e q = let w = found-number f number e q in let c = o .layout .some-track .1 in omega (arith, w .in-file, w .there)

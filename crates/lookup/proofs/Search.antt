@@ -1,5 +1,5 @@
 -- The laws of `firstWhere`: one turn of a loop over records that stand without gaps, and its end; what an answer says; and, where all
--- records have one size, the answer by the count of sizes behind the first.
+-- records have one size, the answer by the count of sizes after the first.
 -- Assumes nothing.
 use Prim.Native.Nat.{ℕ, suc, zero, _+_, _*_, _≤_, _<_}
 use mathlib.Core.Path.{_≡_, refl, sym, ap, _∙_}
@@ -51,7 +51,7 @@ none-iff t (y ∷ ys) = let ih = none-iff t ys in (λ e. there (t y) refl (ih .0
 
 -- ---- records of one size
 
--- x is the first start that passes: it stands some sizes behind a and before the end, it passes, and no start before it does
+-- x is the first start that passes: it stands some sizes after a and before the end, it passes, and no start before it does
 pub record FirstStart (t : ℕ → Bool) (s end a x : ℕ) : Type 0 where
   pub steps : ℕ
   pub there : x ≡ a + s * steps

@@ -1,11 +1,12 @@
--- Looking for the first place of a list that passes a test, and for the entry of a track by its number.
+-- Looking for the first place of a list that passes a test, and for the entry of a track by its number (01: a coordinate's track, and the
+-- tracks that the pair looks up).
 -- Assumes nothing.
-use Prim.Native.Nat.{ℕ, _+_}
+use Prim.Native.Nat.{ℕ}
 use mathlib.Core.Bool.{Bool, cond}
 use mathlib.Core.List.{List, [], _∷_}
 use lib.Dec.{eqb}
-use Rattle.octets.specs.Octets.{numAt}
-use Rattle.tracks.specs.Places as place
+use Rattle.tables.specs.Table.{valueOf}
+use Rattle.tracks.specs.Rows as rows
 use Rattle.geography.specs.Layout.{entries}
 use Rattle.lookup.specs.declared.Found.{Found}
 use Rattle.lookup.specs.declared.Found.the-variants.{At, Absent}
@@ -17,7 +18,7 @@ firstWhere t (x ∷ xs) = cond (t x) (At x) (firstWhere t xs)
 
 -- the number of the track whose entry is at e
 abbrev pub numberAt : List ℕ → ℕ → ℕ
-numberAt f e = numAt 1 f (e + place.number)
+numberAt f e = valueOf f e rows.number
 
 -- it is the one that is looked for
 abbrev pub hasNumber : List ℕ → ℕ → ℕ → Bool

@@ -1,14 +1,14 @@
-// The entry of a track in X.1, by the track's number.
+// Where the entry of a track of X.1 stands, by the track's number (01: a coordinate's track, and the tracks that the pair looks up).
 ghost use mathlib.Core.Path.{_≡_};
 ghost use Rattle.lookup.specs.Lookup.{findTrack};
 use geography::points_at;
-use octets::byte_at;
+use tables::number_of;
 use tracks::ENTRIES;
 use tracks::Track;
 
-// Where what was looked for stands, or that it is nowhere.
+// Where what was looked for starts, or that it is nowhere.
 pub enum Found {
-    At(usize),
+    At(u32),
     Absent,
 }
 
@@ -19,10 +19,10 @@ pub fn find_track(f: &[u8], number: usize) -> Found
     let stop = points_at(f);
     let mut e = ENTRIES;
     while e < stop {
-        if byte_at(f, e + Track::NUMBER) == number {
+        if number_of(f, e, Track::NUMBER) == number {
             return Found::At(e);
         }
-        e = e + Track::SIZE;
+        e = e + Track::SIZE as u32;
     }
     Found::Absent
 }

@@ -66,7 +66,7 @@ of-number w s i u h r p e q =
     let k : r ≡ signed (halfOf (bytesOf w)) u = q ∙ ap (λ (x : ℕ). signed x u) e in
     record {
       is = k ∙ ap (signed (halfOf (bytesOf w))) (p .is);
-      near = subst (λ (z : ℤ). mag z < halfOf (bytesOf w)) (sym k) (signed-near (halfOf (bytesOf w)) u g);
+      small = subst (λ (z : ℤ). mag z < halfOf (bytesOf w)) (sym k) (signed-near (halfOf (bytesOf w)) u g);
     }
 
 -- how far the signed number is from 0

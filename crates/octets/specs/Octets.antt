@@ -43,4 +43,4 @@ pub record Is (n : ℕ) (s : List ℕ) (i r : ℕ) : Type 0 where
 -- r is the signed number of n bytes at i; its size (r, or -(r + 1) where it is negative) is below half of 256 ^ n
 pub record IsSigned (n : ℕ) (s : List ℕ) (i : ℕ) (r : ℤ) : Type 0 where
   pub is : r ≡ signedAt n s i
-  pub near : mag r < halfOf n
+  pub small : mag r < halfOf n

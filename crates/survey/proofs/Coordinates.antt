@@ -8,12 +8,11 @@ use mathlib.Core.Logic.{⊎-elim, _↔_}
 use mathlib.Core.List.{List}
 use lib.IntN.{ℤ}
 use native.Mathlib.Omega.{arith}
-use Rattle.octets.specs.Octets.{numAt}
 use Rattle.verdict.specs.declared.Reason.the-variants as reason
 use Rattle.verdict.proofs.Orders.{le-or-lt}
 use Rattle.tracks.specs.Places as place
 use Rattle.geography.specs.Layout.{countOf, lastOf}
-use Rattle.geography.specs.Obeys.{entryAt, pointAt, Obeys}
+use Rattle.geography.specs.Obeys.{entryPlace, pointPlace, Obeys}
 use Rattle.rounding.specs.Nearest.{coordinateOf}
 use Rattle.rounding.proofs.Ends.{coordinate-is, coordinate-only, at-start, at-end}
 use Rattle.lookup.specs.Lookup.{numberAt, findTrack}
@@ -22,7 +21,7 @@ use Rattle.lookup.specs.declared.Found.the-variants.{At, Absent}
 use Rattle.lookup.proofs.Lookup.{verdict-obeys, absent-iff}
 use Rattle.survey.specs.declared.answers.Coordinate.{Coordinate}
 use Rattle.survey.specs.declared.answers.CoordinateAnswer.the-variants as coordinate
-use Rattle.survey.specs.Stretch.{positionOf, latitudeOf, longitudeOf, pointCoordinate, stretchOf, coordinateOn}
+use Rattle.survey.specs.Stretch.{endPositionOf, positionOf, latitudeOf, longitudeOf, pointCoordinate, stretchOf, coordinateOn}
 use Rattle.survey.specs.Requires.{TrackObeys}
 use Rattle.survey.specs.Coordinate.{Neighbours, NearestAt, CoordinateAt}
 use Rattle.verdict.specs.Answers.{refusal, answerNumber}
@@ -76,29 +75,29 @@ module _ (f : List ℕ) (e x p q : ℕ) where
 
 module _ (f : List ℕ) (size e : ℕ) (positive : 0 < size) (o : TrackObeys f size e) (x : ℕ) where
   abbrev onward : ℕ → Coordinate
-  onward j = between f e x (pointAt f size e j) (pointAt f size e (suc j))
+  onward j = between f e x (pointPlace f size e j) (pointPlace f size e (suc j))
 
-  on-points : (j : ℕ) → coordinateOn f size e x (pointAt f size e j) ≡ onward j
+  on-points : (j : ℕ) → coordinateOn f size e x (pointPlace f size e j) ≡ onward j
   unfolding coordinateOn
-  on-points j = ap (λ (q : ℕ). between f e x (pointAt f size e j) q) (next-point f size e positive o j)
+  on-points j = ap (λ (q : ℕ). between f e x (pointPlace f size e j) q) (next-point f size e positive o j)
 
   module _ (j : ℕ) (n : Neighbours f size e x j) where
-    way : 0 < positionOf f (pointAt f size e (suc j)) - positionOf f (pointAt f size e j)
+    way : 0 < positionOf f (pointPlace f size e (suc j)) - positionOf f (pointPlace f size e j)
     way = let r = o .agrees .rising j (n .in-track) in omega arith
 
     onward-nearest : CoordinateAt f size e x (onward j)
     onward-nearest =
-        let w = between-nearest f e x (pointAt f size e j) (pointAt f size e (suc j)) way in
+        let w = between-nearest f e x (pointPlace f size e j) (pointPlace f size e (suc j)) way in
         record { point = j; between = n; latitude = w .0; longitude = w .1 }
 
     -- at the position of point k the stretch's first point is k, or its second
-    onward-point : (k : ℕ) → pointAt f size e k ≤ lastOf f e → x ≡ positionOf f (pointAt f size e k) → onward j ≡ pointCoordinate f e (pointAt f size e k)
+    onward-point : (k : ℕ) → pointPlace f size e k ≤ lastOf f e → x ≡ positionOf f (pointPlace f size e k) → onward j ≡ pointCoordinate f e (pointPlace f size e k)
     onward-point k l h =
         ⊎-elim
         (λ (g : k ≤ j).
         ⊎-elim
         (λ (d : j ≤ k). same (omega arith))
-        (λ (d : k < j). let r = positions-rise f size e positive o j k d (point-in f size e positive o x j n) in let b = n .behind in absurd (omega arith))
+        (λ (d : k < j). let r = positions-rise f size e positive o j k d (point-in f size e positive o x j n) in let b = n .past in absurd (omega arith))
         (le-or-lt j k))
         (λ (g : j < k).
         ⊎-elim
@@ -107,15 +106,15 @@ module _ (f : List ℕ) (size e : ℕ) (positive : 0 < size) (o : TrackObeys f s
         (le-or-lt k (suc j)))
         (le-or-lt k j)
       where
-        same : j ≡ k → onward j ≡ pointCoordinate f e (pointAt f size e k)
+        same : j ≡ k → onward j ≡ pointCoordinate f e (pointPlace f size e k)
         same d =
-            let s = ap (λ (i : ℕ). pointAt f size e i) d in
-            between-first f e x (pointAt f size e j) (pointAt f size e (suc j)) way (h ∙ sym (ap (positionOf f) s)) ∙ ap (pointCoordinate f e) s
+            let s = ap (λ (i : ℕ). pointPlace f size e i) d in
+            between-first f e x (pointPlace f size e j) (pointPlace f size e (suc j)) way (h ∙ sym (ap (positionOf f) s)) ∙ ap (pointCoordinate f e) s
 
-        next : suc j ≡ k → onward j ≡ pointCoordinate f e (pointAt f size e k)
+        next : suc j ≡ k → onward j ≡ pointCoordinate f e (pointPlace f size e k)
         next d =
-            let s = ap (λ (i : ℕ). pointAt f size e i) d in
-            between-second f e x (pointAt f size e j) (pointAt f size e (suc j)) way (h ∙ sym (ap (positionOf f) s)) ∙ ap (pointCoordinate f e) s
+            let s = ap (λ (i : ℕ). pointPlace f size e i) d in
+            between-second f e x (pointPlace f size e j) (pointPlace f size e (suc j)) way (h ∙ sym (ap (positionOf f) s)) ∙ ap (pointCoordinate f e) s
 
   -- x lies on two stretches only where they share a point at x, and there they agree
   earlier : (i j : ℕ) → i < j → Neighbours f size e x i → Neighbours f size e x j → onward i ≡ onward j
@@ -123,7 +122,7 @@ module _ (f : List ℕ) (size e : ℕ) (positive : 0 < size) (o : TrackObeys f s
       let l = point-in f size e positive o x j m in
       let r = positions-order f size e positive o j (suc i) h l in
       let a = n .ahead in
-      let b = m .behind in
+      let b = m .past in
       onward-point i n j l (omega arith) ∙ sym (onward-point j m j l (omega arith))
 
   agree : (i j : ℕ) → Neighbours f size e x i → Neighbours f size e x j → onward i ≡ onward j
@@ -137,7 +136,7 @@ module _ (f : List ℕ) (size e : ℕ) (positive : 0 < size) (o : TrackObeys f s
   onward-only j n r c =
       let k = c .point in
       let m = c .between in
-      between-only f e x (pointAt f size e k) (pointAt f size e (suc k)) (way k m) r (c .latitude) (c .longitude) ∙ agree k j m n
+      between-only f e x (pointPlace f size e k) (pointPlace f size e (suc k)) (way k m) r (c .latitude) (c .longitude) ∙ agree k j m n
 
 -- ---- the question, in a file that obeys, on a track that is found
 
@@ -146,7 +145,7 @@ module _ (f : List ℕ) (o : Obeys f) (number e : ℕ) (found : findTrack f numb
   size = place.pointSize
 
   abbrev end : ℕ
-  end = numAt 4 f (e + place.endPosition)
+  end = endPositionOf f e
 
   track : TrackObeys f size e
   track = found-obeys f o number e found
@@ -186,9 +185,9 @@ module _ (f : List ℕ) (o : Obeys f) (number e : ℕ) (found : findTrack f numb
       w .2 ∙ ap coordinate.Coordinate (sym (onward-only f size e (omega arith) track x (w .0) (w .1) r c))
 
   -- THEOREM: at a stored point the answer is that point's own coordinate.
-  pub coordinate-at-point : (j : ℕ) → pointAt f size e j ≤ lastOf f e → coordinateAsked f number (positionOf f (pointAt f size e j)) ≡ coordinate.Coordinate (pointCoordinate f e (pointAt f size e j))
+  pub coordinate-at-point : (j : ℕ) → pointPlace f size e j ≤ lastOf f e → coordinateAsked f number (positionOf f (pointPlace f size e j)) ≡ coordinate.Coordinate (pointCoordinate f e (pointPlace f size e j))
   coordinate-at-point j h =
-      let x = positionOf f (pointAt f size e j) in
+      let x = positionOf f (pointPlace f size e j) in
       let w = answered x (position-most f size e (omega arith) track j h) in
       w .2 ∙ ap coordinate.Coordinate (onward-point f size e (omega arith) track x (w .0) (w .1) j h refl)
 
@@ -200,13 +199,19 @@ module _ (f : List ℕ) (o : Obeys f) (number e : ℕ) (found : findTrack f numb
   )
 
 -- THEOREM: in a file that obeys it is refused for the track exactly where no track has the number.
-pub track-refused : (f : List ℕ) → Obeys f → (number x : ℕ) → (coordinateAsked f number x ≡ coordinate.Refused (refusal reason.Track)) ↔ ((i : ℕ) → i < countOf f → numberAt f (entryAt i) ≡ number → ⊥)
+pub track-refused : (f : List ℕ) → Obeys f → (number x : ℕ) → (coordinateAsked f number x ≡ coordinate.Refused (refusal reason.Track)) ↔ ((i : ℕ) → i < countOf f → numberAt f (entryPlace i) ≡ number → ⊥)
 track-refused f o number x = (there (findTrack f number) refl, λ h. sym (no-track f number x refl ((verdict-obeys f) .1 o) refl ((absent-iff f number) .1 h) refl))
   where
-    there : (s : Found) → findTrack f number ≡ s → coordinateAsked f number x ≡ coordinate.Refused (refusal reason.Track) → (i : ℕ) → i < countOf f → numberAt f (entryAt i) ≡ number → ⊥
+    there : (s : Found) → findTrack f number ≡ s → coordinateAsked f number x ≡ coordinate.Refused (refusal reason.Track) → (i : ℕ) → i < countOf f → numberAt f (entryPlace i) ≡ number → ⊥
     there Absent q g = (absent-iff f number) .0 q
     there (At e) q g =
         ⊎-elim
+<<<<<<< HEAD
         (λ (h : x ≤ numAt 4 f (e + place.endPosition)). let r = coordinate-nearest f o number e q x h in absurd (omega (arith, ap answerNumber (ap coordinateAnswer (sym g ∙ r .1)))))
         (λ (h : numAt 4 f (e + place.endPosition) < x). let d = (position-refused f o number e q x) .1 h in absurd (omega (arith, ap answerNumber (ap coordinateAnswer (sym g ∙ d)))))
         (le-or-lt x (numAt 4 f (e + place.endPosition)))
+=======
+        (λ (h : x ≤ endPositionOf f e). let r = coordinate-nearest f o number e q x h in absurd (omega (arith, ap coordinateNumberIn (sym g ∙ r .1))))
+        (λ (h : endPositionOf f e < x). let d = (position-refused f o number e q x) .1 h in absurd (omega (arith, ap coordinateNumberIn (sym g ∙ d))))
+        (le-or-lt x (endPositionOf f e))
+>>>>>>> x17

@@ -5,29 +5,37 @@ use mathlib.Core.Path.{_≡_, sym, ap, _∙_}
 use mathlib.Core.List.{List}
 use native.Mathlib.Omega.{arith}
 use borrow.Author.Tests.{lt-ltb, le-ltb, le-leb, lt-leb}
-use Rattle.octets.specs.Octets.{numAt}
 use Rattle.verdict.specs.declared.Reason.the-variants as reason
 use Rattle.verdict.specs.declared.Fault.{Fault}
 use Rattle.verdict.specs.declared.Verdict.{Verdict}
 use Rattle.verdict.specs.declared.Verdict.the-variants as verdict
+<<<<<<< HEAD
 use Rattle.verdict.specs.Answers.{refusal}
 use Rattle.verdict.proofs.Questions.{fault-is, no-fault}
 use Rattle.seal.specs.declared.Header.{Header}
 use Rattle.seal.specs.Header.{headerIn}
+=======
+use Rattle.seal.specs.Seal.{mostLength}
+>>>>>>> x17
 use Rattle.tracks.specs.Places as place
 use Rattle.tracks.specs.Tracks.{trackAt, pointAt, pointsIn}
 use Rattle.tracks.specs.declared.Track.{Track}
 use Rattle.tracks.specs.declared.Point.{Point}
 use Rattle.geography.specs.Layout.{countOf, firstOf, lastOf}
 use Rattle.geography.specs.Facts.{verdictOf}
-use Rattle.geography.specs.Obeys.{entryAt, pointAt as pointPlace}
+use Rattle.geography.specs.Obeys.{entryPlace, pointPlace}
 use Rattle.lookup.specs.Lookup.{findTrack}
 use Rattle.lookup.specs.declared.Found.{Found}
 use Rattle.lookup.specs.declared.Found.the-variants.{At, Absent}
 use Rattle.lookup.proofs.Lookup.{verdict-obeys}
+<<<<<<< HEAD
 use Rattle.survey.specs.Stretch.{stretchOf, coordinateOn}
 use Rattle.survey.specs.Questions.{headerOf, trackIn, trackOf, pointIn, pointOf, onStretch, onTrack, onFound, coordinateAsked}
 use Rattle.survey.specs.declared.answers.HeaderAnswer.the-variants as header
+=======
+use Rattle.survey.specs.Stretch.{endPositionOf, stretchOf, coordinateOn}
+use Rattle.survey.specs.Questions.{refusal, afterVerdict, trackIn, trackOf, pointIn, pointOf, onStretch, onTrack, onFound, coordinateAsked}
+>>>>>>> x17
 use Rattle.survey.specs.declared.answers.TrackAnswer.the-variants as track
 use Rattle.survey.specs.declared.answers.PointAnswer.the-variants as point
 use Rattle.survey.specs.declared.answers.Coordinate.{Coordinate}
@@ -61,7 +69,7 @@ module _ (f : List ℕ) {v : Verdict} (e : v ≡ verdictOf f) (g : v ≡ verdict
   unfolding trackOf
   track-none h q = ap track.Refused q ∙ sym (no-fault track.Refused (verdictOf f) (trackIn f i) (sym e ∙ g) ∙ rw (le-ltb i (countOf f) (omega arith)))
 
-  pub track-there : i < n → {at : ℕ} {r : Track} → at ≡ entryAt i → r ≡ trackAt f at → track.Track r ≡ trackOf f i
+  pub track-there : i < n → {at : ℕ} {r : Track} → at ≡ entryPlace i → r ≡ trackAt f at → track.Track r ≡ trackOf f i
   unfolding trackOf
   track-there h p q =
       ap track.Track (q ∙ ap (trackAt f) p) ∙ sym (no-fault track.Refused (verdictOf f) (trackIn f i) (sym e ∙ g) ∙ rw (lt-ltb i (countOf f) (omega arith)))
@@ -73,54 +81,54 @@ module _ (f : List ℕ) {v : Verdict} (e : v ≡ verdictOf f) (g : v ≡ verdict
     unfolding pointOf
     point-no-track h q = ap point.Refused q ∙ sym (no-fault point.Refused (verdictOf f) _ (sym e ∙ g) ∙ rw (le-ltb i (countOf f) (omega arith)))
 
-    module _ (h : i < n) {at m : ℕ} {r : Track} (p : at ≡ entryAt i) (q : r ≡ trackAt f at) (s : m ≡ pointsIn place.pointSize (r .first) (r .last)) where
-      there : pointOf f i j ≡ pointIn f place.pointSize (entryAt i) j
+    module _ (h : i < n) {at m : ℕ} {r : Track} (p : at ≡ entryPlace i) (q : r ≡ trackAt f at) (s : m ≡ pointsIn place.pointSize (r .first) (r .last)) where
+      there : pointOf f i j ≡ pointIn f place.pointSize (entryPlace i) j
       unfolding pointOf
       there = no-fault point.Refused (verdictOf f) _ (sym e ∙ g) ∙ rw (lt-ltb i (countOf f) (omega arith))
 
-      entry-read : r ≡ trackAt f (entryAt i)
+      entry-read : r ≡ trackAt f (entryPlace i)
       entry-read = q ∙ ap (trackAt f) p
 
-      first-read : r .first ≡ firstOf f (entryAt i)
+      first-read : r .first ≡ firstOf f (entryPlace i)
       unfolding trackAt
       first-read = ap (λ (x : Track). x .first) entry-read
 
-      count-read : m ≡ pointsIn place.pointSize (firstOf f (entryAt i)) (lastOf f (entryAt i))
+      count-read : m ≡ pointsIn place.pointSize (firstOf f (entryPlace i)) (lastOf f (entryPlace i))
       unfolding trackAt
       count-read = s ∙ ap (λ (x : Track). pointsIn place.pointSize (x .first) (x .last)) entry-read
 
       pub point-none : m ≤ j → {t : Fault} → t ≡ refusal reason.Question → point.Refused t ≡ pointOf f i j
       point-none k u =
           let z = count-read in
-          ap point.Refused u ∙ sym (there ∙ rw (le-ltb j (pointsIn place.pointSize (firstOf f (entryAt i)) (lastOf f (entryAt i))) (omega arith)))
+          ap point.Refused u ∙ sym (there ∙ rw (le-ltb j (pointsIn place.pointSize (firstOf f (entryPlace i)) (lastOf f (entryPlace i))) (omega arith)))
 
-      pub point-low : j < m → r .first + place.pointSize * j < 65536
-      point-low k =
+      pub point-in-file : j < m → r .first + place.pointSize * j ≤ mostLength
+      point-in-file k =
           let o = track-obeys f ((verdict-obeys f) .0 (sym e ∙ g)) i (omega arith) in
-          let l = o .last-low in
+          let l = o .in-file in
           let y = first-read in
           let z = count-read in
-          let w = (named-iff f place.pointSize (entryAt i) (omega arith) o j) .0 (omega arith) in
+          let w = (named-iff f place.pointSize (entryPlace i) (omega arith) o j) .0 (omega arith) in
           omega arith
 
       pub point-there : j < m → {to : ℕ} {u : Point} → to ≡ r .first + place.pointSize * j → u ≡ pointAt f to → point.Point u ≡ pointOf f i j
       point-there k {to} a b =
           let z = count-read in
           let y = first-read in
-          let w : to ≡ pointPlace f place.pointSize (entryAt i) j = omega arith in
-          ap point.Point (b ∙ ap (pointAt f) w) ∙ sym (there ∙ rw (lt-ltb j (pointsIn place.pointSize (firstOf f (entryAt i)) (lastOf f (entryAt i))) (omega arith)))
+          let w : to ≡ pointPlace f place.pointSize (entryPlace i) j = omega arith in
+          ap point.Point (b ∙ ap (pointAt f) w) ∙ sym (there ∙ rw (lt-ltb j (pointsIn place.pointSize (firstOf f (entryPlace i)) (lastOf f (entryPlace i))) (omega arith)))
 
 -- ---- the coordinate at position x of the track whose entry is at e: n is its end position, s its stretch as it was found
 
-module _ (f : List ℕ) (size e x : ℕ) {n : ℕ} (c : n ≡ numAt 4 f (e + place.endPosition)) where
+module _ (f : List ℕ) (size e x : ℕ) {n : ℕ} (c : n ≡ endPositionOf f e) where
   pub beyond-end : n < x → {t : Fault} → t ≡ refusal reason.Position → coordinate.Refused t ≡ onTrack f size e x
   unfolding onTrack
-  beyond-end h q = ap coordinate.Refused q ∙ sym (rw (lt-leb x (numAt 4 f (e + place.endPosition)) (omega arith)))
+  beyond-end h q = ap coordinate.Refused q ∙ sym (rw (lt-leb x (endPositionOf f e) (omega arith)))
 
   module _ (h : x ≤ n) {s : Found} (q : s ≡ stretchOf f size e x) where
     by-stretch : (o : Found) → s ≡ o → onTrack f size e x ≡ onStretch f size e x o
     unfolding onTrack
-    by-stretch o w = rw (le-leb x (numAt 4 f (e + place.endPosition)) (omega arith)) (ap (onStretch f size e x) (sym q ∙ w))
+    by-stretch o w = rw (le-leb x (endPositionOf f e) (omega arith)) (ap (onStretch f size e x) (sym q ∙ w))
 
     pub no-stretch : s ≡ Absent → {t : Fault} → t ≡ refusal reason.Position → coordinate.Refused t ≡ onTrack f size e x
     no-stretch w u = ap coordinate.Refused u ∙ sym (by-stretch Absent w)

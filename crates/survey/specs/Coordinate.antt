@@ -6,16 +6,16 @@ use Prim.Native.Nat.{ℕ, suc, _-_, _≤_}
 use mathlib.Core.List.{List}
 use lib.IntN.{ℤ}
 use Rattle.geography.specs.Layout.{lastOf}
-use Rattle.geography.specs.Obeys.{pointAt}
+use Rattle.geography.specs.Obeys.{pointPlace}
 use Rattle.rounding.specs.Nearest.{Nearest, exactOf}
 use Rattle.survey.specs.declared.answers.Coordinate.{Coordinate}
 use Rattle.survey.specs.Stretch.{positionOf, latitudeOf, longitudeOf}
 
 -- position x lies between point j and the next one, which is still a point of the track
 pub record Neighbours (f : List ℕ) (size e x j : ℕ) : Type 0 where
-  pub in-track : pointAt f size e (suc j) ≤ lastOf f e
-  pub behind : positionOf f (pointAt f size e j) ≤ x
-  pub ahead : x ≤ positionOf f (pointAt f size e (suc j))
+  pub in-track : pointPlace f size e (suc j) ≤ lastOf f e
+  pub past : positionOf f (pointPlace f size e j) ≤ x
+  pub ahead : x ≤ positionOf f (pointPlace f size e (suc j))
 
 -- r is nearest to the exact one at x between p and q, where what y gives moves linearly
 abbrev pub NearestAt : List ℕ → (ℕ → ℤ) → ℕ → ℕ → ℕ → ℤ → Type 0
@@ -26,5 +26,5 @@ NearestAt f y x p q r =
 pub record CoordinateAt (f : List ℕ) (size e x : ℕ) (r : Coordinate) : Type 0 where
   pub point : ℕ
   pub between : Neighbours f size e x point
-  pub latitude : NearestAt f (latitudeOf f e) x (pointAt f size e point) (pointAt f size e (suc point)) (r .latitude)
-  pub longitude : NearestAt f (longitudeOf f e) x (pointAt f size e point) (pointAt f size e (suc point)) (r .longitude)
+  pub latitude : NearestAt f (latitudeOf f e) x (pointPlace f size e point) (pointPlace f size e (suc point)) (r .latitude)
+  pub longitude : NearestAt f (longitudeOf f e) x (pointPlace f size e point) (pointPlace f size e (suc point)) (r .longitude)

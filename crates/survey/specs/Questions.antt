@@ -1,11 +1,15 @@
 -- X.1's questions (01: 'A question ..'). Each first gives its file's own fault. An index that names nothing is 13; a coordinate's absent track
 -- is 11 and a position beyond the end 12; all with place 0. Indexes count from 0. `size` is the size of a point.
 -- Assumes nothing.
-use Prim.Native.Nat.{ℕ, _+_}
+use Prim.Native.Nat.{ℕ}
 use mathlib.Core.Bool.{cond}
 use mathlib.Core.List.{List}
 use lib.Dec.{ltb, leb}
+<<<<<<< HEAD
 use Rattle.octets.specs.Octets.{numAt}
+=======
+use Rattle.verdict.specs.declared.Reason.{Reason}
+>>>>>>> x17
 use Rattle.verdict.specs.declared.Reason.the-variants as reason
 use Rattle.verdict.specs.Answers.{refusal, afterVerdict}
 use Rattle.seal.specs.Header.{headerIn}
@@ -13,13 +17,17 @@ use Rattle.tracks.specs.Places as place
 use Rattle.tracks.specs.Tracks.{trackAt, pointAt, pointsIn}
 use Rattle.geography.specs.Layout.{countOf, firstOf, lastOf}
 use Rattle.geography.specs.Facts.{verdictOf}
-use Rattle.geography.specs.Obeys.{entryAt, pointAt as pointPlace}
+use Rattle.geography.specs.Obeys.{entryPlace, pointPlace}
 use Rattle.lookup.specs.Lookup.{findTrack}
 use Rattle.lookup.specs.declared.Found.{Found}
 use Rattle.lookup.specs.declared.Found.the-variants.{At, Absent}
+<<<<<<< HEAD
 use Rattle.survey.specs.Stretch.{stretchOf, coordinateOn}
 use Rattle.survey.specs.declared.answers.HeaderAnswer.{HeaderAnswer}
 use Rattle.survey.specs.declared.answers.HeaderAnswer.the-variants as header
+=======
+use Rattle.survey.specs.Stretch.{endPositionOf, stretchOf, coordinateOn}
+>>>>>>> x17
 use Rattle.survey.specs.declared.answers.TrackAnswer.{TrackAnswer}
 use Rattle.survey.specs.declared.answers.TrackAnswer.the-variants as track
 use Rattle.survey.specs.declared.answers.PointAnswer.{PointAnswer}
@@ -35,7 +43,7 @@ headerOf f = afterVerdict header.Refused (verdictOf f) (header.Header (headerIn 
 -- ---- track i
 
 abbrev pub trackIn : List ℕ → ℕ → TrackAnswer
-trackIn f i = cond (ltb i (countOf f)) (track.Track (trackAt f (entryAt i))) (track.Refused (refusal reason.Question))
+trackIn f i = cond (ltb i (countOf f)) (track.Track (trackAt f (entryPlace i))) (track.Refused (refusal reason.Question))
 
 unfoldable pub trackOf : List ℕ → ℕ → TrackAnswer
 trackOf f i = afterVerdict track.Refused (verdictOf f) (trackIn f i)
@@ -48,7 +56,7 @@ pointIn f size e j =
     cond (ltb j (pointsIn size (firstOf f e) (lastOf f e))) (point.Point (pointAt f (pointPlace f size e j))) (point.Refused (refusal reason.Question))
 
 unfoldable pub pointOf : List ℕ → ℕ → ℕ → PointAnswer
-pointOf f i j = afterVerdict point.Refused (verdictOf f) (cond (ltb i (countOf f)) (pointIn f place.pointSize (entryAt i) j) (point.Refused (refusal reason.Question)))
+pointOf f i j = afterVerdict point.Refused (verdictOf f) (cond (ltb i (countOf f)) (pointIn f place.pointSize (entryPlace i) j) (point.Refused (refusal reason.Question)))
 
 -- ---- the coordinate at position x of the track with a number
 
@@ -59,7 +67,7 @@ onStretch f size e x Absent = coordinate.Refused (refusal reason.Position)
 
 -- on the track whose entry is at e
 unfoldable pub onTrack : List ℕ → ℕ → ℕ → ℕ → CoordinateAnswer
-onTrack f size e x = cond (leb x (numAt 4 f (e + place.endPosition))) (onStretch f size e x (stretchOf f size e x)) (coordinate.Refused (refusal reason.Position))
+onTrack f size e x = cond (leb x (endPositionOf f e)) (onStretch f size e x (stretchOf f size e x)) (coordinate.Refused (refusal reason.Position))
 
 -- on the track that was found
 abbrev pub onFound : List ℕ → ℕ → ℕ → Found → CoordinateAnswer

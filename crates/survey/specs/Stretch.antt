@@ -7,9 +7,9 @@ use mathlib.Core.Bool.{Bool}
 use mathlib.Core.List.{List}
 use lib.Dec.{leb}
 use lib.IntN.{ℤ}
-use Rattle.octets.specs.Octets.{numAt}
 use Rattle.verdict.specs.Walk.{startsFrom}
-use Rattle.tracks.specs.Places as place
+use Rattle.tables.specs.Table.{valueOf}
+use Rattle.tracks.specs.Rows as rows
 use Rattle.geography.specs.Layout.{firstOf, lastOf}
 use Rattle.geography.specs.Agreement.{sumOf}
 use Rattle.rounding.specs.Nearest.{coordinateOf}
@@ -17,16 +17,20 @@ use Rattle.lookup.specs.Lookup.{firstWhere}
 use Rattle.lookup.specs.declared.Found.{Found}
 use Rattle.survey.specs.declared.answers.Coordinate.{Coordinate}
 
+-- the track's end position
+abbrev pub endPositionOf : List ℕ → ℕ → ℕ
+endPositionOf f e = valueOf f e rows.endPosition
+
 -- a point's position
 abbrev pub positionOf : List ℕ → ℕ → ℕ
-positionOf f p = numAt 4 f (p + place.position)
+positionOf f p = valueOf f p rows.position
 
 -- a point's coordinates: start plus increment
 abbrev pub latitudeOf : List ℕ → ℕ → ℕ → ℤ
-latitudeOf f e p = sumOf f (e + place.startLatitude) (p + place.latitude)
+latitudeOf f e p = sumOf f e rows.startLatitude p rows.latitudeIncrement
 
 abbrev pub longitudeOf : List ℕ → ℕ → ℕ → ℤ
-longitudeOf f e p = sumOf f (e + place.startLongitude) (p + place.longitude)
+longitudeOf f e p = sumOf f e rows.startLongitude p rows.longitudeIncrement
 
 abbrev pub pointCoordinate : List ℕ → ℕ → ℕ → Coordinate
 pointCoordinate f e p = record { latitude = latitudeOf f e p; longitude = longitudeOf f e p }

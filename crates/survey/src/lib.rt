@@ -1,9 +1,19 @@
+<<<<<<< HEAD
 // The questions on an X.1 file: header, track, point, coordinate (01: 'A question ..'). Each takes the verdict apart and returns the file's own
 // fault at once.
 ghost use mathlib.Core.Path.{_≡_};
 ghost use Prim.Native.Nat.{_+_, _*_, _<_};
 ghost use Rattle.geography.specs.Obeys.{entryAt};
 ghost use Rattle.survey.specs.Questions.{headerOf, trackOf, pointOf, onTrack, coordinateAsked};
+=======
+// The questions on an X.1 file, track geography (01: 'A question ..'): track, point, and the coordinate at a position. Each takes the verdict
+// apart and returns the file's own fault at once.
+ghost use mathlib.Core.Path.{_≡_};
+ghost use Prim.Native.Nat.{_+_, _*_, _≤_, _<_};
+ghost use Rattle.seal.specs.Seal.{mostLength};
+ghost use Rattle.geography.specs.Obeys.{entryPlace};
+ghost use Rattle.survey.specs.Questions.{refusal, afterVerdict, trackOf, pointOf, onTrack, coordinateAsked};
+>>>>>>> x17
 ghost use Rattle.survey.specs.Requires.{TrackObeys};
 
 mod answers;
@@ -17,11 +27,16 @@ pub use answers::TrackAnswer;
 use geography::verdicts::verdict_of;
 use lookup::Found;
 use lookup::find_track;
+<<<<<<< HEAD
 use octets::byte_at;
 use octets::u32_at;
 use seal::Header;
+=======
+use seal::HEADER;
+>>>>>>> x17
 use stretch::coordinate_on;
 use stretch::find_stretch;
+use tables::number_of;
 use tracks::COUNT;
 use tracks::ENTRIES;
 use tracks::Point;
@@ -31,19 +46,18 @@ use verdict::Verdict;
 use verdict::refusal;
 
 // Where the entry of track i stands.
-fn entry_at(i: usize) -> u16
-    requires { ⌜ i < 256 ⌝ }
-    ensures { λ r. ⌜ r ≡ entryAt i ⌝ }
+fn entry_place(i: u8) -> u16
+    ensures { λ r. ⌜ r ≡ entryPlace i ⌝ }
 {
-    (ENTRIES + Track::SIZE * i) as u16
+    ENTRIES as u16 + Track::SIZE as u16 * i as u16
 }
 
 // Where point j stands, of a track whose first point is at `first`.
-fn point_at(first: usize, size: usize, j: usize) -> u16
-    requires { ⌜ first + size * j < 65536 ⌝ }
+fn point_place(first: usize, size: u8, j: usize) -> u16
+    requires { ⌜ first + size * j ≤ mostLength ⌝ }
     ensures { λ r. ⌜ r ≡ first + size * j ⌝ }
 {
-    (first + size * j) as u16
+    (first + size as usize * j) as u16
 }
 
 // The header.
@@ -65,10 +79,15 @@ pub fn track(f: &[u8], index: usize) -> TrackAnswer
     let Verdict::Accepted = v else {
         return TrackAnswer::Refused(v.fault());
     };
+<<<<<<< HEAD
     if byte_at(f, COUNT) <= index {
         return TrackAnswer::Refused(refusal(Reason::Question));
+=======
+    if number_of(f, HEADER, COUNT) <= index {
+        return TrackAnswer::Refused(refused(Reason::Question));
+>>>>>>> x17
     }
-    TrackAnswer::Track(Track::read(f, entry_at(index)))
+    TrackAnswer::Track(Track::read(f, entry_place(index as u8)))
 }
 
 // The point of an index in the track of an index.
@@ -79,14 +98,19 @@ pub fn point(f: &[u8], track: usize, index: usize) -> PointAnswer
     let Verdict::Accepted = v else {
         return PointAnswer::Refused(v.fault());
     };
+<<<<<<< HEAD
     if byte_at(f, COUNT) <= track {
         return PointAnswer::Refused(refusal(Reason::Question));
+=======
+    if number_of(f, HEADER, COUNT) <= track {
+        return PointAnswer::Refused(refused(Reason::Question));
+>>>>>>> x17
     }
-    let entry = Track::read(f, entry_at(track));
+    let entry = Track::read(f, entry_place(track as u8));
     if entry.points() <= index {
         return PointAnswer::Refused(refusal(Reason::Question));
     }
-    let at = point_at(entry.first, Point::SIZE, index);
+    let at = point_place(entry.first, Point::SIZE, index);
     PointAnswer::Point(Point::read(f, at))
 }
 
@@ -106,12 +130,17 @@ pub fn coordinate(f: &[u8], number: usize, position: usize) -> CoordinateAnswer
 }
 
 // The coordinate at a position of the track whose entry is at e.
-fn coordinate_at(f: &[u8], size: usize, e: usize, x: usize) -> CoordinateAnswer
-    requires { ⌜ (0 < size) × (size < 256) × TrackObeys (now f) size e ⌝ }
+fn coordinate_at(f: &[u8], size: u8, e: u32, x: usize) -> CoordinateAnswer
+    requires { ⌜ (0 < size) × TrackObeys (now f) size e ⌝ }
     ensures { λ r. ⌜ r ≡ onTrack (now (f .entry)) size e x ⌝ }
 {
+<<<<<<< HEAD
     if u32_at(f, e + Track::END_POSITION) < x {
         return CoordinateAnswer::Refused(refusal(Reason::Position));
+=======
+    if number_of(f, e, Track::END_POSITION) < x {
+        return CoordinateAnswer::Refused(refused(Reason::Position));
+>>>>>>> x17
     }
     let stretch = find_stretch(f, size, e, x);
     let Found::At(p) = stretch else {

@@ -1,35 +1,36 @@
--- What the bytes of a track's entry and of a point mean: tables 2 and 3 of the standard, a line for each field in the table's order.
+-- What the bytes of a track's entry and of a point mean (01, 'X.1, track geography'): what each row of tables 2 and 3 reads, a line for each
+-- field in the table's order.
 -- Assumes nothing.
 use Prim.Native.Nat.{ℕ, _+_, _-_, _/_}
 use mathlib.Core.Bool.{cond}
 use mathlib.Core.List.{List}
 use lib.Dec.{ltb}
-use Rattle.octets.specs.Octets.{numAt, signedAt}
-use Rattle.tracks.specs.Places as place
+use Rattle.tables.specs.Table.{valueOf, signedOf}
+use Rattle.tracks.specs.Rows as rows
 use Rattle.tracks.specs.declared.Track.{Track}
 use Rattle.tracks.specs.declared.Point.{Point}
 
 unfoldable pub trackAt : List ℕ → ℕ → Track
 trackAt f at = record {
-  number = numAt 1 f (at + place.number);
-  property = numAt 1 f (at + place.property);
-  «start_position» = numAt 4 f (at + place.startPosition);
-  «start_latitude» = signedAt 4 f (at + place.startLatitude);
-  «start_longitude» = signedAt 4 f (at + place.startLongitude);
-  «end_position» = numAt 4 f (at + place.endPosition);
-  «end_latitude» = signedAt 4 f (at + place.endLatitude);
-  «end_longitude» = signedAt 4 f (at + place.endLongitude);
-  first = numAt 2 f (at + place.firstPoint);
-  last = numAt 2 f (at + place.lastPoint);
+  number = valueOf f at rows.number;
+  property = valueOf f at rows.property;
+  «start_position» = valueOf f at rows.startPosition;
+  «start_latitude» = signedOf f at rows.startLatitude;
+  «start_longitude» = signedOf f at rows.startLongitude;
+  «end_position» = valueOf f at rows.endPosition;
+  «end_latitude» = signedOf f at rows.endLatitude;
+  «end_longitude» = signedOf f at rows.endLongitude;
+  first = valueOf f at rows.first;
+  last = valueOf f at rows.last;
 }
 
 unfoldable pub pointAt : List ℕ → ℕ → Point
 pointAt f at = record {
-  position = numAt 4 f (at + place.position);
-  latitude = signedAt 3 f (at + place.latitude);
-  longitude = signedAt 3 f (at + place.longitude);
-  heading = signedAt 2 f (at + place.heading);
-  near = numAt 1 f (at + place.near);
+  position = valueOf f at rows.position;
+  «latitude_increment» = signedOf f at rows.latitudeIncrement;
+  «longitude_increment» = signedOf f at rows.longitudeIncrement;
+  heading = signedOf f at rows.heading;
+  near = valueOf f at rows.near;
 }
 
 -- how many points of a size stand from the first to the last, both counted

@@ -1,15 +1,14 @@
-// The records of X.1, tables 2 and 3 of the standard: a track's entry and a point, with their sizes, the places of their fields and their
-// reading; the places of the header's fields; the limits of the fields.
+// The records of X.1, track geography (01, 'X.1, track geography'; tables 2 and 3 of the standard): a track's entry and a point, with their
+// sizes, their fields and their reading; where the entries start; the limits of the fields. A field is written once, with its place and its
+// width.
 ghost use mathlib.Core.Path.{_≡_};
 ghost use Prim.Native.Nat.{_+_};
 ghost use Rattle.tracks.specs.Tracks.{trackAt, pointAt, pointsIn};
 ghost use Rattle.tracks.specs.Places.{pointSize};
-use octets::byte_at;
-use octets::i16_at;
-use octets::i24_at;
-use octets::i32_at;
-use octets::u16_at;
-use octets::u32_at;
+use octets::Width;
+use tables::Field;
+use tables::number_of;
+use tables::signed_of;
 
 // A track's entry, table 2.
 pub struct Track {
@@ -25,55 +24,55 @@ pub struct Track {
     pub last: usize,
 }
 
-// A point, table 3.
+// A point, table 3. The two increments are what is added to the track's start to give the point's latitude and longitude.
 pub struct Point {
     pub position: usize,
-    pub latitude: i64,
-    pub longitude: i64,
+    pub latitude_increment: i64,
+    pub longitude_increment: i64,
     pub heading: i64,
     pub near: usize,
 }
 
-// Where each field stands in the entry, and the entry's size.
+// The fields of the entry, and the entry's size.
 impl Track {
-    pub const NUMBER: usize = 0;
+    pub const NUMBER: Field = Field(0, Width::One);
 
-    pub const PROPERTY: usize = 1;
+    pub const PROPERTY: Field = Field(1, Width::One);
 
-    pub const START_POSITION: usize = 2;
+    pub const START_POSITION: Field = Field(2, Width::Four);
 
-    pub const START_LATITUDE: usize = 6;
+    pub const START_LATITUDE: Field = Field(6, Width::Four);
 
-    pub const START_LONGITUDE: usize = 10;
+    pub const START_LONGITUDE: Field = Field(10, Width::Four);
 
-    pub const END_POSITION: usize = 14;
+    pub const END_POSITION: Field = Field(14, Width::Four);
 
-    pub const END_LATITUDE: usize = 18;
+    pub const END_LATITUDE: Field = Field(18, Width::Four);
 
-    pub const END_LONGITUDE: usize = 22;
+    pub const END_LONGITUDE: Field = Field(22, Width::Four);
 
-    pub const FIRST: usize = 26;
+    pub const FIRST: Field = Field(26, Width::Two);
 
-    pub const LAST: usize = 28;
+    pub const LAST: Field = Field(28, Width::Two);
 
-    pub const SIZE: usize = 30;
+    pub const SIZE: u8 = 30;
 
     // The entry that starts at a place.
     pub fn read(s: &[u8], at: u16) -> Self
         ensures { λ r. ⌜ r ≡ trackAt (now (s .entry)) at ⌝ }
     {
-        let start = at as usize;
+        let start = at as u32;
         Track {
-            number: byte_at(s, start + Track::NUMBER),
-            property: byte_at(s, start + Track::PROPERTY),
-            start_position: u32_at(s, start + Track::START_POSITION),
-            start_latitude: i32_at(s, start + Track::START_LATITUDE),
-            start_longitude: i32_at(s, start + Track::START_LONGITUDE),
-            end_position: u32_at(s, start + Track::END_POSITION),
-            end_latitude: i32_at(s, start + Track::END_LATITUDE),
-            end_longitude: i32_at(s, start + Track::END_LONGITUDE),
-            first: u16_at(s, start + Track::FIRST),
-            last: u16_at(s, start + Track::LAST),
+            number: number_of(s, start, Self::NUMBER),
+            property: number_of(s, start, Self::PROPERTY),
+            start_position: number_of(s, start, Self::START_POSITION),
+            start_latitude: signed_of(s, start, Self::START_LATITUDE),
+            start_longitude: signed_of(s, start, Self::START_LONGITUDE),
+            end_position: number_of(s, start, Self::END_POSITION),
+            end_latitude: signed_of(s, start, Self::END_LATITUDE),
+            end_longitude: signed_of(s, start, Self::END_LONGITUDE),
+            first: number_of(s, start, Self::FIRST),
+            last: number_of(s, start, Self::LAST),
         }
     }
 
@@ -86,43 +85,43 @@ impl Track {
         if last < first {
             return 0;
         }
-        (last - first) / Point::SIZE + 1
+        (last - first) / Point::SIZE as usize + 1
     }
 }
 
-// Where each field stands in the point, and the point's size.
+// The fields of the point, and the point's size.
 impl Point {
-    pub const POSITION: usize = 0;
+    pub const POSITION: Field = Field(0, Width::Four);
 
-    pub const LATITUDE: usize = 4;
+    pub const LATITUDE_INCREMENT: Field = Field(4, Width::Three);
 
-    pub const LONGITUDE: usize = 7;
+    pub const LONGITUDE_INCREMENT: Field = Field(7, Width::Three);
 
-    pub const HEADING: usize = 10;
+    pub const HEADING: Field = Field(10, Width::Two);
 
-    pub const NEAR: usize = 12;
+    pub const NEAR: Field = Field(12, Width::One);
 
-    pub const SIZE: usize = 13;
+    pub const SIZE: u8 = 13;
 
     // The point that starts at a place.
     pub fn read(s: &[u8], at: u16) -> Self
         ensures { λ r. ⌜ r ≡ pointAt (now (s .entry)) at ⌝ }
     {
-        let start = at as usize;
+        let start = at as u32;
         Point {
-            position: u32_at(s, start + Point::POSITION),
-            latitude: i24_at(s, start + Point::LATITUDE),
-            longitude: i24_at(s, start + Point::LONGITUDE),
-            heading: i16_at(s, start + Point::HEADING),
-            near: byte_at(s, start + Point::NEAR),
+            position: number_of(s, start, Self::POSITION),
+            latitude_increment: signed_of(s, start, Self::LATITUDE_INCREMENT),
+            longitude_increment: signed_of(s, start, Self::LONGITUDE_INCREMENT),
+            heading: signed_of(s, start, Self::HEADING),
+            near: number_of(s, start, Self::NEAR),
         }
     }
 }
 
-// Where each field of the header stands.
-pub const COUNT: usize = 7;
+// The track count, the last field of the header, and where the entries start after it.
+pub const COUNT: Field = Field(7, Width::One);
 
-pub const ENTRIES: usize = 8;
+pub const ENTRIES: u32 = 8;
 
 // The limits of the fields.
 pub const LEAST_LENGTH: usize = 68;

@@ -12,6 +12,7 @@ use borrow.Author.Needs.{needs}
 use Rattle.survey.proofs.coordinate.Statement.{statement}
 use Rattle.survey.proofs.coordinate.Tie as tie
 
+<<<<<<< HEAD
 verdict-of-requires : tie.Need-verdict-of-requires
 verdict-of-requires c κs = search needs
 
@@ -24,10 +25,13 @@ enum-told-2 c = search needs
 fault-requires : tie.Need-fault-requires
 fault-requires c κs = search needs
 
+=======
+>>>>>>> x17
 returns : tie.Need-returns
 unfolding coordinateAsked
 returns c = own-fault answer.Refused _ _ _ (c .before .before .before .verdict-of .ensures) (c .before .enum-told2 .given .1) (c .fault .ensures) _
 
+<<<<<<< HEAD
 find-track-requires : tie.Need-find-track-requires
 find-track-requires c κs = search needs
 
@@ -40,6 +44,8 @@ enum-told-3 c = search needs
 refusal-requires : tie.Need-refusal-requires
 refusal-requires c κs = search needs
 
+=======
+>>>>>>> x17
 returns-2 : tie.Need-returns-2
 returns-2 c =
     let d = c .before .before .before in
@@ -52,7 +58,7 @@ coordinate-at-requires c κs =
     let v = d .before .before .before in
     let a = v .before .before .args in
     let o = (verdict-obeys (a .f .now)) .0 (sym (v .verdict-of .ensures) ∙ d .before .enum-told .given .1) in
-    (omega arith, omega arith, found-obeys (a .f .now) o (a .number) _ (sym (d .find-track .ensures) ∙ c .before .found .given .1))
+    (omega arith, found-obeys (a .f .now) o (a .number) _ (sym (d .find-track .ensures) ∙ c .before .found .given .1))
 
 returns-3 : tie.Need-returns-3
 returns-3 c =
@@ -64,6 +70,7 @@ pub coordinate-spec : {M : Type 1} → statement M
 coordinate-spec =
     tie.close
     (tie.spec
+<<<<<<< HEAD
     verdict-of-requires
     enum-told
     enum-told-2
@@ -73,6 +80,17 @@ coordinate-spec =
     enum-known-found
     enum-told-3
     refusal-requires
+=======
+    (λ c κs. search needs)
+    (λ c. search needs)
+    (λ c. search needs)
+    (λ c κs. search needs)
+    returns
+    (λ c κs. search needs)
+    (λ c. search needs)
+    (λ c. search needs)
+    (λ c κs. search needs)
+>>>>>>> x17
     returns-2
     coordinate-at-requires
     returns-3)

@@ -7,6 +7,7 @@ use borrow.Author.Needs.{needs}
 use Rattle.survey.proofs.coordinate_at.Statement.{statement}
 use Rattle.survey.proofs.coordinate_at.Tie as tie
 
+<<<<<<< HEAD
 add-u32-at : tie.Need-add-u32-at
 add-u32-at c = search needs
 
@@ -30,29 +31,37 @@ enum-told c = search needs
 
 refusal-requires-2 : tie.Need-refusal-requires-2
 refusal-requires-2 c κs = search needs
+=======
+returns : tie.Need-returns
+returns c = beyond-end _ _ _ _ (c .before .before .number-of .ensures .is) (c .before .if1 .taken) (c .refused .ensures)
+>>>>>>> x17
 
 returns-2 : tie.Need-returns-2
 returns-2 c =
     let d = c .before .before .before in
+<<<<<<< HEAD
     no-stretch _ _ _ _ (d .before .before .u32-at .ensures .is) (d .before .if1 .left) (d .find-stretch .ensures) (c .before .enum-told .given .1) (c .refusal2 .ensures)
+=======
+    no-stretch _ _ _ _ (d .before .before .number-of .ensures .is) (d .before .if1 .left) (d .find-stretch .ensures) (c .before .enum-told .given .1) (c .refused2 .ensures)
+>>>>>>> x17
 
 coordinate-on-requires : tie.Need-coordinate-on-requires
 coordinate-on-requires c κs =
     let d = c .before .before .before in
     let s = d .before .before .before .before in
     let a = s .args in
-    let w = on-found (a .f .now) (a .size) (a .e) (s .pre .0) (s .pre .2) (a .x) _ (sym (d .find-stretch .ensures) ∙ c .before .stretch .given .1) in
-    (s .pre .1, s .pre .2 .entry-low, w .0, w .1)
+    on-found (a .f .now) (a .size) (a .e) (s .pre .0) (s .pre .1) (a .x) _ (sym (d .find-stretch .ensures) ∙ c .before .stretch .given .1)
 
 returns-3 : tie.Need-returns-3
 returns-3 c =
     let d = c .before .before .before .before in
-    along-stretch _ _ _ _ (d .before .before .u32-at .ensures .is) (d .before .if1 .left) (d .find-stretch .ensures) (c .before .before .stretch .given .1) (c .coordinate-on .ensures)
+    along-stretch _ _ _ _ (d .before .before .number-of .ensures .is) (d .before .if1 .left) (d .find-stretch .ensures) (c .before .before .stretch .given .1) (c .coordinate-on .ensures)
 
 pub coordinate-at-spec : {M : Type 1} → statement M
 coordinate-at-spec =
     tie.close
     (tie.spec
+<<<<<<< HEAD
     add-u32-at
     u32-at-requires
     refusal-requires
@@ -61,6 +70,15 @@ coordinate-at-spec =
     enum-known-stretch
     enum-told
     refusal-requires-2
+=======
+    (λ c κs. search needs)
+    (λ c κs. search needs)
+    returns
+    (λ c κs. search needs)
+    (λ c. search needs)
+    (λ c. search needs)
+    (λ c κs. search needs)
+>>>>>>> x17
     returns-2
     coordinate-on-requires
     returns-3)

@@ -1,13 +1,18 @@
--- `survey::point` meets its contract. The point is no further than its track's last one, and so stands below 65536.
+-- `survey::point` meets its contract. The point is no further than its track's last one, and so stands in the file.
 -- Assumes nothing.
 use Rattle.verdict.proofs.Questions.{own-fault}
 use Rattle.survey.specs.declared.answers.PointAnswer.the-variants as answer
 use Rattle.survey.specs.Questions.{pointOf}
+<<<<<<< HEAD
 use Rattle.survey.proofs.Questions.{point-no-track, point-none, point-there, point-low}
+=======
+use Rattle.survey.proofs.Questions.{own-fault, point-no-track, point-none, point-there, point-in-file}
+>>>>>>> x17
 use borrow.Author.Needs.{needs}
 use Rattle.survey.proofs.point.Statement.{statement}
 use Rattle.survey.proofs.point.Tie as tie
 
+<<<<<<< HEAD
 verdict-of-requires : tie.Need-verdict-of-requires
 verdict-of-requires c κs = search needs
 
@@ -20,20 +25,26 @@ enum-told-2 c = search needs
 fault-requires : tie.Need-fault-requires
 fault-requires c κs = search needs
 
+=======
+>>>>>>> x17
 returns : tie.Need-returns
 unfolding pointOf
 returns c = own-fault answer.Refused _ _ _ (c .before .before .before .verdict-of .ensures) (c .before .enum-told2 .given .1) (c .fault .ensures) _
 
+<<<<<<< HEAD
 byte-at-requires : tie.Need-byte-at-requires
 byte-at-requires c κs = search needs
 
 refusal-requires : tie.Need-refusal-requires
 refusal-requires c κs = search needs
 
+=======
+>>>>>>> x17
 returns-2 : tie.Need-returns-2
 returns-2 c =
     let d = c .before .before in
     let v = d .before .before .before in
+<<<<<<< HEAD
     point-no-track (v .before .before .args .f .now) (v .verdict-of .ensures) (d .before .enum-told .given .1) (d .byte-at .ensures .is) _ _ (c .before .if1 .taken) (c .refusal .ensures)
 
 entry-at-requires : tie.Need-entry-at-requires
@@ -47,36 +58,43 @@ points-requires c κs = search needs
 
 refusal-requires-2 : tie.Need-refusal-requires-2
 refusal-requires-2 c κs = search needs
+=======
+    point-no-track (v .before .before .args .f .now) (v .verdict-of .ensures) (d .before .enum-told .given .1) (d .number-of .ensures .is) _ _ (c .before .if1 .taken) (c .refused .ensures)
+>>>>>>> x17
 
 returns-3 : tie.Need-returns-3
 returns-3 c =
     let r = c .before .before .before in
     let d = r .before .before .before in
     let v = d .before .before .before in
+<<<<<<< HEAD
     point-none (v .before .before .args .f .now) (v .verdict-of .ensures) (d .before .enum-told .given .1) (d .byte-at .ensures .is) _ _ (r .before .before .if1 .left) (r .before .entry-at .ensures) (r .read .ensures) (c .before .before .points .ensures) (c .before .if2 .taken) (c .refusal2 .ensures)
+=======
+    point-none (v .before .before .args .f .now) (v .verdict-of .ensures) (d .before .enum-told .given .1) (d .number-of .ensures .is) _ _ (r .before .before .if1 .left) (r .before .entry-place .ensures) (r .read .ensures) (c .before .before .points .ensures)
+    (c .before .if2 .taken) (c .refused2 .ensures)
+>>>>>>> x17
 
-point-at-requires : tie.Need-point-at-requires
-point-at-requires c κs =
+point-place-requires : tie.Need-point-place-requires
+point-place-requires c κs =
     let r = c .before .before in
     let d = r .before .before .before in
     let v = d .before .before .before in
-    point-low (v .before .before .args .f .now) (v .verdict-of .ensures) (d .before .enum-told .given .1) (d .byte-at .ensures .is) _ _ (r .before .before .if1 .left) (r .before .entry-at .ensures) (r .read .ensures) (c .before .points .ensures) (c .if2 .left)
-
-read-requires-2 : tie.Need-read-requires-2
-read-requires-2 c κs = search needs
+    point-in-file (v .before .before .args .f .now) (v .verdict-of .ensures) (d .before .enum-told .given .1) (d .number-of .ensures .is) _ _ (r .before .before .if1 .left) (r .before .entry-place .ensures) (r .read .ensures) (c .before .points .ensures)
+    (c .if2 .left)
 
 returns-4 : tie.Need-returns-4
 returns-4 c =
     let r = c .before .before .before .before in
     let d = r .before .before .before in
     let v = d .before .before .before in
-    point-there (v .before .before .args .f .now) (v .verdict-of .ensures) (d .before .enum-told .given .1) (d .byte-at .ensures .is) _ _ (r .before .before .if1 .left) (r .before .entry-at .ensures) (r .read .ensures) (c .before .before .before .points .ensures) (c .before .before .if2 .left)
-    (c .before .point-at .ensures) (c .read2 .ensures)
+    point-there (v .before .before .args .f .now) (v .verdict-of .ensures) (d .before .enum-told .given .1) (d .number-of .ensures .is) _ _ (r .before .before .if1 .left) (r .before .entry-place .ensures) (r .read .ensures) (c .before .before .before .points .ensures)
+    (c .before .before .if2 .left) (c .before .point-place .ensures) (c .read2 .ensures)
 
 pub point-spec : {M : Type 1} → statement M
 point-spec =
     tie.close
     (tie.spec
+<<<<<<< HEAD
     verdict-of-requires
     enum-told
     enum-told-2
@@ -89,7 +107,22 @@ point-spec =
     read-requires
     points-requires
     refusal-requires-2
+=======
+    (λ c κs. search needs)
+    (λ c. search needs)
+    (λ c. search needs)
+    (λ c κs. search needs)
+    returns
+    (λ c κs. search needs)
+    (λ c κs. search needs)
+    returns-2
+    (λ c. search needs)
+    (λ c κs. search needs)
+    (λ c κs. search needs)
+    (λ c κs. search needs)
+    (λ c κs. search needs)
+>>>>>>> x17
     returns-3
-    point-at-requires
-    read-requires-2
+    point-place-requires
+    (λ c κs. search needs)
     returns-4)

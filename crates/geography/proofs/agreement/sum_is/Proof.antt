@@ -1,52 +1,47 @@
 -- `geography::agreement::sum_is` meets its contract.
 -- Assumes nothing.
 use mathlib.Core.Path.{_≡_, ap, ap₂, _∙_}
-use lib.IntN.{natAbs, _-ℤ_}
-use Rattle.octets.specs.Octets.{signedAt}
-use Rattle.geography.specs.Agreement.{sumOf}
 use native.Mathlib.Omega.{arith}
+use lib.IntN.{natAbs, _-ℤ_}
+use Rattle.octets.proofs.Signs.{half-most}
 use Rattle.octets.proofs.Sizes.{minus-fits, minus-read}
+use Rattle.tables.specs.Table.{signedOf}
+use Rattle.geography.specs.Agreement.{fieldRow, sumOf}
 use borrow.Author.Needs.{needs}
 use Rattle.geography.proofs.agreement.sum_is.Statement.{statement}
 use Rattle.geography.proofs.agreement.sum_is.Tie as tie
 
-sum-of-requires : tie.Need-sum-of-requires
-sum-of-requires c κs = search needs
-
-i32-at-requires : tie.Need-i32-at-requires
-i32-at-requires c κs = search needs
-
 sub-distance : tie.Need-sub-distance
 sub-distance c =
-    let p = c .before .sum-of .ensures .near in
-    let q = c .i32-at .ensures .near in
-    minus-fits (c .before .sum-of .result) (c .i32-at .result) (omega arith) (omega arith)
-
-distance-requires : tie.Need-distance-requires
-distance-requires c κs = search needs
-
-also-fact-requires : tie.Need-also-fact-requires
-also-fact-requires c κs = search needs
+    let p = c .before .sum-of .ensures .small in
+    let q = c .signed-of .ensures .small in
+    let h = half-most (c .before .before .before .args .end .1) in
+    minus-fits (c .before .sum-of .result) (c .signed-of .result) (omega arith) (omega arith)
 
 returns : tie.Need-returns
 returns c =
-    let a = c .before .before .before .before .before .args in
-    let s = c .before .before .before .sum-of in
-    let e = c .before .before .i32-at in
-    let p = s .ensures .near in
-    let q = e .ensures .near in
-    let far : c .before .distance .result ≡ natAbs (sumOf (a .f .now) (a .base) (a .field) -ℤ signedAt 4 (a .f .now) (a .end)) =
-    c .before .distance .ensures ∙ ap natAbs (minus-read (s .result) (e .result) (omega arith) (omega arith) ∙ ap₂ _-ℤ_ (s .ensures .is) (e .ensures .is))
+    let d = c .before .before .before .before in
+    let s = d .before .before .sum-of in
+    let n = d .before .signed-of in
+    let a = d .before .before .before .before .args in
+    let p = s .ensures .small in
+    let q = n .ensures .small in
+    let h = half-most (a .end .1) in
+    let far : d .distance .result ≡ natAbs (sumOf (a .f .now) (a .e) (fieldRow (a .start)) (a .p) (fieldRow (a .increment)) -ℤ signedOf (a .f .now) (a .e) (fieldRow (a .end))) =
+    d .distance .ensures ∙ ap natAbs (minus-read (s .result) (n .result) (omega arith) (omega arith) ∙ ap₂ _-ℤ_ (s .ensures .is) (n .ensures .is))
     in
-    simp (c .also-fact .ensures, far)
+    simp (c .ask .ensures, c .before .place-of3 .ensures, c .before .before .place-of2 .ensures, c .before .before .before .place-of .ensures, far)
 
 pub sum-is-spec : {M : Type 1} → statement M
 sum-is-spec =
     tie.close
     (tie.spec
-    sum-of-requires
-    i32-at-requires
+    (λ c κs. search needs)
+    (λ c κs. search needs)
     sub-distance
-    distance-requires
-    also-fact-requires
+    (λ c κs. search needs)
+    (λ c κs. search needs)
+    (λ c κs. search needs)
+    (λ c κs. search needs)
+    (λ c κs. search needs)
     returns)

@@ -4,14 +4,12 @@ use borrow.Author.Needs.{needs}
 use Rattle.geography.proofs.verdicts.verdict_of.Statement.{statement}
 use Rattle.geography.proofs.verdicts.verdict_of.Tie as tie
 
-first-fault-requires : tie.Need-first-fault-requires
-first-fault-requires c κs = search needs
-
-shown-requires : tie.Need-shown-requires
-shown-requires c κs = search needs
-
 returns : tie.Need-returns
 returns c = simp (c .shown .ensures, c .before .first-fault .ensures)
 
 pub verdict-of-spec : {M : Type 1} → statement M
-verdict-of-spec = tie.close (tie.spec first-fault-requires shown-requires returns)
+verdict-of-spec = tie.close
+    (tie.spec
+    (λ c κs. search needs)
+    (λ c κs. search needs)
+    returns)

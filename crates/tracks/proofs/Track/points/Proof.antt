@@ -10,12 +10,9 @@ returns : tie.Need-returns
 unfolding pointsIn
 returns c = simp (lt-ltb _ _ (c .if1 .taken))
 
-add-result : tie.Need-add-result
-add-result c = search needs
-
 returns-2 : tie.Need-returns-2
 unfolding pointsIn
 returns-2 c = simp (le-ltb _ _ (c .if1 .left))
 
 pub points-spec : {M : Type 1} → statement M
-points-spec = tie.close (tie.spec returns add-result returns-2)
+points-spec = tie.close (tie.spec returns (λ c. search needs) (λ c. search needs) (λ c. search needs) returns-2)

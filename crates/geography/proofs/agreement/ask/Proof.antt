@@ -1,0 +1,15 @@
+-- `geography::agreement::ask` meets its contract.
+-- Assumes nothing.
+use borrow.Author.Needs.{needs}
+use Rattle.geography.proofs.agreement.ask.Statement.{statement}
+use Rattle.geography.proofs.agreement.ask.Tie as tie
+
+returns : tie.Need-returns
+returns c = simp (c .also-fact .ensures, c .before .bytes .ensures)
+
+pub ask-spec : {M : Type 1} → statement M
+ask-spec = tie.close
+    (tie.spec
+    (λ c κs. search needs)
+    (λ c κs. search needs)
+    returns)

@@ -1,0 +1,16 @@
+-- `geography::agreement::is_above` meets its contract.
+-- Assumes nothing.
+use borrow.Author.Needs.{needs}
+use Rattle.geography.proofs.agreement.is_above.Statement.{statement}
+use Rattle.geography.proofs.agreement.is_above.Tie as tie
+
+returns : tie.Need-returns
+returns c = simp (c .above .ensures, c .before .place-of2 .ensures, c .before .before .place-of .ensures)
+
+pub is-above-spec : {M : Type 1} → statement M
+is-above-spec = tie.close
+    (tie.spec
+    (λ c κs. search needs)
+    (λ c κs. search needs)
+    (λ c κs. search needs)
+    returns)

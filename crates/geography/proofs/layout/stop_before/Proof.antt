@@ -1,0 +1,16 @@
+-- `geography::layout::stop_before` meets its contract.
+-- Assumes nothing.
+use borrow.Author.Needs.{needs}
+use Rattle.geography.proofs.layout.stop_before.Statement.{statement}
+use Rattle.geography.proofs.layout.stop_before.Tie as tie
+
+returns : tie.Need-returns
+returns c = simp (c .number-of .ensures .is, c .before .entry-before .ensures)
+
+pub stop-before-spec : {M : Type 1} → statement M
+stop-before-spec = tie.close
+    (tie.spec
+    (λ c κs. search needs)
+    (λ c κs. search needs)
+    (λ c. search needs)
+    returns)
