@@ -5,17 +5,17 @@ ghost use Rattle.verdict.specs.Facts.{judge};
 ghost use Rattle.seal.specs.Seal.{endOf, sealFacts};
 ghost use Rattle.seal.specs.Header.{headerIn};
 use octets::Width;
-use octets::u16_at;
 use rules::is_number;
 use tables::Field;
 use tables::number_is;
+use tables::number_of;
 use verdict::Judged;
 use verdict::Reason;
 
 // The most bytes of a file.
 pub const MOST_LENGTH: usize = 65535;
 
-// Where the file type, the two versions and the station stand.
+// The first fields of the header: the file type, the two versions and the station.
 pub const TYPE: Field = Field(0, Width::One);
 
 pub const STRUCTURE: Field = Field(1, Width::Two);
@@ -48,9 +48,9 @@ impl Header {
         ensures { λ r. ⌜ r ≡ headerIn (now (f .entry)) ⌝ }
     {
         Header {
-            structure: u16_at(f, STRUCTURE),
-            data: u16_at(f, DATA),
-            station: u16_at(f, STATION),
+            structure: number_of(f, HEADER, STRUCTURE),
+            data: number_of(f, HEADER, DATA),
+            station: number_of(f, HEADER, STATION),
         }
     }
 }

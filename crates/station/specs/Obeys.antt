@@ -4,10 +4,8 @@ use Prim.Native.Nat.{ℕ, _+_, _≤_, _<_}
 use mathlib.Core.Path.{_≡_}
 use mathlib.Core.List.{List, List·Memᴰ}
 use Rattle.octets.specs.Octets.{numAt}
-use Rattle.seal.specs.Seal.{stationAt}
-use Rattle.tracks.specs.Places as track
 use Rattle.geography.specs.Layout.{countOf}
-use Rattle.geography.specs.Obeys.{entryAt}
+use Rattle.geography.specs.Obeys.{entryPlace}
 use Rattle.geography.specs.Obeys as geography
 use Rattle.layout.specs.Layout.{layoutOf}
 use Rattle.layout.specs.Records.{kindAt, starts}
@@ -17,15 +15,15 @@ use Rattle.station.specs.Pair.{Spot, lies, stands, spots}
 -- track i of X.1 has this number
 pub record TrackIn (f : List ℕ) (number i : ℕ) : Type 0 where
   pub in-file : i < countOf f
-  pub same : numAt 1 f (entryAt i + track.number) ≡ number
+  pub same : numAt 1 f (entryPlace i + 0) ≡ number
 
 -- the track is in X.1, and the position is within it
 abbrev pub SpotObeys : List ℕ → List ℕ → Spot → Type 0
-SpotObeys f g (lies t p) = (i : ℕ) × TrackIn f (numAt 1 g t) i × (numAt 4 g p ≤ numAt 4 f (entryAt i + track.endPosition))
+SpotObeys f g (lies t p) = (i : ℕ) × TrackIn f (numAt 1 g t) i × (numAt 4 g p ≤ numAt 4 f (entryPlace i + 14))
 SpotObeys f g (stands t) = (i : ℕ) × TrackIn f (numAt 1 g t) i
 
 pub record PairObeys (f g : List ℕ) : Type 0 where
   pub first : geography.Obeys f
   pub second : application.Obeys g
-  pub station : numAt 2 g stationAt ≡ numAt 2 f stationAt
+  pub station : numAt 2 g 5 ≡ numAt 2 f 5
   pub on-track : (at : ℕ) → List·Memᴰ at (starts g (layoutOf g)) → (s : Spot) → List·Memᴰ s (spots (kindAt (layoutOf g) at) at) → SpotObeys f g s

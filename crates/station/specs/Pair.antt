@@ -1,8 +1,8 @@
 -- The pair (01, 'The pair: ..'): X.1's fault, then X.2's, then 10, then by record and position in stored order 11 before 12. f is X.1, g is
 -- X.2; the verdict also says the file.
 -- Assumes nothing.
-use Prim.Native.Nat.{ℕ, _+_}
-use mathlib.Core.List.{List, [], _∷_, _++_, flatMap}
+use Prim.Native.Nat.{ℕ}
+use mathlib.Core.List.{List, [], _∷_, _++_}
 use Rattle.octets.specs.Octets.{numAt}
 use Rattle.verdict.specs.Facts.{Fact, fact, same, atMost, firstFault}
 use Rattle.verdict.specs.Reasons.{faultOf}
@@ -16,17 +16,18 @@ use Rattle.verdict.specs.declared.Verdict.the-variants as verdict
 use Rattle.verdict.specs.declared.PairVerdict.{PairVerdict}
 use Rattle.verdict.specs.declared.PairVerdict.the-variants as pair
 use Rattle.seal.specs.Seal.{stationAt}
-use Rattle.tracks.specs.Places as track
+use Rattle.tables.specs.Table.{valueOf, placeIn}
+use Rattle.tracks.specs.Rows as track
 use Rattle.geography.specs.Facts as geography
 use Rattle.lookup.specs.declared.Found.{Found}
 use Rattle.lookup.specs.declared.Found.the-variants.{At, Absent}
 use Rattle.lookup.specs.Lookup.{findTrack}
 use Rattle.records.specs.declared.Kind.{Kind}
 use Rattle.records.specs.declared.Kind.the-variants as kind
-use Rattle.records.specs.Places as place
+use Rattle.records.specs.Rows as row
 use Rattle.layout.specs.declared.Layout.{Layout}
 use Rattle.layout.specs.Layout.{layoutOf}
-use Rattle.layout.specs.Records.{kindAt, starts}
+use Rattle.layout.specs.Records.{eachRecord}
 use Rattle.application.specs.Facts as application
 
 -- ---- where a record stands on the tracks, in stored order
@@ -38,17 +39,17 @@ pub data Spot : Type 0 where
 
 -- a turnout's tip, normal and reverse positions go with its front, normal and reverse tracks; a siding has a track alone
 abbrev pub spots : Kind → ℕ → List Spot
-spots kind.StartBoundary at = lies (at + place.boundaryTrack) (at + place.boundaryPosition) ∷ []
-spots kind.EndBoundary at = lies (at + place.boundaryTrack) (at + place.boundaryPosition) ∷ []
+spots kind.StartBoundary at = lies (placeIn at row.boundaryTrack) (placeIn at row.boundaryPosition) ∷ []
+spots kind.EndBoundary at = lies (placeIn at row.boundaryTrack) (placeIn at row.boundaryPosition) ∷ []
 spots kind.Turnout at =
-    lies (at + place.turnoutFrontTrack) (at + place.turnoutTipPosition)
-    ∷ lies (at + place.turnoutNormalTrack) (at + place.turnoutNormalPosition)
-    ∷ lies (at + place.turnoutReverseTrack) (at + place.turnoutReversePosition)
+    lies (placeIn at row.turnoutFrontTrack) (placeIn at row.turnoutTipPosition)
+    ∷ lies (placeIn at row.turnoutNormalTrack) (placeIn at row.turnoutNormalPosition)
+    ∷ lies (placeIn at row.turnoutReverseTrack) (placeIn at row.turnoutReversePosition)
     ∷ []
-spots kind.Balise at = lies (at + place.baliseTrack) (at + place.balisePosition) ∷ []
-spots kind.Signal at = lies (at + place.signalTrack) (at + place.signalPosition) ∷ []
-spots kind.Joint at = lies (at + place.jointTrack) (at + place.jointPosition) ∷ []
-spots kind.Siding at = stands (at + place.sidingTrack) ∷ []
+spots kind.Balise at = lies (placeIn at row.baliseTrack) (placeIn at row.balisePosition) ∷ []
+spots kind.Signal at = lies (placeIn at row.signalTrack) (placeIn at row.signalPosition) ∷ []
+spots kind.Joint at = lies (placeIn at row.jointTrack) (placeIn at row.jointPosition) ∷ []
+spots kind.Siding at = stands (placeIn at row.sidingTrack) ∷ []
 
 -- ---- the facts
 
@@ -59,7 +60,7 @@ present Absent = 0
 
 -- the end position of the track that was found
 abbrev pub reach : List ℕ → Found → ℕ
-reach f (At e) = numAt 4 f (e + track.endPosition)
+reach f (At e) = valueOf f e track.endPosition
 reach f Absent = 0
 
 -- 10: the stations are the same
@@ -85,11 +86,11 @@ abbrev pub spotsFacts : List ℕ → List ℕ → ℕ → List Spot → List Fac
 spotsFacts f g at [] = []
 spotsFacts f g at (s ∷ ss) = spotFacts f g at s ++ spotsFacts f g at ss
 
-abbrev pub recordPair : List ℕ → List ℕ → Layout → ℕ → List Fact
-recordPair f g l at = spotsFacts f g at (spots (kindAt l at) at)
+abbrev pub recordPair : List ℕ → List ℕ → Kind → ℕ → List Fact
+recordPair f g k at = spotsFacts f g at (spots k at)
 
 unfoldable pub recordsPair : List ℕ → List ℕ → Layout → List Fact
-recordsPair f g l = flatMap (recordPair f g l) (starts g l)
+recordsPair f g l = eachRecord g l (recordPair f g)
 
 unfoldable pub pairFacts : List ℕ → List ℕ → Layout → List Fact
 pairFacts f g l = sameStation f g ∷ recordsPair f g l

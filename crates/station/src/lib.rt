@@ -1,4 +1,4 @@
-// The station pair: X.1 and X.2 held against each other, 10 to 12 in 01's table.
+// The station pair (01, 'The pair'): X.1 and X.2 held against each other, 10 to 12 in 01's table.
 mod spots;
 mod verdicts;
 

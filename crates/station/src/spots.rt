@@ -1,11 +1,12 @@
 // Tracks and positions of X.2 (g) held against X.1 (f): 11 and 12 in 01's table.
 ghost use mathlib.Core.Path.{_≡_};
 ghost use mathlib.Core.List.{[], _∷_};
-ghost use Prim.Native.Nat.{_+_, _<_};
+ghost use Prim.Native.Nat.{_+_};
 ghost use Rattle.verdict.specs.Facts.{judge};
 ghost use Rattle.geography.specs.Obeys.{Obeys};
+ghost use Rattle.layout.specs.Bounds.{Bounded};
 ghost use Rattle.lookup.specs.Lookup.{findTrack};
-ghost use Rattle.station.specs.Pair.{lies, spots, present, reach, inFirst, withinTrack, spotFacts, spotsFacts, recordsPair};
+ghost use Rattle.station.specs.Pair.{lies, present, reach, inFirst, withinTrack, spotFacts, recordPair, recordsPair};
 use layout::Layout;
 use layout::kind_at;
 use layout::size_of;
@@ -20,12 +21,20 @@ use records::Kind;
 use records::Siding;
 use records::Signal;
 use records::Turnout;
+use tables::Field;
+use tables::number_of;
+use tables::place_of;
 use tracks::Track;
 use verdict::Judged;
 use verdict::Mark;
 use verdict::Reason;
 use verdict::Rule;
 use verdict::also_fact;
+
+// How many bytes a track and a position have in X.2.
+const TRACK_SIZE: usize = 1;
+
+const POSITION_SIZE: usize = 4;
 
 // 1 where a track of X.1 has a number.
 fn present_in(f: &[u8], number: usize) -> usize
@@ -43,13 +52,13 @@ fn reach_of(f: &[u8], number: usize) -> usize
     ensures { λ r. ⌜ r ≡ reach (now (f .entry)) (findTrack (now (f .entry)) number) ⌝ }
 {
     match find_track(f, number) {
-        Found::At(e) => u32_at(f, e + Track::END_POSITION),
+        Found::At(e) => number_of(f, e, Track::END_POSITION),
         Found::Absent => 0,
     }
 }
 
 // The track at t, of the record at `at`, is in X.1.
-fn in_first(f: &[u8], g: &[u8], at: usize, t: usize, v: Judged) -> Judged
+fn in_first(v: Judged, f: &[u8], g: &[u8], at: u32, t: usize) -> Judged
     ensures { λ r. ⌜ r ≡ judge v (inFirst (now (f .entry)) (now (g .entry)) at t ∷ []) ⌝ }
 {
     let found = present_in(f, byte_at(g, t));
@@ -57,16 +66,16 @@ fn in_first(f: &[u8], g: &[u8], at: usize, t: usize, v: Judged) -> Judged
     let rule = Rule::InFirst;
     let mark = Mark {
         reason,
-        start: at,
+        start: at as usize,
         place: t,
-        width: 1,
+        width: TRACK_SIZE,
         rule,
     };
     also_fact(v, found == 1, mark)
 }
 
 // The position at p is at most the end of the track at t.
-fn within_track(f: &[u8], g: &[u8], at: usize, t: usize, p: usize, v: Judged) -> Judged
+fn within_track(v: Judged, f: &[u8], g: &[u8], at: u32, t: usize, p: usize) -> Judged
     requires { ⌜ Obeys (now f) ⌝ }
     ensures { λ r. ⌜ r ≡ judge v (withinTrack (now (f .entry)) (now (g .entry)) at t p ∷ []) ⌝ }
 {
@@ -76,75 +85,61 @@ fn within_track(f: &[u8], g: &[u8], at: usize, t: usize, p: usize, v: Judged) ->
     let rule = Rule::WithinTrack;
     let mark = Mark {
         reason,
-        start: at,
+        start: at as usize,
         place: p,
-        width: 4,
+        width: POSITION_SIZE,
         rule,
     };
     also_fact(v, x <= end, mark)
 }
 
-// A track with a position.
-fn lies_on(f: &[u8], g: &[u8], at: usize, t: usize, p: usize, v: Judged) -> Judged
+// A track with a position on it.
+fn lies_on(v: Judged, f: &[u8], g: &[u8], at: u32, track: Field, position: Field) -> Judged
     requires { ⌜ Obeys (now f) ⌝ }
-    ensures { λ r. ⌜ r ≡ judge v (spotFacts (now (f .entry)) (now (g .entry)) at (lies t p)) ⌝ }
+    ensures { λ r. ⌜ r ≡ judge v (spotFacts (now (f .entry)) (now (g .entry)) at (lies (at + track .0) (at + position .0))) ⌝ }
 {
-    let w = in_first(f, g, at, t, v);
-    within_track(f, g, at, t, p, w)
+    let t = place_of(at, track);
+    let p = place_of(at, position);
+    let w = in_first(v, f, g, at, t);
+    within_track(w, f, g, at, t, p)
 }
 
 // The three positions of a turnout, each with its own track.
-fn turnout_pair(f: &[u8], g: &[u8], at: usize, v: Judged) -> Judged
-    requires { ⌜ Obeys (now f) × (at < 66000) ⌝ }
-    ensures { λ r. ⌜ r ≡ judge v (spotsFacts (now (f .entry)) (now (g .entry)) at (spots Kind.Turnout at)) ⌝ }
+fn turnout_pair(v: Judged, f: &[u8], g: &[u8], at: u32) -> Judged
+    requires { ⌜ Obeys (now f) ⌝ }
+    ensures { λ r. ⌜ r ≡ judge v (recordPair (now (f .entry)) (now (g .entry)) Kind.Turnout at) ⌝ }
 {
-    let v1 = lies_on(
-        f,
-        g,
-        at,
-        at + Turnout::FRONT_TRACK,
-        at + Turnout::TIP_POSITION,
-        v,
-    );
-    let v2 = lies_on(
-        f,
-        g,
-        at,
-        at + Turnout::NORMAL_TRACK,
-        at + Turnout::NORMAL_POSITION,
-        v1,
-    );
+    let mut w = lies_on(v, f, g, at, Turnout::FRONT_TRACK, Turnout::TIP_POSITION);
+    w = lies_on(w, f, g, at, Turnout::NORMAL_TRACK, Turnout::NORMAL_POSITION);
     lies_on(
+        w,
         f,
         g,
         at,
-        at + Turnout::REVERSE_TRACK,
-        at + Turnout::REVERSE_POSITION,
-        v2,
+        Turnout::REVERSE_TRACK,
+        Turnout::REVERSE_POSITION,
     )
 }
 
 // The tracks and positions of one record.
-fn record_pair(f: &[u8], g: &[u8], k: Kind, at: usize, v: Judged) -> Judged
-    requires { ⌜ Obeys (now f) × (at < 66000) ⌝ }
-    ensures { λ r. ⌜ r ≡ judge v (spotsFacts (now (f .entry)) (now (g .entry)) at (spots k at)) ⌝ }
+fn record_pair(v: Judged, f: &[u8], g: &[u8], k: Kind, at: u32) -> Judged
+    requires { ⌜ Obeys (now f) ⌝ }
+    ensures { λ r. ⌜ r ≡ judge v (recordPair (now (f .entry)) (now (g .entry)) k at) ⌝ }
 {
     match k {
-        Kind::StartBoundary => {
-            lies_on(f, g, at, at + Boundary::TRACK, at + Boundary::POSITION, v)
-        }
-        Kind::EndBoundary => lies_on(f, g, at, at + Boundary::TRACK, at + Boundary::POSITION, v),
-        Kind::Turnout => turnout_pair(f, g, at, v),
-        Kind::Balise => lies_on(f, g, at, at + Balise::TRACK, at + Balise::POSITION, v),
-        Kind::Signal => lies_on(f, g, at, at + Signal::TRACK, at + Signal::POSITION, v),
-        Kind::Joint => lies_on(f, g, at, at + Joint::TRACK, at + Joint::POSITION, v),
-        Kind::Siding => in_first(f, g, at, at + Siding::TRACK, v),
+        Kind::StartBoundary => lies_on(v, f, g, at, Boundary::TRACK, Boundary::POSITION),
+        Kind::EndBoundary => lies_on(v, f, g, at, Boundary::TRACK, Boundary::POSITION),
+        Kind::Turnout => turnout_pair(v, f, g, at),
+        Kind::Balise => lies_on(v, f, g, at, Balise::TRACK, Balise::POSITION),
+        Kind::Signal => lies_on(v, f, g, at, Signal::TRACK, Signal::POSITION),
+        Kind::Joint => lies_on(v, f, g, at, Joint::TRACK, Joint::POSITION),
+        Kind::Siding => in_first(v, f, g, at, place_of(at, Siding::TRACK)),
     }
 }
 
 // The tracks and positions of every record.
-pub fn records_pair(f: &[u8], g: &[u8], l: Layout, v: Judged) -> Judged
-    requires { ⌜ Obeys (now f) × (l .header < 65536) × (l .stop < 65536) ⌝ }
+pub fn records_pair(v: Judged, f: &[u8], g: &[u8], l: Layout) -> Judged
+    requires { ⌜ Obeys (now f) × Bounded l ⌝ }
     ensures { λ r. ⌜ r ≡ judge v (recordsPair (now (f .entry)) (now (g .entry)) l) ⌝ }
 {
     let stop = l.stop;
@@ -152,7 +147,7 @@ pub fn records_pair(f: &[u8], g: &[u8], l: Layout, v: Judged) -> Judged
     let mut at = l.header;
     while at < stop {
         let k = kind_at(l, at);
-        w = record_pair(f, g, k, at, w);
+        w = record_pair(w, f, g, k, at as u32);
         at = at + size_of(g, k, at);
     }
     w

@@ -1,15 +1,17 @@
 // The verdict of a pair.
 ghost use mathlib.Core.Path.{_≡_};
 ghost use mathlib.Core.List.{[], _∷_};
-ghost use Prim.Native.Nat.{_<_};
 ghost use Rattle.verdict.specs.Facts.{judge};
 ghost use Rattle.geography.specs.Obeys.{Obeys};
+ghost use Rattle.layout.specs.Bounds.{Bounded};
 ghost use Rattle.station.specs.Pair.{sameStation, pairFacts, ofFirst, ofSecond, ofPair, pairOf};
 use crate::spots::records_pair;
 use layout::Layout;
 use layout::layout_of;
-use octets::u16_at;
+use seal::HEADER;
 use seal::STATION;
+use tables::number_of;
+use tables::place_of;
 use verdict::Fault;
 use verdict::File;
 use verdict::Judged;
@@ -20,19 +22,22 @@ use verdict::Rule;
 use verdict::Verdict;
 use verdict::also_fact;
 
+// How many bytes a station has.
+const STATION_SIZE: usize = 2;
+
 // The stations are the same.
-fn same_station(f: &[u8], g: &[u8], v: Judged) -> Judged
+fn same_station(v: Judged, f: &[u8], g: &[u8]) -> Judged
     ensures { λ r. ⌜ r ≡ judge v (sameStation (now (f .entry)) (now (g .entry)) ∷ []) ⌝ }
 {
-    let first = u16_at(f, STATION);
-    let second = u16_at(g, STATION);
+    let first = number_of(f, HEADER, STATION);
+    let second = number_of(g, HEADER, STATION);
     let reason = Reason::Station;
     let rule = Rule::SameStation;
     let mark = Mark {
         reason,
-        start: 0,
-        place: STATION,
-        width: 2,
+        start: HEADER as usize,
+        place: place_of(HEADER, STATION),
+        width: STATION_SIZE,
         rule,
     };
     also_fact(v, second == first, mark)
@@ -40,11 +45,11 @@ fn same_station(f: &[u8], g: &[u8], v: Judged) -> Judged
 
 // The facts of a pair of files that are each accepted.
 fn check_pair(f: &[u8], g: &[u8], l: Layout) -> Judged
-    requires { ⌜ Obeys (now f) × (l .header < 65536) × (l .stop < 65536) ⌝ }
+    requires { ⌜ Obeys (now f) × Bounded l ⌝ }
     ensures { λ r. ⌜ r ≡ judge Judged.Accepted (pairFacts (now (f .entry)) (now (g .entry)) l) ⌝ }
 {
-    let v = same_station(f, g, Judged::Accepted);
-    records_pair(f, g, l, v)
+    let v = same_station(Judged::Accepted, f, g);
+    records_pair(v, f, g, l)
 }
 
 // X.1's own fault.

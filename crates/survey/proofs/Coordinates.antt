@@ -206,12 +206,6 @@ track-refused f o number x = (there (findTrack f number) refl, λ h. sym (no-tra
     there Absent q g = (absent-iff f number) .0 q
     there (At e) q g =
         ⊎-elim
-<<<<<<< HEAD
-        (λ (h : x ≤ numAt 4 f (e + place.endPosition)). let r = coordinate-nearest f o number e q x h in absurd (omega (arith, ap answerNumber (ap coordinateAnswer (sym g ∙ r .1)))))
-        (λ (h : numAt 4 f (e + place.endPosition) < x). let d = (position-refused f o number e q x) .1 h in absurd (omega (arith, ap answerNumber (ap coordinateAnswer (sym g ∙ d)))))
-        (le-or-lt x (numAt 4 f (e + place.endPosition)))
-=======
-        (λ (h : x ≤ endPositionOf f e). let r = coordinate-nearest f o number e q x h in absurd (omega (arith, ap coordinateNumberIn (sym g ∙ r .1))))
-        (λ (h : endPositionOf f e < x). let d = (position-refused f o number e q x) .1 h in absurd (omega (arith, ap coordinateNumberIn (sym g ∙ d))))
+        (λ (h : x ≤ endPositionOf f e). let r = coordinate-nearest f o number e q x h in absurd (omega (arith, ap answerNumber (ap coordinateAnswer (sym g ∙ r .1)))))
+        (λ (h : endPositionOf f e < x). let d = (position-refused f o number e q x) .1 h in absurd (omega (arith, ap answerNumber (ap coordinateAnswer (sym g ∙ d)))))
         (le-or-lt x (endPositionOf f e))
->>>>>>> x17

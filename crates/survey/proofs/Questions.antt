@@ -9,14 +9,11 @@ use Rattle.verdict.specs.declared.Reason.the-variants as reason
 use Rattle.verdict.specs.declared.Fault.{Fault}
 use Rattle.verdict.specs.declared.Verdict.{Verdict}
 use Rattle.verdict.specs.declared.Verdict.the-variants as verdict
-<<<<<<< HEAD
 use Rattle.verdict.specs.Answers.{refusal}
 use Rattle.verdict.proofs.Questions.{fault-is, no-fault}
 use Rattle.seal.specs.declared.Header.{Header}
 use Rattle.seal.specs.Header.{headerIn}
-=======
 use Rattle.seal.specs.Seal.{mostLength}
->>>>>>> x17
 use Rattle.tracks.specs.Places as place
 use Rattle.tracks.specs.Tracks.{trackAt, pointAt, pointsIn}
 use Rattle.tracks.specs.declared.Track.{Track}
@@ -28,14 +25,9 @@ use Rattle.lookup.specs.Lookup.{findTrack}
 use Rattle.lookup.specs.declared.Found.{Found}
 use Rattle.lookup.specs.declared.Found.the-variants.{At, Absent}
 use Rattle.lookup.proofs.Lookup.{verdict-obeys}
-<<<<<<< HEAD
-use Rattle.survey.specs.Stretch.{stretchOf, coordinateOn}
+use Rattle.survey.specs.Stretch.{endPositionOf, stretchOf, coordinateOn}
 use Rattle.survey.specs.Questions.{headerOf, trackIn, trackOf, pointIn, pointOf, onStretch, onTrack, onFound, coordinateAsked}
 use Rattle.survey.specs.declared.answers.HeaderAnswer.the-variants as header
-=======
-use Rattle.survey.specs.Stretch.{endPositionOf, stretchOf, coordinateOn}
-use Rattle.survey.specs.Questions.{refusal, afterVerdict, trackIn, trackOf, pointIn, pointOf, onStretch, onTrack, onFound, coordinateAsked}
->>>>>>> x17
 use Rattle.survey.specs.declared.answers.TrackAnswer.the-variants as track
 use Rattle.survey.specs.declared.answers.PointAnswer.the-variants as point
 use Rattle.survey.specs.declared.answers.Coordinate.{Coordinate}

@@ -44,14 +44,8 @@ trackAnswer (track.Track t) = answered (trackValues t)
 trackAnswer (track.Refused t) = refused 11 t
 
 -- position, both increments, heading, near flag
-<<<<<<< HEAD
 abbrev pub pointValues : Point → List ℤ
-pointValues p = pos (p .position) ∷ p .latitude ∷ p .longitude ∷ p .heading ∷ pos (p .near) ∷ []
-=======
-abbrev pub pointValuesIn : PointAnswer → List ℤ
-pointValuesIn (point.Point p) = pos (p .position) ∷ p .«latitude_increment» ∷ p .«longitude_increment» ∷ p .heading ∷ pos (p .near) ∷ []
-pointValuesIn (point.Refused t) = replicate 5 (pos 0)
->>>>>>> x17
+pointValues p = pos (p .position) ∷ p .«latitude_increment» ∷ p .«longitude_increment» ∷ p .heading ∷ pos (p .near) ∷ []
 
 abbrev pub pointAnswer : PointAnswer → Answer
 pointAnswer (point.Point p) = answered (pointValues p)

@@ -5,11 +5,6 @@ use Prim.Native.Nat.{ℕ}
 use mathlib.Core.Bool.{cond}
 use mathlib.Core.List.{List}
 use lib.Dec.{ltb, leb}
-<<<<<<< HEAD
-use Rattle.octets.specs.Octets.{numAt}
-=======
-use Rattle.verdict.specs.declared.Reason.{Reason}
->>>>>>> x17
 use Rattle.verdict.specs.declared.Reason.the-variants as reason
 use Rattle.verdict.specs.Answers.{refusal, afterVerdict}
 use Rattle.seal.specs.Header.{headerIn}
@@ -21,13 +16,9 @@ use Rattle.geography.specs.Obeys.{entryPlace, pointPlace}
 use Rattle.lookup.specs.Lookup.{findTrack}
 use Rattle.lookup.specs.declared.Found.{Found}
 use Rattle.lookup.specs.declared.Found.the-variants.{At, Absent}
-<<<<<<< HEAD
-use Rattle.survey.specs.Stretch.{stretchOf, coordinateOn}
+use Rattle.survey.specs.Stretch.{endPositionOf, stretchOf, coordinateOn}
 use Rattle.survey.specs.declared.answers.HeaderAnswer.{HeaderAnswer}
 use Rattle.survey.specs.declared.answers.HeaderAnswer.the-variants as header
-=======
-use Rattle.survey.specs.Stretch.{endPositionOf, stretchOf, coordinateOn}
->>>>>>> x17
 use Rattle.survey.specs.declared.answers.TrackAnswer.{TrackAnswer}
 use Rattle.survey.specs.declared.answers.TrackAnswer.the-variants as track
 use Rattle.survey.specs.declared.answers.PointAnswer.{PointAnswer}

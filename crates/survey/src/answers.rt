@@ -1,9 +1,5 @@
-<<<<<<< HEAD
-// The answers to the questions on an X.1 file.
-use seal::Header;
-=======
 // The answers to the questions on an X.1 file (01: 'A question ..'): what was asked for, or the number and the place of the refusal.
->>>>>>> x17
+use seal::Header;
 use tracks::Point;
 use tracks::Track;
 use verdict::Fault;

@@ -1,19 +1,10 @@
-<<<<<<< HEAD
-// The questions on an X.1 file: header, track, point, coordinate (01: 'A question ..'). Each takes the verdict apart and returns the file's own
-// fault at once.
-ghost use mathlib.Core.Path.{_≡_};
-ghost use Prim.Native.Nat.{_+_, _*_, _<_};
-ghost use Rattle.geography.specs.Obeys.{entryAt};
-ghost use Rattle.survey.specs.Questions.{headerOf, trackOf, pointOf, onTrack, coordinateAsked};
-=======
-// The questions on an X.1 file, track geography (01: 'A question ..'): track, point, and the coordinate at a position. Each takes the verdict
-// apart and returns the file's own fault at once.
+// The questions on an X.1 file, track geography (01: 'A question ..'): header, track, point, and the coordinate at a position. Each takes the
+// verdict apart and returns the file's own fault at once.
 ghost use mathlib.Core.Path.{_≡_};
 ghost use Prim.Native.Nat.{_+_, _*_, _≤_, _<_};
 ghost use Rattle.seal.specs.Seal.{mostLength};
 ghost use Rattle.geography.specs.Obeys.{entryPlace};
-ghost use Rattle.survey.specs.Questions.{refusal, afterVerdict, trackOf, pointOf, onTrack, coordinateAsked};
->>>>>>> x17
+ghost use Rattle.survey.specs.Questions.{headerOf, trackOf, pointOf, onTrack, coordinateAsked};
 ghost use Rattle.survey.specs.Requires.{TrackObeys};
 
 mod answers;
@@ -27,13 +18,8 @@ pub use answers::TrackAnswer;
 use geography::verdicts::verdict_of;
 use lookup::Found;
 use lookup::find_track;
-<<<<<<< HEAD
-use octets::byte_at;
-use octets::u32_at;
-use seal::Header;
-=======
 use seal::HEADER;
->>>>>>> x17
+use seal::Header;
 use stretch::coordinate_on;
 use stretch::find_stretch;
 use tables::number_of;
@@ -79,13 +65,8 @@ pub fn track(f: &[u8], index: usize) -> TrackAnswer
     let Verdict::Accepted = v else {
         return TrackAnswer::Refused(v.fault());
     };
-<<<<<<< HEAD
-    if byte_at(f, COUNT) <= index {
-        return TrackAnswer::Refused(refusal(Reason::Question));
-=======
     if number_of(f, HEADER, COUNT) <= index {
-        return TrackAnswer::Refused(refused(Reason::Question));
->>>>>>> x17
+        return TrackAnswer::Refused(refusal(Reason::Question));
     }
     TrackAnswer::Track(Track::read(f, entry_place(index as u8)))
 }
@@ -98,13 +79,8 @@ pub fn point(f: &[u8], track: usize, index: usize) -> PointAnswer
     let Verdict::Accepted = v else {
         return PointAnswer::Refused(v.fault());
     };
-<<<<<<< HEAD
-    if byte_at(f, COUNT) <= track {
-        return PointAnswer::Refused(refusal(Reason::Question));
-=======
     if number_of(f, HEADER, COUNT) <= track {
-        return PointAnswer::Refused(refused(Reason::Question));
->>>>>>> x17
+        return PointAnswer::Refused(refusal(Reason::Question));
     }
     let entry = Track::read(f, entry_place(track as u8));
     if entry.points() <= index {
@@ -134,13 +110,8 @@ fn coordinate_at(f: &[u8], size: u8, e: u32, x: usize) -> CoordinateAnswer
     requires { ⌜ (0 < size) × TrackObeys (now f) size e ⌝ }
     ensures { λ r. ⌜ r ≡ onTrack (now (f .entry)) size e x ⌝ }
 {
-<<<<<<< HEAD
-    if u32_at(f, e + Track::END_POSITION) < x {
-        return CoordinateAnswer::Refused(refusal(Reason::Position));
-=======
     if number_of(f, e, Track::END_POSITION) < x {
-        return CoordinateAnswer::Refused(refused(Reason::Position));
->>>>>>> x17
+        return CoordinateAnswer::Refused(refusal(Reason::Position));
     }
     let stretch = find_stretch(f, size, e, x);
     let Found::At(p) = stretch else {

@@ -12,40 +12,10 @@ use borrow.Author.Needs.{needs}
 use Rattle.survey.proofs.coordinate.Statement.{statement}
 use Rattle.survey.proofs.coordinate.Tie as tie
 
-<<<<<<< HEAD
-verdict-of-requires : tie.Need-verdict-of-requires
-verdict-of-requires c κs = search needs
-
-enum-told : tie.Need-enum-told
-enum-told c = search needs
-
-enum-told-2 : tie.Need-enum-told-2
-enum-told-2 c = search needs
-
-fault-requires : tie.Need-fault-requires
-fault-requires c κs = search needs
-
-=======
->>>>>>> x17
 returns : tie.Need-returns
 unfolding coordinateAsked
 returns c = own-fault answer.Refused _ _ _ (c .before .before .before .verdict-of .ensures) (c .before .enum-told2 .given .1) (c .fault .ensures) _
 
-<<<<<<< HEAD
-find-track-requires : tie.Need-find-track-requires
-find-track-requires c κs = search needs
-
-enum-known-found : tie.Need-enum-known-found
-enum-known-found c = search needs
-
-enum-told-3 : tie.Need-enum-told-3
-enum-told-3 c = search needs
-
-refusal-requires : tie.Need-refusal-requires
-refusal-requires c κs = search needs
-
-=======
->>>>>>> x17
 returns-2 : tie.Need-returns-2
 returns-2 c =
     let d = c .before .before .before in
@@ -70,17 +40,6 @@ pub coordinate-spec : {M : Type 1} → statement M
 coordinate-spec =
     tie.close
     (tie.spec
-<<<<<<< HEAD
-    verdict-of-requires
-    enum-told
-    enum-told-2
-    fault-requires
-    returns
-    find-track-requires
-    enum-known-found
-    enum-told-3
-    refusal-requires
-=======
     (λ c κs. search needs)
     (λ c. search needs)
     (λ c. search needs)
@@ -90,7 +49,6 @@ coordinate-spec =
     (λ c. search needs)
     (λ c. search needs)
     (λ c κs. search needs)
->>>>>>> x17
     returns-2
     coordinate-at-requires
     returns-3)

@@ -7,43 +7,13 @@ use borrow.Author.Needs.{needs}
 use Rattle.survey.proofs.coordinate_at.Statement.{statement}
 use Rattle.survey.proofs.coordinate_at.Tie as tie
 
-<<<<<<< HEAD
-add-u32-at : tie.Need-add-u32-at
-add-u32-at c = search needs
-
-u32-at-requires : tie.Need-u32-at-requires
-u32-at-requires c κs = search needs
-
-refusal-requires : tie.Need-refusal-requires
-refusal-requires c κs = search needs
-
 returns : tie.Need-returns
-returns c = beyond-end _ _ _ _ (c .before .before .u32-at .ensures .is) (c .before .if1 .taken) (c .refusal .ensures)
-
-find-stretch-requires : tie.Need-find-stretch-requires
-find-stretch-requires c κs = search needs
-
-enum-known-stretch : tie.Need-enum-known-stretch
-enum-known-stretch c = search needs
-
-enum-told : tie.Need-enum-told
-enum-told c = search needs
-
-refusal-requires-2 : tie.Need-refusal-requires-2
-refusal-requires-2 c κs = search needs
-=======
-returns : tie.Need-returns
-returns c = beyond-end _ _ _ _ (c .before .before .number-of .ensures .is) (c .before .if1 .taken) (c .refused .ensures)
->>>>>>> x17
+returns c = beyond-end _ _ _ _ (c .before .before .number-of .ensures .is) (c .before .if1 .taken) (c .refusal .ensures)
 
 returns-2 : tie.Need-returns-2
 returns-2 c =
     let d = c .before .before .before in
-<<<<<<< HEAD
-    no-stretch _ _ _ _ (d .before .before .u32-at .ensures .is) (d .before .if1 .left) (d .find-stretch .ensures) (c .before .enum-told .given .1) (c .refusal2 .ensures)
-=======
-    no-stretch _ _ _ _ (d .before .before .number-of .ensures .is) (d .before .if1 .left) (d .find-stretch .ensures) (c .before .enum-told .given .1) (c .refused2 .ensures)
->>>>>>> x17
+    no-stretch _ _ _ _ (d .before .before .number-of .ensures .is) (d .before .if1 .left) (d .find-stretch .ensures) (c .before .enum-told .given .1) (c .refusal2 .ensures)
 
 coordinate-on-requires : tie.Need-coordinate-on-requires
 coordinate-on-requires c κs =
@@ -61,16 +31,6 @@ pub coordinate-at-spec : {M : Type 1} → statement M
 coordinate-at-spec =
     tie.close
     (tie.spec
-<<<<<<< HEAD
-    add-u32-at
-    u32-at-requires
-    refusal-requires
-    returns
-    find-stretch-requires
-    enum-known-stretch
-    enum-told
-    refusal-requires-2
-=======
     (λ c κs. search needs)
     (λ c κs. search needs)
     returns
@@ -78,7 +38,6 @@ coordinate-at-spec =
     (λ c. search needs)
     (λ c. search needs)
     (λ c κs. search needs)
->>>>>>> x17
     returns-2
     coordinate-on-requires
     returns-3)

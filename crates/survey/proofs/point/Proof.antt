@@ -3,76 +3,28 @@
 use Rattle.verdict.proofs.Questions.{own-fault}
 use Rattle.survey.specs.declared.answers.PointAnswer.the-variants as answer
 use Rattle.survey.specs.Questions.{pointOf}
-<<<<<<< HEAD
-use Rattle.survey.proofs.Questions.{point-no-track, point-none, point-there, point-low}
-=======
-use Rattle.survey.proofs.Questions.{own-fault, point-no-track, point-none, point-there, point-in-file}
->>>>>>> x17
+use Rattle.survey.proofs.Questions.{point-no-track, point-none, point-there, point-in-file}
 use borrow.Author.Needs.{needs}
 use Rattle.survey.proofs.point.Statement.{statement}
 use Rattle.survey.proofs.point.Tie as tie
 
-<<<<<<< HEAD
-verdict-of-requires : tie.Need-verdict-of-requires
-verdict-of-requires c κs = search needs
-
-enum-told : tie.Need-enum-told
-enum-told c = search needs
-
-enum-told-2 : tie.Need-enum-told-2
-enum-told-2 c = search needs
-
-fault-requires : tie.Need-fault-requires
-fault-requires c κs = search needs
-
-=======
->>>>>>> x17
 returns : tie.Need-returns
 unfolding pointOf
 returns c = own-fault answer.Refused _ _ _ (c .before .before .before .verdict-of .ensures) (c .before .enum-told2 .given .1) (c .fault .ensures) _
 
-<<<<<<< HEAD
-byte-at-requires : tie.Need-byte-at-requires
-byte-at-requires c κs = search needs
-
-refusal-requires : tie.Need-refusal-requires
-refusal-requires c κs = search needs
-
-=======
->>>>>>> x17
 returns-2 : tie.Need-returns-2
 returns-2 c =
     let d = c .before .before in
     let v = d .before .before .before in
-<<<<<<< HEAD
-    point-no-track (v .before .before .args .f .now) (v .verdict-of .ensures) (d .before .enum-told .given .1) (d .byte-at .ensures .is) _ _ (c .before .if1 .taken) (c .refusal .ensures)
-
-entry-at-requires : tie.Need-entry-at-requires
-entry-at-requires c κs = search needs
-
-read-requires : tie.Need-read-requires
-read-requires c κs = search needs
-
-points-requires : tie.Need-points-requires
-points-requires c κs = search needs
-
-refusal-requires-2 : tie.Need-refusal-requires-2
-refusal-requires-2 c κs = search needs
-=======
-    point-no-track (v .before .before .args .f .now) (v .verdict-of .ensures) (d .before .enum-told .given .1) (d .number-of .ensures .is) _ _ (c .before .if1 .taken) (c .refused .ensures)
->>>>>>> x17
+    point-no-track (v .before .before .args .f .now) (v .verdict-of .ensures) (d .before .enum-told .given .1) (d .number-of .ensures .is) _ _ (c .before .if1 .taken) (c .refusal .ensures)
 
 returns-3 : tie.Need-returns-3
 returns-3 c =
     let r = c .before .before .before in
     let d = r .before .before .before in
     let v = d .before .before .before in
-<<<<<<< HEAD
-    point-none (v .before .before .args .f .now) (v .verdict-of .ensures) (d .before .enum-told .given .1) (d .byte-at .ensures .is) _ _ (r .before .before .if1 .left) (r .before .entry-at .ensures) (r .read .ensures) (c .before .before .points .ensures) (c .before .if2 .taken) (c .refusal2 .ensures)
-=======
     point-none (v .before .before .args .f .now) (v .verdict-of .ensures) (d .before .enum-told .given .1) (d .number-of .ensures .is) _ _ (r .before .before .if1 .left) (r .before .entry-place .ensures) (r .read .ensures) (c .before .before .points .ensures)
-    (c .before .if2 .taken) (c .refused2 .ensures)
->>>>>>> x17
+    (c .before .if2 .taken) (c .refusal2 .ensures)
 
 point-place-requires : tie.Need-point-place-requires
 point-place-requires c κs =
@@ -94,20 +46,6 @@ pub point-spec : {M : Type 1} → statement M
 point-spec =
     tie.close
     (tie.spec
-<<<<<<< HEAD
-    verdict-of-requires
-    enum-told
-    enum-told-2
-    fault-requires
-    returns
-    byte-at-requires
-    refusal-requires
-    returns-2
-    entry-at-requires
-    read-requires
-    points-requires
-    refusal-requires-2
-=======
     (λ c κs. search needs)
     (λ c. search needs)
     (λ c. search needs)
@@ -121,7 +59,6 @@ point-spec =
     (λ c κs. search needs)
     (λ c κs. search needs)
     (λ c κs. search needs)
->>>>>>> x17
     returns-3
     point-place-requires
     (λ c κs. search needs)

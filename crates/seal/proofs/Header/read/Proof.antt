@@ -7,7 +7,7 @@ use Rattle.seal.proofs.Header.read.Tie as tie
 
 returns : tie.Need-returns
 unfolding headerIn
-returns c = simp (c .u16-at3 .ensures .is, c .before .u16-at2 .ensures .is, c .before .before .u16-at .ensures .is)
+returns c = simp (c .number-of3 .ensures .is, c .before .number-of2 .ensures .is, c .before .before .number-of .ensures .is)
 
 pub read-spec : {M : Type 1} → statement M
 read-spec =

@@ -10,14 +10,4 @@ returns c = simp (c .lies-on3 .ensures, c .before .lies-on2 .ensures, c .before 
 pub turnout-pair-spec : {M : Type 1} → statement M
 turnout-pair-spec =
     tie.close
-    (tie.spec
-    (λ c. search needs)
-    (λ c. search needs)
-    (λ c κs. search needs)
-    (λ c. search needs)
-    (λ c. search needs)
-    (λ c κs. search needs)
-    (λ c. search needs)
-    (λ c. search needs)
-    (λ c κs. search needs)
-    returns)
+    (tie.spec (λ c κs. search needs) (λ c κs. search needs) (λ c κs. search needs) returns)
