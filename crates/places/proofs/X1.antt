@@ -9,16 +9,15 @@ use mathlib.Core.List.{List, [], _++_, flatMap, List·Memᴰ}
 use lib.Dec.{ltb, eqb}
 use lib.ListN.{length}
 use native.Mathlib.Omega.{arith}
-use Rattle.octets.specs.Octets.{numAt}
 use Rattle.verdict.specs.Facts.{AllHold}
 use Rattle.verdict.specs.Reasons.{placeIn}
 use Rattle.seal.specs.Seal.{mostLength, sealFacts}
-use Rattle.tracks.specs.Places.{entriesAt, entrySize, lastPoint, pointSize}
+use Rattle.tracks.specs.Places.{entriesAt, entrySize, pointSize}
 use Rattle.geography.specs.Layout.{endOf, countOf, pointsAt, entries, firstOf, lastOf, isFirst, stopBefore, entryLayout, countLayout, stopLayout, layoutFacts}
 use Rattle.geography.specs.Fields.{headerFields, entryFields, pointFields, allPoints, fieldFacts}
 use Rattle.geography.specs.Agreement.{numberAgrees, opens, rises, stays, closes, pointAgrees, pointsOf, trackAgrees, agreementFacts}
 use Rattle.geography.specs.Facts.{fileType, checkFacts, facts, verdictOf}
-use Rattle.geography.specs.Obeys.{entryAt, LayoutObeys}
+use Rattle.geography.specs.Obeys.{entryPlace, LayoutObeys}
 use Rattle.geography.proofs.Obeys.{start-entry, entries-iff, layout-iff}
 use Rattle.layout.proofs.Walks.{starts-between}
 use Rattle.places.specs.Places.{placeOver, PlacesBelow}
@@ -31,14 +30,14 @@ module _ (f : List ℕ) (size : ℕ) (most : length f ≤ mostLength) where
 
   -- ---- layout
 
-  -- the points of the last track do not stop behind End
+  -- the points of the last track do not stop after End
   stop-inside : AllHold (countLayout f) → AllHold (flatMap (entryLayout f size) (entries f)) → stopBefore f size (pointsAt f) ≤ endOf f
   unfolding AllHold
   stop-inside count each =
       let some = count .0 .0 in
       let last = (entries-iff f (entryLayout f size)) .0 each (countOf f - 1) (omega arith) in
-      let same : entryAt (countOf f - 1) + lastPoint ≡ pointsAt f - 2 = omega arith in
-      subst (λ (p : ℕ). numAt 2 f p + size ≤ endOf f) same (last .1 .1 .1 .0)
+      let same : entryPlace (countOf f - 1) ≡ pointsAt f - entrySize = omega arith in
+      subst (λ (e : ℕ). lastOf f e + size ≤ endOf f) same (last .1 .1 .1 .0)
 
   layout-below : PlacesBelow placeOver (layoutFacts f size)
   unfolding layoutFacts AllHold
