@@ -2,4 +2,4 @@ pub mod Numbers
 pub mod Laid
 pub mod Ways
 pub mod Back
-pub mod Parts
+pub mod TakenApart

@@ -19,8 +19,8 @@ use Rattle.walks.specs.declared.Tally.{Tally}
 use Rattle.routes.specs.declared.RoutesAnswer.{RoutesAnswer}
 use Rattle.routes.specs.declared.RoutesAnswer.the-variants.{Listed, Refused}
 use Rattle.routes.specs.Answered.{refusedFor, judged, answerAt, routesAnswer}
-use Rattle.yard.specs.Routes.{routesOf}
-use Rattle.exports.specs.Words.{answerWord, valueSize, wordsOf, bytesOf}
+use Rattle.yard.specs.Routes.{routesAsked}
+use Rattle.exports.specs.Words.{answerWord, valueSize, valueWords, bytesOf}
 use Rattle.exports.specs.Shown.{wordsShown, wordsLeave, shown, leaves, countsSize, wordsLeft}
 use Rattle.exports.proofs.Laid.{laid}
 
@@ -53,7 +53,7 @@ module _ {A : Type 0} (shape : A → Answer) {asked got way : A} (p : got ≡ as
   same = ap shape (sym e ∙ p)
 
   pub values-shown :
-      (out : List ℕ) {values : List ℤ} → shape way ≡ answered values → {words : List ℕ} → words ≡ wordsOf values
+      (out : List ℕ) {values : List ℤ} → shape way ≡ answered values → {words : List ℕ} → words ≡ valueWords values
       → {r : ℕ} {out′ : List ℕ} → (r ≡ wordsShown words out) × (out′ ≡ wordsLeave words out)
       → (r ≡ shown (shape asked) out) × (out′ ≡ leaves (shape asked) out)
   values-shown out {values} v w s =
@@ -90,8 +90,8 @@ module _ (counts : List ℕ) (h : length counts < countsSize) where
   after-same (verdict.Refused t) a b e = refl
   after-same verdict.Accepted a b e = e
 
-  pub scrap-shown : (f : List ℕ) (start limit budget a b : ℕ) → shown (routesAnswer (routesOf f start limit budget a)) counts ≡ shown (routesAnswer (routesOf f start limit budget b)) counts
-  unfolding routesOf answerAt
+  pub scrap-shown : (f : List ℕ) (start limit budget a b : ℕ) → shown (routesAnswer (routesAsked f start limit budget a)) counts ≡ shown (routesAnswer (routesAsked f start limit budget b)) counts
+  unfolding routesAsked answerAt
   scrap-shown f start limit budget a b = after-same (verdictOf f) _ _ (rooms _ _ _ _ _)
 
   kept-anyhow : (a : RoutesAnswer) → leaves (routesAnswer a) counts ≡ counts

@@ -1,3 +1,3 @@
 pub mod Words
 pub mod Shown
-pub mod Parts
+pub mod TakenApart

@@ -12,7 +12,7 @@ use Rattle.verdict.specs.declared.Verdict.{Verdict}
 use Rattle.verdict.specs.declared.PairVerdict.{PairVerdict}
 use Rattle.verdict.specs.Reasons.{numberOf, numberIn, placeIn, pairNumberIn, pairPlaceIn, pairFileIn}
 use Rattle.verdict.specs.Answers.{Answer, answered, refused}
-use Rattle.exports.specs.Words.{answerWord, valueSize, wordsOf, bytesOf}
+use Rattle.exports.specs.Words.{answerWord, valueSize, valueWords, bytesOf}
 
 -- ---- the verdicts
 
@@ -40,12 +40,12 @@ wordsLeave words out = cond (short words out) out (bytesOf words ++ drop (length
 
 -- the number that is returned
 abbrev pub shown : Answer → List ℕ → ℕ
-shown (answered values) out = wordsShown (wordsOf values) out
+shown (answered values) out = wordsShown (valueWords values) out
 shown (refused n t) out = answerWord (numberOf (t .reason)) 0 (t .place)
 
 -- the output after it
 abbrev pub leaves : Answer → List ℕ → List ℕ
-leaves (answered values) out = wordsLeave (wordsOf values) out
+leaves (answered values) out = wordsLeave (valueWords values) out
 leaves (refused n t) out = out
 
 -- ---- routes: the counts stand in an output of their own

@@ -44,8 +44,8 @@ unfoldable pub wordOf : ℤ → ℕ
 wordOf (pos n) = n % overWord
 wordOf (negsuc n) = overWord - 1 - n % overWord
 
-abbrev pub wordsOf : List ℤ → List ℕ
-wordsOf values = map wordOf values
+abbrev pub valueWords : List ℤ → List ℕ
+valueWords values = map wordOf values
 
 -- the four bytes, low byte first
 unfoldable pub wordBytes : ℕ → List ℕ

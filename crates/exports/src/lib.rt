@@ -11,7 +11,7 @@ ghost use Rattle.survey.specs.Answers.{headerAnswer, trackAnswer, pointAnswer, 
 ghost use Rattle.survey.specs.Questions.{headerOf, trackOf, pointOf, coordinateAsked};
 ghost use Rattle.walks.specs.Lent.{roomOf};
 ghost use Rattle.routes.specs.Answered.{routesAnswer};
-ghost use Rattle.yard.specs.Routes.{routesOf, leftOf};
+ghost use Rattle.yard.specs.Routes.{routesAsked, leftAsked};
 ghost use Rattle.exports.specs.Shown.{verdictShown, pairShown, shown, leaves, wordsLeft};
 
 mod values;
@@ -170,9 +170,9 @@ pub extern "C" fn yard_routes(
     counts: &mut [u8],
     words: &mut [u8],
 ) -> u64
-    ensures { λ r. ⌜ r ≡ shown (routesAnswer (routesOf (now (file .entry)) start limit budget (roomOf (now (words .entry))))) (now (counts .entry)) ⌝ }
-    ensures { λ _. ⌜ now (counts .exit) ≡ leaves (routesAnswer (routesOf (now (file .entry)) start limit budget (roomOf (now (words .entry))))) (now (counts .entry)) ⌝ }
-    ensures { λ _. ⌜ now (words .exit) ≡ wordsLeft (now (counts .entry)) (now (words .entry)) (leftOf (now (file .entry)) start limit budget (now (words .entry))) ⌝ }
+    ensures { λ r. ⌜ r ≡ shown (routesAnswer (routesAsked (now (file .entry)) start limit budget (roomOf (now (words .entry))))) (now (counts .entry)) ⌝ }
+    ensures { λ _. ⌜ now (counts .exit) ≡ leaves (routesAnswer (routesAsked (now (file .entry)) start limit budget (roomOf (now (words .entry))))) (now (counts .entry)) ⌝ }
+    ensures { λ _. ⌜ now (words .exit) ≡ wordsLeft (now (counts .entry)) (now (words .entry)) (leftAsked (now (file .entry)) start limit budget (now (words .entry))) ⌝ }
 {
     if counts.len() < COUNTS_SIZE {
         let mut scrap = [0u8; 1];

@@ -5,7 +5,7 @@ ghost use Rattle.seal.specs.Header.{headerValues};
 ghost use Rattle.survey.specs.Answers.{trackValues, pointValues, coordinateValues};
 ghost use Rattle.application.specs.Answers.{namedHeaderValues, valueCount, boundaryFields, filled, recordValues};
 ghost use Rattle.routes.specs.Answered.{tallyValues};
-ghost use Rattle.exports.specs.Words.{wordsOf};
+ghost use Rattle.exports.specs.Words.{valueWords};
 use crate::words::signed_word;
 use crate::words::word;
 use application::NamedHeader;
@@ -54,14 +54,14 @@ const SIDING: usize = 7;
 
 // The header that both files have alike.
 pub fn header_words(h: Header) -> [u32; HEADER_VALUES]
-    ensures { λ r. ⌜ r ≡ wordsOf (headerValues h) ⌝ }
+    ensures { λ r. ⌜ r ≡ valueWords (headerValues h) ⌝ }
 {
     [word(h.structure), word(h.data), word(h.station)]
 }
 
 // The header of an X.2 file, with the place of the station's name and how many bytes it has.
 pub fn named_header_words(h: NamedHeader) -> [u32; NAMED_HEADER_VALUES]
-    ensures { λ r. ⌜ r ≡ wordsOf (namedHeaderValues h) ⌝ }
+    ensures { λ r. ⌜ r ≡ valueWords (namedHeaderValues h) ⌝ }
 {
     let header = h.header;
     [
@@ -75,7 +75,7 @@ pub fn named_header_words(h: NamedHeader) -> [u32; NAMED_HEADER_VALUES]
 
 // A track.
 pub fn track_words(t: Track) -> [u32; TRACK_VALUES]
-    ensures { λ r. ⌜ r ≡ wordsOf (trackValues t) ⌝ }
+    ensures { λ r. ⌜ r ≡ valueWords (trackValues t) ⌝ }
 {
     [
         word(t.number),
@@ -94,7 +94,7 @@ pub fn track_words(t: Track) -> [u32; TRACK_VALUES]
 
 // A point.
 pub fn point_words(p: Point) -> [u32; POINT_VALUES]
-    ensures { λ r. ⌜ r ≡ wordsOf (pointValues p) ⌝ }
+    ensures { λ r. ⌜ r ≡ valueWords (pointValues p) ⌝ }
 {
     [
         word(p.position),
@@ -107,14 +107,14 @@ pub fn point_words(p: Point) -> [u32; POINT_VALUES]
 
 // A coordinate.
 pub fn coordinate_words(c: Coordinate) -> [u32; COORDINATE_VALUES]
-    ensures { λ r. ⌜ r ≡ wordsOf (coordinateValues c) ⌝ }
+    ensures { λ r. ⌜ r ≡ valueWords (coordinateValues c) ⌝ }
 {
     [signed_word(c.latitude), signed_word(c.longitude)]
 }
 
 // A boundary of either kind.
 fn boundary_words(kind: usize, b: Boundary) -> [u32; RECORD_VALUES]
-    ensures { λ r. ⌜ r ≡ wordsOf (filled valueCount (kind ∷ boundaryFields b)) ⌝ }
+    ensures { λ r. ⌜ r ≡ valueWords (filled valueCount (kind ∷ boundaryFields b)) ⌝ }
 {
     [
         word(kind),
@@ -134,7 +134,7 @@ fn boundary_words(kind: usize, b: Boundary) -> [u32; RECORD_VALUES]
 
 // A turnout.
 fn turnout_words(t: Turnout) -> [u32; RECORD_VALUES]
-    ensures { λ r. ⌜ r ≡ wordsOf (recordValues (Record.Turnout t)) ⌝ }
+    ensures { λ r. ⌜ r ≡ valueWords (recordValues (Record.Turnout t)) ⌝ }
 {
     let direction = t.direction;
     [
@@ -155,7 +155,7 @@ fn turnout_words(t: Turnout) -> [u32; RECORD_VALUES]
 
 // A balise.
 fn balise_words(b: Balise) -> [u32; RECORD_VALUES]
-    ensures { λ r. ⌜ r ≡ wordsOf (recordValues (Record.Balise b)) ⌝ }
+    ensures { λ r. ⌜ r ≡ valueWords (recordValues (Record.Balise b)) ⌝ }
 {
     let nature = b.nature;
     let way = b.direction;
@@ -177,7 +177,7 @@ fn balise_words(b: Balise) -> [u32; RECORD_VALUES]
 
 // A signal.
 fn signal_words(s: Signal) -> [u32; RECORD_VALUES]
-    ensures { λ r. ⌜ r ≡ wordsOf (recordValues (Record.Signal s)) ⌝ }
+    ensures { λ r. ⌜ r ≡ valueWords (recordValues (Record.Signal s)) ⌝ }
 {
     let facing = s.direction;
     let duty = s.duty;
@@ -199,7 +199,7 @@ fn signal_words(s: Signal) -> [u32; RECORD_VALUES]
 
 // A joint.
 fn joint_words(j: Joint) -> [u32; RECORD_VALUES]
-    ensures { λ r. ⌜ r ≡ wordsOf (recordValues (Record.Joint j)) ⌝ }
+    ensures { λ r. ⌜ r ≡ valueWords (recordValues (Record.Joint j)) ⌝ }
 {
     [
         word(JOINT),
@@ -219,7 +219,7 @@ fn joint_words(j: Joint) -> [u32; RECORD_VALUES]
 
 // A siding.
 fn siding_words(s: Siding) -> [u32; RECORD_VALUES]
-    ensures { λ r. ⌜ r ≡ wordsOf (recordValues (Record.Siding s)) ⌝ }
+    ensures { λ r. ⌜ r ≡ valueWords (recordValues (Record.Siding s)) ⌝ }
 {
     [
         word(SIDING),
@@ -239,7 +239,7 @@ fn siding_words(s: Siding) -> [u32; RECORD_VALUES]
 
 // A record: its kind, its fields, and zeros up to so many values.
 pub fn record_words(record: Record) -> [u32; RECORD_VALUES]
-    ensures { λ r. ⌜ r ≡ wordsOf (recordValues «record») ⌝ }
+    ensures { λ r. ⌜ r ≡ valueWords (recordValues «record») ⌝ }
 {
     match record {
         Record::StartBoundary(b) => boundary_words(START_BOUNDARY, b),
@@ -254,7 +254,7 @@ pub fn record_words(record: Record) -> [u32; RECORD_VALUES]
 
 // The counts of a list of routes.
 pub fn routes_words(t: Tally) -> [u32; ROUTES_VALUES]
-    ensures { λ r. ⌜ r ≡ wordsOf (tallyValues t) ⌝ }
+    ensures { λ r. ⌜ r ≡ valueWords (tallyValues t) ⌝ }
 {
     [word(t.routes), word(t.words), word(t.walks)]
 }

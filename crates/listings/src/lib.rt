@@ -7,7 +7,7 @@ ghost use Rattle.verdict.specs.Answers.{answerNumber};
 ghost use Rattle.application.specs.Facts.{verdictOf};
 ghost use Rattle.walks.specs.Lent.{roomOf};
 ghost use Rattle.routes.specs.Answered.{routesAnswer};
-ghost use Rattle.yard.specs.Routes.{routesOf};
+ghost use Rattle.yard.specs.Routes.{routesAsked};
 use layout::ENTRY_OFFSET;
 use layout::ENTRY_SIZE;
 use layout::Layout;
@@ -80,7 +80,7 @@ fn tally_lines(t: Tally, lent: &[u8]) {
 
 // The question routes, with the bytes that are lent. It answers the number of the answer.
 fn answer_lines(f: &[u8], start: usize, limit: usize, budget: usize, lent: &mut [u8]) -> usize
-    ensures { λ r. ⌜ r ≡ answerNumber (routesAnswer (routesOf (now (f .entry)) start limit budget (roomOf (now (lent .entry))))) ⌝ }
+    ensures { λ r. ⌜ r ≡ answerNumber (routesAnswer (routesAsked (now (f .entry)) start limit budget (roomOf (now (lent .entry))))) ⌝ }
 {
     let answer = yard::routes(f, start, limit, budget, lent);
     let n = answer.number();
@@ -94,7 +94,7 @@ fn answer_lines(f: &[u8], start: usize, limit: usize, budget: usize, lent: &mut 
 
 // The question routes, with room for as many words. It answers the number of the answer, 0 where the routes are listed.
 pub fn routes(f: &[u8], start: usize, limit: usize, budget: usize, room: usize) -> usize
-    ensures { λ r. ⌜ r ≡ answerNumber (routesAnswer (routesOf (now (f .entry)) start limit budget (min room 65535))) ⌝ }
+    ensures { λ r. ⌜ r ≡ answerNumber (routesAnswer (routesAsked (now (f .entry)) start limit budget (min room 65535))) ⌝ }
 {
     let mut bytes = [0u8; MOST_BYTES];
     let lent = WORD_SIZE * least(room, MOST_ROOM);

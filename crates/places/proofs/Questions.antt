@@ -40,7 +40,7 @@ use Rattle.application.specs.Questions.{namedHeaderIn, namedHeaderOf, recordIf,
 use Rattle.walks.specs.declared.Tally.{Tally}
 use Rattle.routes.specs.declared.RoutesAnswer.the-variants as routes-answer
 use Rattle.routes.specs.Answered.{judged, answerAt, answerIn, routesAnswer}
-use Rattle.yard.specs.Routes.{routesOf}
+use Rattle.yard.specs.Routes.{routesAsked}
 use Rattle.places.specs.Places.{placeOver}
 use Rattle.places.proofs.X1.{x1-place}
 use Rattle.places.proofs.X2.{x2-place}
@@ -122,7 +122,7 @@ module _ (f : List ℕ) where
       let starts = test (isStart f (layoutOf f) x) in
       after-below recordAnswer record-answer.Refused (λ t. refl) (application.verdictOf f) (recordIf starts f x) (x2-place f) (record-if starts f x)
 
-  pub routes-place : (start limit budget room : ℕ) → answerPlace (routesAnswer (routesOf f start limit budget room)) < placeOver
-  unfolding routesOf answerAt
+  pub routes-place : (start limit budget room : ℕ) → answerPlace (routesAnswer (routesAsked f start limit budget room)) < placeOver
+  unfolding routesAsked answerAt
   routes-place start limit budget room =
       after-below routesAnswer routes-answer.Refused (λ t. refl) (application.verdictOf f) (answerIn f (layoutOf f) start limit budget room) (x2-place f) (judged-below _ _ _ _)

@@ -8,9 +8,9 @@ use Rattle.records.specs.declared.Kind.{Kind}
 use Rattle.records.specs.declared.Kind.the-variants as kind
 use Rattle.records.specs.Places as place
 use Rattle.records.specs.Rows.{tableOf}
-use Rattle.records.specs.Records.{sizeOf}
+use Rattle.records.specs.Records.{fixedSize}
 
-pub whole : (k : Kind) → tiles 0 (tableOf k) (sizeOf k) ≡ true
+pub whole : (k : Kind) → tiles 0 (tableOf k) (fixedSize k) ≡ true
 whole kind.StartBoundary = refl
 whole kind.EndBoundary = refl
 whole kind.Turnout = refl

@@ -14,14 +14,14 @@ use Rattle.records.specs.Rows.{tableOf}
 use Rattle.records.specs.Tables.{boundaryAt, turnoutAt, baliseAt, signalAt, jointAt, sidingAt}
 
 -- how many bytes a record of a kind has; a balise's message comes on top
-abbrev pub sizeOf : Kind → ℕ
-sizeOf kind.StartBoundary = place.boundarySize
-sizeOf kind.EndBoundary = place.boundarySize
-sizeOf kind.Turnout = place.turnoutSize
-sizeOf kind.Balise = place.baliseSize
-sizeOf kind.Signal = place.signalSize
-sizeOf kind.Joint = place.jointSize
-sizeOf kind.Siding = place.sidingSize
+abbrev pub fixedSize : Kind → ℕ
+fixedSize kind.StartBoundary = place.boundarySize
+fixedSize kind.EndBoundary = place.boundarySize
+fixedSize kind.Turnout = place.turnoutSize
+fixedSize kind.Balise = place.baliseSize
+fixedSize kind.Signal = place.signalSize
+fixedSize kind.Joint = place.jointSize
+fixedSize kind.Siding = place.sidingSize
 
 -- how many bytes a link has
 abbrev pub linkSize : ℕ

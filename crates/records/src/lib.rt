@@ -3,7 +3,7 @@
 // the type byte. A place is a 16-bit number, as every offset in the file is, and a byte past the end counts as 0: each reading answers
 // for every file and every place.
 ghost use mathlib.Core.Path.{_≡_};
-ghost use Rattle.records.specs.Records.{sizeOf, linkFields, recordAt};
+ghost use Rattle.records.specs.Records.{fixedSize, linkFields, recordAt};
 use tables::place_of;
 
 mod balises;
@@ -39,7 +39,7 @@ pub enum Kind {
 impl Kind {
     // How many bytes a record of the kind has; a balise's message comes on top.
     pub fn size(self) -> usize
-        ensures { λ r. ⌜ r ≡ sizeOf self ⌝ }
+        ensures { λ r. ⌜ r ≡ fixedSize self ⌝ }
     {
         match self {
             Kind::StartBoundary => Boundary::SIZE,

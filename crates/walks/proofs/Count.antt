@@ -7,7 +7,7 @@ use mathlib.Core.Path.{_≡_, refl, sym, ap, subst}
 use mathlib.Core.Logic.{⊎-elim}
 use mathlib.Core.List.{List, [], _∷_, _++_, List·Memᴰ, List·Memᴰ·head, List·Memᴰ·tail, List·Memᴰ·not-nil, List·Memᴰ·cases-cons, List·Memᴰ·append-cases, Memᴰ·append-left, Memᴰ·append-right, Memᴰ·cast}
 use lib.ListN.{length, length-append}
-use Rattle.walks.specs.Legal.{Distinct}
+use Rattle.walks.specs.Legal.{NoneTwice}
 use Rattle.walks.specs.Walks.{wordsOf}
 use Rattle.walks.specs.All.{Exactly, Number}
 
@@ -39,8 +39,8 @@ module _ {A : Type 0} where
   weight-append g [] b = omega arith
   weight-append g (x ∷ a) b = omega (arith, weight-append g a b)
 
-  no-heavier : (g : A → ℕ) (a b : List A) → Distinct a → ((x : A) → List·Memᴰ x a → List·Memᴰ x b) → weight g a ≤ weight g b
-  unfolding Distinct
+  no-heavier : (g : A → ℕ) (a b : List A) → NoneTwice a → ((x : A) → List·Memᴰ x a → List·Memᴰ x b) → weight g a ≤ weight g b
+  unfolding NoneTwice
   no-heavier g [] b d s = omega arith
   no-heavier g (x ∷ a) b d s =
       let p = split b x (s x (List·Memᴰ·head refl)) in

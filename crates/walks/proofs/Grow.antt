@@ -10,19 +10,19 @@ use mathlib.Core.List.{List, [], _∷_, _++_, append-assoc, append-nil}
 use lib.ListN.{length, length-append}
 use Rattle.verdict.proofs.Orders.{le-or-lt}
 use Rattle.graph.specs.declared.Object.{Object}
-use Rattle.walks.specs.Walks.{isRoute, routesOf, wordsOf}
+use Rattle.walks.specs.Walks.{isRoute, routesAmong, wordsOf}
 use Rattle.walks.specs.declared.Tally.{Tally}
 use Rattle.walks.specs.Lent.{lays}
 use Rattle.walks.specs.Grown.{Sane, Counted, Grown}
 use Rattle.walks.proofs.Lent.{lays-append}
 
-routes-append : (v : ℕ → Object) (a b : List (List ℕ)) → routesOf v (a ++ b) ≡ routesOf v a ++ routesOf v b
-unfolding routesOf
+routes-append : (v : ℕ → Object) (a b : List (List ℕ)) → routesAmong v (a ++ b) ≡ routesAmong v a ++ routesAmong v b
+unfolding routesAmong
 routes-append v [] b = refl
 routes-append v (w ∷ a) b = step (isRoute v w) (routes-append v a b)
   where
-    step : (x : Bool) → routesOf v (a ++ b) ≡ routesOf v a ++ routesOf v b
-        → cond x (w ∷ routesOf v (a ++ b)) (routesOf v (a ++ b)) ≡ cond x (w ∷ routesOf v a) (routesOf v a) ++ routesOf v b
+    step : (x : Bool) → routesAmong v (a ++ b) ≡ routesAmong v a ++ routesAmong v b
+        → cond x (w ∷ routesAmong v (a ++ b)) (routesAmong v (a ++ b)) ≡ cond x (w ∷ routesAmong v a) (routesAmong v a) ++ routesAmong v b
     step true e = ap (λ (l : List (List ℕ)). w ∷ l) e
     step false e = e
 
@@ -34,7 +34,7 @@ words-append (w ∷ a) b = ap (λ (l : List ℕ). length w ∷ (w ++ l)) (words-
 module _ (v : ℕ → Object) (budget : ℕ) where
   -- no walk
   pub grown-none : (t : Tally) (out : List ℕ) → Sane budget t → Grown v [] budget t t out out
-  unfolding routesOf wordsOf lays
+  unfolding routesAmong wordsOf lays
   grown-none t out h = record { sane = h; grows = omega arith; beyond = λ p. omega arith; counted = λ p. record { walks-are = omega arith; routes-are = omega arith; words-are = omega arith }; out-is = λ p. refl }
 
   -- beyond the budget already
@@ -43,25 +43,25 @@ module _ (v : ℕ → Object) (budget : ℕ) where
 
   -- a walk that is no route
   pub grown-open : (w : List ℕ) (t u : Tally) (out : List ℕ) → Sane budget t → t .walks ≤ budget → isRoute v w ≡ false → Counted 1 0 0 t u → Grown v (w ∷ []) budget t u out out
-  unfolding routesOf wordsOf lays
+  unfolding routesAmong wordsOf lays
   grown-open w t u out h q e k = record {
     sane = record { capped = omega arith; fewer = omega arith; short = omega arith };
     grows = omega arith;
     beyond = λ p. omega arith;
-    counted = rw (e, routesOf) (λ p. k);
-    out-is = rw (e, routesOf) (λ p. refl);
+    counted = rw (e, routesAmong) (λ p. k);
+    out-is = rw (e, routesAmong) (λ p. refl);
   }
 
   -- a route
   pub grown-route : (w : List ℕ) (t u : Tally) (out out′ : List ℕ) → Sane budget t → t .walks ≤ budget → isRoute v w ≡ true → length w ≤ 512 → Counted 1 1 (length w + 1) t u
       → out′ ≡ lays out (t .words) (length w ∷ w) → Grown v (w ∷ []) budget t u out out′
-  unfolding routesOf wordsOf
+  unfolding routesAmong wordsOf
   grown-route w t u out out′ h q e l k x = record {
     sane = record { capped = omega arith; fewer = omega arith; short = omega arith };
     grows = omega arith;
     beyond = λ p. omega arith;
-    counted = rw (e, routesOf, append-nil w) (λ p. rw add-one at k);
-    out-is = rw (e, routesOf, append-nil w) (λ p. x);
+    counted = rw (e, routesAmong, append-nil w) (λ p. rw add-one at k);
+    out-is = rw (e, routesAmong, append-nil w) (λ p. x);
   }
 
   -- some walks after others
@@ -77,11 +77,11 @@ module _ (v : ℕ → Object) (budget : ℕ) where
             let m = b .counted (omega arith) in
             record {
               walks-are = omega arith;
-              routes-are = rw (routes-append v ws ws′, length-append (routesOf v ws) (routesOf v ws′)) (omega arith);
-              words-are = rw (routes-append v ws ws′, words-append (routesOf v ws) (routesOf v ws′), length-append (wordsOf (routesOf v ws)) (wordsOf (routesOf v ws′))) (omega arith);
+              routes-are = rw (routes-append v ws ws′, length-append (routesAmong v ws) (routesAmong v ws′)) (omega arith);
+              words-are = rw (routes-append v ws ws′, words-append (routesAmong v ws) (routesAmong v ws′), length-append (wordsOf (routesAmong v ws)) (wordsOf (routesAmong v ws′))) (omega arith);
             };
         out-is = λ p.
             let k = a .counted (omega arith) in
-            rw (routes-append v ws ws′, words-append (routesOf v ws) (routesOf v ws′), lays-append out (t .words) (wordsOf (routesOf v ws)) (wordsOf (routesOf v ws′)), ← a .out-is (omega arith), ← k .words-are)
+            rw (routes-append v ws ws′, words-append (routesAmong v ws) (routesAmong v ws′), lays-append out (t .words) (wordsOf (routesAmong v ws)) (wordsOf (routesAmong v ws′)), ← a .out-is (omega arith), ← k .words-are)
             (b .out-is (omega arith));
       }

@@ -8,7 +8,7 @@ use Rattle.graph.specs.declared.Object.{Object}
 use Rattle.graph.specs.Objects.{linksOf, edgeLink}
 use Rattle.graph.specs.Links.{Joined}
 use Rattle.graph.proofs.Ways.{left-link, exits-left, edge-in}
-use Rattle.walks.specs.Legal.{Steps, FromStart, Walk}
+use Rattle.walks.specs.Legal.{Follows, FromStart, Walk}
 use Rattle.walks.proofs.Listed.{Traced}
 
 module _ (v : ℕ → Object) (Good : ℕ → Type 0) (joined : Joined v Good) where
@@ -26,15 +26,15 @@ module _ (v : ℕ → Object) (Good : ℕ → Type 0) (joined : Joined v Good) w
   pub enters-first : (start b : ℕ) → Good start → b ≡ edgeLink (v start) → ¬ (b ≡ 0) → Entered start b
   enters-first start b g e n = enters start b g (subst (λ (x : ℕ). List·Memᴰ x (linksOf (v start))) (sym e) (edge-in (v start) (λ z. n (e ∙ z)))) n
 
-  pub traced-steps : (w : List ℕ) (from a : ℕ) → Entered from a → Traced v from (a ∷ w) → Steps v from (a ∷ w)
-  unfolding Traced Steps
+  pub traced-steps : (w : List ℕ) (from a : ℕ) → Entered from a → Traced v from (a ∷ w) → Follows v from (a ∷ w)
+  unfolding Traced Follows
   traced-steps [] from a h t = tt
   traced-steps (b ∷ w) from a h t =
       let e = exits-left (v a) from b (joined .single a (h .place)) (h .link) (joined .placed from (h .origin)) .0 (t .0) in
       (e, t .1, traced-steps w a b (enters a b (h .place) (left-link (v a) from b e) (t .1)) (t .2))
 
-  pub steps-traced : (w : List ℕ) (from a : ℕ) → Entered from a → Steps v from (a ∷ w) → Traced v from (a ∷ w)
-  unfolding Traced Steps
+  pub steps-traced : (w : List ℕ) (from a : ℕ) → Entered from a → Follows v from (a ∷ w) → Traced v from (a ∷ w)
+  unfolding Traced Follows
   steps-traced [] from a h s = tt
   steps-traced (b ∷ w) from a h s = (
     exits-left (v a) from b (joined .single a (h .place)) (h .link) (joined .placed from (h .origin)) .1 (s .0),
@@ -42,8 +42,8 @@ module _ (v : ℕ → Object) (Good : ℕ → Type 0) (joined : Joined v Good) w
     steps-traced w a b (enters a b (h .place) (left-link (v a) from b (s .0)) (s .1)) (s .2),
   )
 
-  steps-good : (from a : ℕ) (w : List ℕ) (x : ℕ) → Good a → Steps v from (a ∷ w) → List·Memᴰ x (a ∷ w) → Good x
-  unfolding Steps
+  steps-good : (from a : ℕ) (w : List ℕ) (x : ℕ) → Good a → Follows v from (a ∷ w) → List·Memᴰ x (a ∷ w) → Good x
+  unfolding Follows
   steps-good from a [] x g s m = subst Good (sym (List·Memᴰ·eq-of-singleton m)) g
   steps-good from a (b ∷ w) x g s m =
       ⊎-elim (λ e. subst Good (sym e) g) (λ n. steps-good a b w x (joined .target a b g (left-link (v a) from b (s .0)) (s .1)) (s .2) n) (List·Memᴰ·cases-cons m)

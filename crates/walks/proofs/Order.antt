@@ -15,8 +15,8 @@ use Rattle.graph.specs.Objects.{linksOf, edgeLink, isBoundary}
 use Rattle.graph.specs.Ways.{onwardOf, legsOf, exitsOf}
 use Rattle.graph.specs.Links.{Single, Joined}
 use Rattle.graph.proofs.Ways.{not-left}
-use Rattle.walks.specs.Legal.{Steps, FromStart, Distinct, lastOf, Walk, Route, Parts}
-use Rattle.walks.specs.Walks.{has, each, walks, allWalks, isRoute, routesOf, allRoutes}
+use Rattle.walks.specs.Legal.{Follows, FromStart, NoneTwice, lastOf, Walk, Route, PartAtTurnout}
+use Rattle.walks.specs.Walks.{has, each, walks, allWalks, isRoute, routesAmong, allRoutes}
 use Rattle.walks.specs.All.{Ordered, Exactly, Number, AllRoutes}
 use Rattle.walks.proofs.Listed.{each-cases, Found, found}
 use Rattle.walks.proofs.Legal.{walk-good}
@@ -37,8 +37,8 @@ module _ {A : Type 0} (R : A → A → Type 0) where
     ordered-append a b (p .1) q (λ u y h k. c u y (List·Memᴰ·tail h) k),
   )
 
-  ordered-distinct : (l : List A) → Ordered R l → ((a : A) → List·Memᴰ a l → R a a → ⊥) → Distinct l
-  unfolding Ordered Distinct
+  ordered-distinct : (l : List A) → Ordered R l → ((a : A) → List·Memᴰ a l → R a a → ⊥) → NoneTwice l
+  unfolding Ordered NoneTwice
   ordered-distinct [] o n = tt
   ordered-distinct (a ∷ l) o n = ((λ m. n a (List·Memᴰ·head refl) (o .0 a m)), ordered-distinct l (o .1) (λ x m. n x (List·Memᴰ·tail m)))
 
@@ -51,7 +51,7 @@ module _ {A : Type 0} (R : A → A → Type 0) where
 module _ (v : ℕ → Object) where
   -- a is a beginning of b, or they part at a turnout, a by normal
   abbrev pub Before : List ℕ → List ℕ → Type 0
-  Before a b = Extends a b ⊎ Parts v a b
+  Before a b = Extends a b ⊎ PartAtTurnout v a b
 
   each-ordered : (f : ℕ → List (List ℕ)) (from to : ℕ) → ((x : ℕ) → Ordered Before (f x))
       → ((t : TurnoutLinks) → v to ≡ Turnout t → (x y : List ℕ) → List·Memᴰ x (f (t .normal)) → List·Memᴰ y (f (t .reverse)) → Before x y)
@@ -108,17 +108,17 @@ module _ (v : ℕ → Object) where
     walks-ordered k (start ∷ []) start (edgeLink (v start)),
   )
 
-  no-step : (from z : ℕ) (r : List ℕ) (x : ℕ) (w : List ℕ) → Steps v from ((z ∷ r) ++ (x ∷ w)) → isBoundary (v (lastOf (z ∷ r))) ≡ true → ⊥
-  unfolding Steps lastOf
+  no-step : (from z : ℕ) (r : List ℕ) (x : ℕ) (w : List ℕ) → Follows v from ((z ∷ r) ++ (x ∷ w)) → isBoundary (v (lastOf (z ∷ r))) ≡ true → ⊥
+  unfolding Follows lastOf
   no-step from z [] x w s e = not-left (v z) from x e (s .0)
   no-step from z (y ∷ r) x w s e = no-step z y r x w (s .2) e
 
-  ordered-routes : (ws : List (List ℕ)) → Ordered Before ws → Ordered Before (routesOf v ws)
-  unfolding Ordered routesOf
+  ordered-routes : (ws : List (List ℕ)) → Ordered Before ws → Ordered Before (routesAmong v ws)
+  unfolding Ordered routesAmong
   ordered-routes [] o = tt
   ordered-routes (w ∷ ws) o = go (isRoute v w) (ordered-routes ws (o .1))
     where
-      go : (b : Bool) → Ordered Before (routesOf v ws) → Ordered Before (cond b (w ∷ routesOf v ws) (routesOf v ws))
+      go : (b : Bool) → Ordered Before (routesAmong v ws) → Ordered Before (cond b (w ∷ routesAmong v ws) (routesAmong v ws))
       go true r = ((λ y m. o .0 y (route-cases v ws y m .0)), r)
       go false r = r
 
@@ -162,9 +162,9 @@ module _ (v : ℕ → Object) (Good : ℕ → Type 0) (joined : Joined v Good) (
   pub walks-counted : Number (Walk v start limit) (length (allWalks v start limit))
   walks-counted = record { all = allWalks v start limit; exactly = all-walks; count = refl }
 
-  routes-ordered : Ordered (Parts v) (allRoutes v start limit)
+  routes-ordered : Ordered (PartAtTurnout v) (allRoutes v start limit)
   routes-ordered =
-      ordered-map (Before v) (Parts v) (allRoutes v start limit) (ordered-routes v (allWalks v start limit) (all-ordered v start limit))
+      ordered-map (Before v) (PartAtTurnout v) (allRoutes v start limit) (ordered-routes v (allWalks v start limit) (all-ordered v start limit))
       (λ a b h k. ⊎-elim (λ e. absurd (no-extension v start limit a b (routes-sound v Good joined start limit good a h) (walks-sound v Good joined start limit good b (route-cases v (allWalks v start limit) b k .0)) e)) (λ p. p))
 
   -- THEOREM: the list of routes has all routes and nothing else, each once and in their order
@@ -173,7 +173,7 @@ module _ (v : ℕ → Object) (Good : ℕ → Type 0) (joined : Joined v Good) (
     exactly = record {
       sound = routes-sound v Good joined start limit good;
       complete = routes-complete v Good joined start limit good;
-      once = ordered-distinct (Parts v) (allRoutes v start limit) routes-ordered (λ a m p. no-self a (routes-sound v Good joined start limit good a m .walk) (inr p));
+      once = ordered-distinct (PartAtTurnout v) (allRoutes v start limit) routes-ordered (λ a m p. no-self a (routes-sound v Good joined start limit good a m .walk) (inr p));
     };
     ordered = routes-ordered;
   }

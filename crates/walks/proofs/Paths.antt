@@ -7,7 +7,7 @@ use mathlib.Core.Logic.{⊎-elim}
 use mathlib.Core.List.{List, [], _∷_, _++_, List·Memᴰ, List·Memᴰ·head, List·Memᴰ·tail, List·Memᴰ·not-nil, List·Memᴰ·cases-cons, Memᴰ·cast}
 use lib.Dec.{eqb}
 use borrow.Author.Tests.{ne-eqb, eqb-false}
-use Rattle.walks.specs.Legal.{Distinct}
+use Rattle.walks.specs.Legal.{NoneTwice}
 use Rattle.walks.specs.Walks.{has}
 
 pub or-false : (a b : Bool) → (a || b) ≡ false → (a ≡ false) × (b ≡ false)
@@ -52,8 +52,8 @@ abbrev pub Fresh : List ℕ → List ℕ → Type 0
 Fresh p [] = Unit {0}
 Fresh p (x ∷ w) = (has p x ≡ false) × Fresh (p ++ (x ∷ [])) w
 
-pub fresh-distinct : (p w : List ℕ) → Fresh p w → Distinct w × ((y : ℕ) → List·Memᴰ y w → has p y ≡ false)
-unfolding Distinct
+pub fresh-distinct : (p w : List ℕ) → Fresh p w → NoneTwice w × ((y : ℕ) → List·Memᴰ y w → has p y ≡ false)
+unfolding NoneTwice
 fresh-distinct p [] f = (tt, λ y m. absurd (List·Memᴰ·not-nil m))
 fresh-distinct p (x ∷ w) f =
     let r = fresh-distinct (p ++ (x ∷ [])) w (f .1) in (
@@ -61,8 +61,8 @@ fresh-distinct p (x ∷ w) f =
       λ y m. ⊎-elim (λ e. subst (λ (z : ℕ). has p z ≡ false) (sym e) (f .0)) (λ n. snoc-has p x y (r .1 y n) .0) (List·Memᴰ·cases-cons m),
     )
 
-pub distinct-fresh : (p w : List ℕ) → Distinct w → ((y : ℕ) → List·Memᴰ y w → has p y ≡ false) → Fresh p w
-unfolding Distinct
+pub distinct-fresh : (p w : List ℕ) → NoneTwice w → ((y : ℕ) → List·Memᴰ y w → has p y ≡ false) → Fresh p w
+unfolding NoneTwice
 distinct-fresh p [] d h = tt
 distinct-fresh p (x ∷ w) d h = (
   h x (List·Memᴰ·head refl),

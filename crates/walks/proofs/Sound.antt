@@ -13,8 +13,8 @@ use borrow.Author.Tests.{ne-eqb, eqb-false, ltb-true, lt-ltb}
 use Rattle.graph.specs.declared.Object.{Object}
 use Rattle.graph.specs.Objects.{edgeLink, isBoundary}
 use Rattle.graph.specs.Links.{Joined}
-use Rattle.walks.specs.Legal.{FromStart, Distinct, lastOf, Walk, Route}
-use Rattle.walks.specs.Walks.{has, walks, allWalks, isRoute, routesOf, allRoutes}
+use Rattle.walks.specs.Legal.{FromStart, NoneTwice, lastOf, Walk, Route}
+use Rattle.walks.specs.Walks.{has, walks, allWalks, isRoute, routesAmong, allRoutes}
 use Rattle.walks.proofs.Paths.{or-false, and-true, fresh-distinct, distinct-fresh}
 use Rattle.walks.proofs.Listed.{Goes, found, listed}
 use Rattle.walks.proofs.Legal.{enters-first, traced-steps, steps-traced}
@@ -29,36 +29,36 @@ unfolding has
 not-there start e = eqb-false start start (or-false (eqb start start) false e .0) refl
 
 module _ (v : ℕ → Object) where
-  pub route-cases : (ws : List (List ℕ)) (w : List ℕ) → List·Memᴰ w (routesOf v ws) → List·Memᴰ w ws × (isRoute v w ≡ true)
-  unfolding routesOf
+  pub route-cases : (ws : List (List ℕ)) (w : List ℕ) → List·Memᴰ w (routesAmong v ws) → List·Memᴰ w ws × (isRoute v w ≡ true)
+  unfolding routesAmong
   route-cases [] w m = absurd (List·Memᴰ·not-nil m)
   route-cases (x ∷ ws) w m = go (isRoute v x) refl m (λ h. route-cases ws w h)
     where
-      go : (b : Bool) → isRoute v x ≡ b → List·Memᴰ w (cond b (x ∷ routesOf v ws) (routesOf v ws))
-          → (List·Memᴰ w (routesOf v ws) → List·Memᴰ w ws × (isRoute v w ≡ true)) → List·Memᴰ w (x ∷ ws) × (isRoute v w ≡ true)
+      go : (b : Bool) → isRoute v x ≡ b → List·Memᴰ w (cond b (x ∷ routesAmong v ws) (routesAmong v ws))
+          → (List·Memᴰ w (routesAmong v ws) → List·Memᴰ w ws × (isRoute v w ≡ true)) → List·Memᴰ w (x ∷ ws) × (isRoute v w ≡ true)
       go true e h rec = ⊎-elim (λ q. (List·Memᴰ·head q, ap (isRoute v) q ∙ e)) (λ n. let r = rec n in (List·Memᴰ·tail (r .0), r .1)) (List·Memᴰ·cases-cons h)
       go false e h rec = let r = rec h in (List·Memᴰ·tail (r .0), r .1)
 
-  route-in : (ws : List (List ℕ)) (w : List ℕ) → List·Memᴰ w ws → isRoute v w ≡ true → List·Memᴰ w (routesOf v ws)
-  unfolding routesOf
+  route-in : (ws : List (List ℕ)) (w : List ℕ) → List·Memᴰ w ws → isRoute v w ≡ true → List·Memᴰ w (routesAmong v ws)
+  unfolding routesAmong
   route-in [] w m e = absurd (List·Memᴰ·not-nil m)
   route-in (x ∷ ws) w m e = go (isRoute v x) refl (λ h. route-in ws w h e) (List·Memᴰ·cases-cons m)
     where
-      go : (b : Bool) → isRoute v x ≡ b → (List·Memᴰ w ws → List·Memᴰ w (routesOf v ws)) → (w ≡ x) ⊎ List·Memᴰ w ws → List·Memᴰ w (cond b (x ∷ routesOf v ws) (routesOf v ws))
+      go : (b : Bool) → isRoute v x ≡ b → (List·Memᴰ w ws → List·Memᴰ w (routesAmong v ws)) → (w ≡ x) ⊎ List·Memᴰ w ws → List·Memᴰ w (cond b (x ∷ routesAmong v ws) (routesAmong v ws))
       go true q rec c = ⊎-elim (λ h. List·Memᴰ·head h) (λ h. List·Memᴰ·tail (rec h)) c
       go false q rec c = ⊎-elim (λ h. absurd (true≢false (sym e ∙ ap (isRoute v) h ∙ q))) rec c
 
 module _ (v : ℕ → Object) (Good : ℕ → Type 0) (joined : Joined v Good) (start limit : ℕ) (good : Good start) where
   -- THEOREM: what is listed is a partial walk
   pub walks-sound : (w : List ℕ) → List·Memᴰ w (allWalks v start limit) → Walk v start limit w
-  unfolding allWalks FromStart Distinct
+  unfolding allWalks FromStart NoneTwice
   walks-sound w m = go limit m
     where
       go : (n : ℕ) → List·Memᴰ w (allWalks v start n) → Walk v start n w
       go zero m = absurd (List·Memᴰ·not-nil m)
       go (suc k) m =
           ⊎-elim
-          (λ e. record { rest = []; is = e; led = tt; once = subst (λ (l : List ℕ). Distinct l) (sym e) ((λ n. List·Memᴰ·not-nil n), tt); short = rw e (omega arith) })
+          (λ e. record { rest = []; is = e; led = tt; once = subst (λ (l : List ℕ). NoneTwice l) (sym e) ((λ n. List·Memᴰ·not-nil n), tt); short = rw e (omega arith) })
           (λ h.
           let g = found v k (start ∷ []) start (edgeLink (v start)) w h in
           let d = fresh-distinct (start ∷ []) (edgeLink (v start) ∷ g .after) (g .goes .fresh) in
@@ -67,17 +67,17 @@ module _ (v : ℕ → Object) (Good : ℕ → Type 0) (joined : Joined v Good) (
             rest = edgeLink (v start) ∷ g .after;
             is = g .is;
             led = (refl, g .goes .some, traced-steps v Good joined (g .after) start (edgeLink (v start)) e (g .goes .traced));
-            once = subst (λ (l : List ℕ). Distinct l) (sym (g .is)) ((λ n. not-there start (d .1 start n)), d .0);
+            once = subst (λ (l : List ℕ). NoneTwice l) (sym (g .is)) ((λ n. not-there start (d .1 start n)), d .0);
             short = rw (g .is) (let s = g .goes .short in omega arith);
           })
           (List·Memᴰ·cases-cons m)
 
   -- THEOREM: a partial walk is listed
   pub walks-complete : (w : List ℕ) → Walk v start limit w → List·Memᴰ w (allWalks v start limit)
-  unfolding allWalks FromStart Distinct
+  unfolding allWalks FromStart NoneTwice
   walks-complete w h = subst (λ (l : List ℕ). List·Memᴰ l (allWalks v start limit)) (sym (h .is)) (go limit (h .rest) (h .led) (rw (h .is) at (h .once)) (rw (h .is) at (h .short)))
     where
-      go : (n : ℕ) (r : List ℕ) → FromStart v start r → Distinct (start ∷ r) → length (start ∷ r) ≤ n → List·Memᴰ (start ∷ r) (allWalks v start n)
+      go : (n : ℕ) (r : List ℕ) → FromStart v start r → NoneTwice (start ∷ r) → length (start ∷ r) ≤ n → List·Memᴰ (start ∷ r) (allWalks v start n)
       go zero r f d l = absurd (not-suc-le-zero l)
       go (suc k) [] f d l = List·Memᴰ·head refl
       go (suc k) (b ∷ w′) f d l =

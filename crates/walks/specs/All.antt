@@ -5,7 +5,7 @@ use mathlib.Core.Path.{_≡_}
 use mathlib.Core.List.{List, [], _∷_, List·Memᴰ}
 use lib.ListN.{length}
 use Rattle.graph.specs.declared.Object.{Object}
-use Rattle.walks.specs.Legal.{Distinct, Route, Parts}
+use Rattle.walks.specs.Legal.{NoneTwice, Route, PartAtTurnout}
 
 -- R holds of each element and every later one
 unfoldable pub Ordered : {A : Type 0} → (A → A → Type 0) → List A → Type 0
@@ -19,7 +19,7 @@ pub record Exactly (P : List ℕ → Type 0) (ws : List (List ℕ)) : Type 0 whe
   -- none is missing
   pub complete : (w : List ℕ) → P w → List·Memᴰ w ws
   -- none stands twice
-  pub once : Distinct ws
+  pub once : NoneTwice ws
 
 -- P holds of n lists
 pub record Number (P : List ℕ → Type 0) (n : ℕ) : Type 0 where
@@ -31,4 +31,4 @@ pub record Number (P : List ℕ → Type 0) (n : ℕ) : Type 0 where
 -- part stands first
 pub record AllRoutes (v : ℕ → Object) (start limit : ℕ) (ws : List (List ℕ)) : Type 0 where
   pub exactly : Exactly (Route v start limit) ws
-  pub ordered : Ordered (Parts v) ws
+  pub ordered : Ordered (PartAtTurnout v) ws

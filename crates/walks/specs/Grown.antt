@@ -6,7 +6,7 @@ use mathlib.Core.List.{List}
 use lib.ListN.{length}
 use Rattle.graph.specs.declared.Object.{Object}
 use Rattle.walks.specs.declared.Tally.{Tally}
-use Rattle.walks.specs.Walks.{routesOf, wordsOf}
+use Rattle.walks.specs.Walks.{routesAmong, wordsOf}
 use Rattle.walks.specs.Lent.{lays}
 
 -- the least and the highest limit and budget
@@ -42,5 +42,5 @@ pub record Grown (v : ℕ → Object) (ws : List (List ℕ)) (budget : ℕ) (t r
   pub sane : Sane budget r
   pub grows : t .walks ≤ r .walks
   pub beyond : budget < t .walks + length ws → budget < r .walks
-  pub counted : t .walks + length ws ≤ budget → Counted (length ws) (length (routesOf v ws)) (length (wordsOf (routesOf v ws))) t r
-  pub out-is : t .walks + length ws ≤ budget → out′ ≡ lays out (t .words) (wordsOf (routesOf v ws))
+  pub counted : t .walks + length ws ≤ budget → Counted (length ws) (length (routesAmong v ws)) (length (wordsOf (routesAmong v ws))) t r
+  pub out-is : t .walks + length ws ≤ budget → out′ ≡ lays out (t .words) (wordsOf (routesAmong v ws))

@@ -13,20 +13,20 @@ use Rattle.graph.specs.Ways.{LeftBy}
 
 -- Each object after the first is named by a link by which the one before it is left, as that was entered; the first was entered from
 -- `from`. Link 0 ends the way.
-unfoldable pub Steps : (ℕ → Object) → ℕ → List ℕ → Type 0
-Steps v from [] = Unit {0}
-Steps v from (a ∷ []) = Unit {0}
-Steps v from (a ∷ b ∷ w) = LeftBy (v a) from b × (¬ (b ≡ 0)) × Steps v a (b ∷ w)
+unfoldable pub Follows : (ℕ → Object) → ℕ → List ℕ → Type 0
+Follows v from [] = Unit {0}
+Follows v from (a ∷ []) = Unit {0}
+Follows v from (a ∷ b ∷ w) = LeftBy (v a) from b × (¬ (b ≡ 0)) × Follows v a (b ∷ w)
 
 -- what follows the boundary asked for, which is left by its link
 unfoldable pub FromStart : (ℕ → Object) → ℕ → List ℕ → Type 0
 FromStart v start [] = Unit {0}
-FromStart v start (b ∷ w) = (b ≡ edgeLink (v start)) × (¬ (b ≡ 0)) × Steps v start (b ∷ w)
+FromStart v start (b ∷ w) = (b ≡ edgeLink (v start)) × (¬ (b ≡ 0)) × Follows v start (b ∷ w)
 
 -- nothing stands twice
-unfoldable pub Distinct : {A : Type 0} → List A → Type 0
-Distinct [] = Unit {0}
-Distinct (a ∷ w) = (¬ List·Memᴰ a w) × Distinct w
+unfoldable pub NoneTwice : {A : Type 0} → List A → Type 0
+NoneTwice [] = Unit {0}
+NoneTwice (a ∷ w) = (¬ List·Memᴰ a w) × NoneTwice w
 
 -- the last of a list
 unfoldable pub lastOf : List ℕ → ℕ
@@ -41,7 +41,7 @@ pub record Walk (v : ℕ → Object) (start limit : ℕ) (w : List ℕ) : Type 0
   pub is : w ≡ start ∷ rest
   pub led : FromStart v start rest
   -- no object stands twice
-  pub once : Distinct w
+  pub once : NoneTwice w
   -- the list has at most the limit of objects
   pub short : length w ≤ limit
 
@@ -52,7 +52,7 @@ pub record Route (v : ℕ → Object) (start limit : ℕ) (w : List ℕ) : Type 
   pub ends : isBoundary (v (lastOf w)) ≡ true
 
 -- a and b part at the turnout `at`: they are the same up to it, and a leaves it by normal and b by reverse
-pub record Parts (v : ℕ → Object) (a b : List ℕ) : Type 0 where
+pub record PartAtTurnout (v : ℕ → Object) (a b : List ℕ) : Type 0 where
   pub same : List ℕ
   pub at : ℕ
   pub links : TurnoutLinks

@@ -41,13 +41,13 @@ unfoldable pub isRoute : (ℕ → Object) → List ℕ → Bool
 isRoute v w = ltb 1 (length w) && isBoundary (v (lastOf w))
 
 -- the routes among some walks
-unfoldable pub routesOf : (ℕ → Object) → List (List ℕ) → List (List ℕ)
-routesOf v [] = []
-routesOf v (w ∷ ws) = cond (isRoute v w) (w ∷ routesOf v ws) (routesOf v ws)
+unfoldable pub routesAmong : (ℕ → Object) → List (List ℕ) → List (List ℕ)
+routesAmong v [] = []
+routesAmong v (w ∷ ws) = cond (isRoute v w) (w ∷ routesAmong v ws) (routesAmong v ws)
 
 -- every route from the boundary `start`
 abbrev pub allRoutes : (ℕ → Object) → ℕ → ℕ → List (List ℕ)
-allRoutes v start limit = routesOf v (allWalks v start limit)
+allRoutes v start limit = routesAmong v (allWalks v start limit)
 
 -- the words of some routes: each one's object count, and then the offsets
 unfoldable pub wordsOf : List (List ℕ) → List ℕ

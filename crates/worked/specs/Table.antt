@@ -8,14 +8,15 @@ use lib.ListN.{length}
 use Rattle.checksum.specs.Checksum.{checksumOf, checksumFrom, byteStep, bitSteps, bitStep, step}
 use Rattle.octets.specs.Octets.{numAt, signed, signedAt}
 use Rattle.rounding.specs.Nearest.{nearestOf, exactOf, coordinateOf}
-use Rattle.layout.specs.Layout.{layoutOf, orNext, sidingsFrom, jointsFrom, signalsFrom, balisesFrom, groupEnd, turnoutsEnd, balisesEnd, signalsEnd, jointsEnd}
+use Rattle.layout.specs.Layout.{layoutOf}
+use Rattle.layout.specs.Groups.{groupsFrom, nextStart, groupEnd, groupEnds}
 use Rattle.layout.specs.Records.{kindAt}
 use Rattle.graph.specs.declared.Object.{Object}
 use Rattle.graph.specs.Objects.{viewAt, objectAt}
 use Rattle.graph.specs.Ways.{onwardOf, legsOf, exitsOf}
 use Rattle.walks.specs.declared.Tally.{Tally}
 use Rattle.walks.specs.Legal.{lastOf}
-use Rattle.walks.specs.Walks.{has, each, walks, allWalks, isRoute, routesOf, allRoutes, wordsOf}
+use Rattle.walks.specs.Walks.{has, each, walks, allWalks, isRoute, routesAmong, allRoutes, wordsOf}
 use Rattle.routes.specs.Answered.{tallyOf}
 
 pub data Case : Type 0 where
@@ -81,5 +82,5 @@ table =
 
 -- THEOREM: every case of the table holds.
 pub worked : All table
-unfolding checksumOf checksumFrom byteStep bitSteps bitStep step numAt signed signedAt coordinateOf exactOf nearestOf layoutOf orNext sidingsFrom jointsFrom signalsFrom balisesFrom groupEnd turnoutsEnd balisesEnd signalsEnd jointsEnd kindAt viewAt objectAt onwardOf legsOf exitsOf lastOf has each walks allWalks isRoute routesOf wordsOf tallyOf
+unfolding checksumOf checksumFrom byteStep bitSteps bitStep step numAt signed signedAt coordinateOf exactOf nearestOf layoutOf groupsFrom nextStart groupEnd groupEnds kindAt viewAt objectAt onwardOf legsOf exitsOf lastOf has each walks allWalks isRoute routesAmong wordsOf tallyOf
 worked = (refl, (refl, (refl, (refl, (refl, (refl, (refl, (refl, (refl, ((refl, refl), ((refl, refl), ((refl, refl), tt))))))))))))

@@ -1,4 +1,4 @@
--- An accepted X.2 file's links, in the form that the routes need: `Place` is what a link may name.
+-- An accepted X.2 file's links, in the form that the routes need: `Target` is what a link may name.
 -- Assumes nothing.
 use Prim.Native.Nat.{ℕ, _≤_, _<_}
 use native.Mathlib.Omega.{arith}
@@ -13,7 +13,7 @@ use Rattle.layout.specs.declared.Layout.{Layout}
 use Rattle.layout.specs.Records.{kindAt, starts}
 use Rattle.layout.specs.Regions.{Regions}
 use Rattle.layout.proofs.Starts.{start-least}
-use Rattle.links.specs.Obeys.{Linkable, Place, LinksTo, Distinct, TargetsObey, ReturnsObey}
+use Rattle.links.specs.Obeys.{Linkable, Target, LinksTo, Distinct, TargetsObey, ReturnsObey}
 use Rattle.graph.specs.Objects.{viewAt, objectAt, linksOf, isBoundary, offsetMost, boundaryAt}
 use Rattle.graph.specs.Links.{Single, Joined}
 use Rattle.graph.proofs.Places.{links-are, boundary-iff}
@@ -30,12 +30,12 @@ module _ (f : List ℕ) (l : Layout) (r : Regions f l) (t : TargetsObey f l) (u 
   placed-link : (at x : ℕ) → List·Memᴰ x (linksOf (objectAt f l at)) → (p : ℕ) × List·Memᴰ p (linkPlaces (kindAt l at) at) × (numAt 2 f p ≡ x)
   placed-link at x m = Memᴰ·of-map (numAt 2 f) (linkPlaces (kindAt l at) at) (rw (links-are f l at) at m)
 
-  goal : (at x : ℕ) → Place f l at → List·Memᴰ x (linksOf (objectAt f l at)) → ¬ (x ≡ 0) → Place f l x
+  goal : (at x : ℕ) → Target f l at → List·Memᴰ x (linksOf (objectAt f l at)) → ¬ (x ≡ 0) → Target f l x
   goal at x g m n =
       let q = placed-link at x m in
-      subst (Place f l) (q .2) (t .places at (g .record-there) (q .0) (q .1) (λ z. n (sym (q .2) ∙ z)))
+      subst (Target f l) (q .2) (t .places at (g .record-there) (q .0) (q .1) (λ z. n (sym (q .2) ∙ z)))
 
-  back : (at x : ℕ) → Place f l at → List·Memᴰ x (linksOf (objectAt f l at)) → ¬ (x ≡ 0) → List·Memᴰ at (linksOf (objectAt f l x))
+  back : (at x : ℕ) → Target f l at → List·Memᴰ x (linksOf (objectAt f l at)) → ¬ (x ≡ 0) → List·Memᴰ at (linksOf (objectAt f l x))
   back at x g m n =
       let q = placed-link at x m in
       let b = u .returned at (g .record-there) (q .0) (q .1) (λ z. n (sym (q .2) ∙ z)) in
@@ -43,7 +43,7 @@ module _ (f : List ℕ) (l : Layout) (r : Regions f l) (t : TargetsObey f l) (u 
       (rw (links-are f l (numAt 2 f (q .0))) (Memᴰ·cast (sym (b .names)) (Memᴰ·map (numAt 2 f) (b .its-link))))
 
   -- THEOREM
-  pub joined : Joined (objectAt f l) (Place f l)
+  pub joined : Joined (objectAt f l) (Target f l)
   joined = record {
     placed = λ at g z. let h = start-least f l r at (g .record-there) in omega (arith, r .header);
     target = goal;
@@ -62,6 +62,6 @@ module _ (f : List ℕ) (l : Layout) (r : Regions f l) (t : TargetsObey f l) (u 
   may-boundary kind.Siding x e = absurd (true≢false (sym e))
 
   -- THEOREM: a boundary is such a place
-  pub boundary-place : l .stop ≤ offsetMost → (x : ℕ) → boundaryAt l x ≡ true → Place f l x
+  pub boundary-place : l .stop ≤ offsetMost → (x : ℕ) → boundaryAt l x ≡ true → Target f l x
   unfolding objectAt
   boundary-place small x e = let h = boundary-iff f l x r small .0 e in record { record-there = h .0; may = may-boundary (kindAt l x) x (h .1) }

@@ -21,7 +21,7 @@ use Rattle.layout.specs.Layout.{layoutOf}
 use Rattle.layout.specs.Regions.{Regions}
 use Rattle.layout.proofs.Regions.{regions}
 use Rattle.layout.proofs.Bounds.{regions-bounded}
-use Rattle.links.specs.Obeys.{Place}
+use Rattle.links.specs.Obeys.{Target}
 use Rattle.application.specs.Facts.{verdictOf}
 use Rattle.application.specs.Obeys.{Obeys}
 use Rattle.application.proofs.Questions.{verdict-obeys}
@@ -39,7 +39,7 @@ use Rattle.routes.specs.Answered.{limitOf, refusedFor, judged, answerAt, answer
 use Rattle.routes.specs.Listing.{Within, Listing}
 use Rattle.routes.proofs.Listing.{listing, question-iff, steps-iff, kept}
 use Rattle.routes.proofs.Listing.{no-room-iff as room-iff}
-use Rattle.yard.specs.Routes.{routesOf, leftOf}
+use Rattle.yard.specs.Routes.{routesAsked, leftAsked}
 use Rattle.yard.proofs.Links.{joined, boundary-place}
 
 -- only from a boundary is anything else answered than 13
@@ -55,8 +55,8 @@ keeps (verdict.Refused t) f start limit budget out u e = refl
 keeps verdict.Accepted f start limit budget out u e = kept (objectAt f (layoutOf f)) (boundaryAt (layoutOf f) start) start limit budget out u e
 
 -- THEOREM: a refusal leaves every byte lent as it was
-pub refused-keeps : (f : List ℕ) (start limit budget : ℕ) (out : List ℕ) (u : Fault) → routesOf f start limit budget (roomOf out) ≡ Refused u → leftOf f start limit budget out ≡ out
-unfolding routesOf leftOf
+pub refused-keeps : (f : List ℕ) (start limit budget : ℕ) (out : List ℕ) (u : Fault) → routesAsked f start limit budget (roomOf out) ≡ Refused u → leftAsked f start limit budget out ≡ out
+unfolding routesAsked leftAsked
 refused-keeps f start limit budget out u e = keeps (verdictOf f) f start limit budget out u e
 
 module _ (f : List ℕ) (e : verdictOf f ≡ verdict.Accepted) where
@@ -69,38 +69,38 @@ module _ (f : List ℕ) (e : verdictOf f ≡ verdict.Accepted) where
   small : layoutOf f .stop ≤ offsetMost
   small = regions-bounded f (layoutOf f) whole (obeys .most) .stop
 
-  linked : Joined (objectAt f (layoutOf f)) (Place f (layoutOf f))
+  linked : Joined (objectAt f (layoutOf f)) (Target f (layoutOf f))
   linked = joined f (layoutOf f) whole (obeys .targets) (obeys .returns)
 
-  place : (x : ℕ) → boundaryAt (layoutOf f) x ≡ true → Place f (layoutOf f) x
+  place : (x : ℕ) → boundaryAt (layoutOf f) x ≡ true → Target f (layoutOf f) x
   place x b = boundary-place f (layoutOf f) whole (obeys .targets) (obeys .returns) small x b
 
-  asked-is : (start limit budget room : ℕ) → routesOf f start limit budget room ≡ answerIn f (layoutOf f) start limit budget room
-  unfolding routesOf
+  asked-is : (start limit budget room : ℕ) → routesAsked f start limit budget room ≡ answerIn f (layoutOf f) start limit budget room
+  unfolding routesAsked
   asked-is start limit budget room = no-fault Refused (verdictOf f) _ e
 
-  left-is : (start limit budget : ℕ) (out : List ℕ) → leftOf f start limit budget out ≡ leftIn f (layoutOf f) start limit budget out
-  unfolding leftOf
+  left-is : (start limit budget : ℕ) (out : List ℕ) → leftAsked f start limit budget out ≡ leftIn f (layoutOf f) start limit budget out
+  unfolding leftAsked
   left-is start limit budget out = no-fault (λ (t : Fault). out) (verdictOf f) _ e
 
   -- THEOREM: an answer lists every legal route once, in order, and nothing else
-  pub listed : (start limit budget : ℕ) (out : List ℕ) (t : Tally) → routesOf f start limit budget (roomOf out) ≡ Listed t
-      → Listing (objectAt f (layoutOf f)) start (limitOf limit) budget t out (leftOf f start limit budget out)
+  pub listed : (start limit budget : ℕ) (out : List ℕ) (t : Tally) → routesAsked f start limit budget (roomOf out) ≡ Listed t
+      → Listing (objectAt f (layoutOf f)) start (limitOf limit) budget t out (leftAsked f start limit budget out)
   listed start limit budget out t q =
       let a = sym (asked-is start limit budget (roomOf out)) ∙ q in
       let b = from-boundary (objectAt f (layoutOf f)) (boundaryAt (layoutOf f) start) start limit budget (roomOf out) (Listed t) a (λ z. omega arith) in
       subst⁻¹ (Listing (objectAt f (layoutOf f)) start (limitOf limit) budget t out) (left-is start limit budget out)
-      (listing (objectAt f (layoutOf f)) (Place f (layoutOf f)) linked start (place start b) (boundaryAt (layoutOf f) start) limit budget out t a)
+      (listing (objectAt f (layoutOf f)) (Target f (layoutOf f)) linked start (place start b) (boundaryAt (layoutOf f) start) limit budget out t a)
 
   -- THEOREM: 13 exactly where the question is not in range
-  pub out-of-range-iff : (start limit budget room : ℕ) → (routesOf f start limit budget room ≡ refusedFor Question) ↔ (¬ Within (boundaryAt (layoutOf f) start) (limitOf limit) budget)
+  pub out-of-range-iff : (start limit budget room : ℕ) → (routesAsked f start limit budget room ≡ refusedFor Question) ↔ (¬ Within (boundaryAt (layoutOf f) start) (limitOf limit) budget)
   out-of-range-iff start limit budget room =
       rw (asked-is start limit budget room) (question-iff (objectAt f (layoutOf f)) (boundaryAt (layoutOf f) start) start limit budget room)
 
   -- a refusal that is answered from a boundary alone, exactly where B holds
   from-start : (start limit budget room : ℕ) (u : Reason) (B : Type 0) → ¬ (numberOf u ≡ 13) → (B → boundaryAt (layoutOf f) start ≡ true)
       → (boundaryAt (layoutOf f) start ≡ true → (answerIn f (layoutOf f) start limit budget room ≡ refusedFor u) ↔ B)
-      → (routesOf f start limit budget room ≡ refusedFor u) ↔ B
+      → (routesAsked f start limit budget room ≡ refusedFor u) ↔ B
   from-start start limit budget room u B n b h =
       rw (asked-is start limit budget room) (
         (λ e. h (from-boundary (objectAt f (layoutOf f)) (boundaryAt (layoutOf f) start) start limit budget room (refusedFor u) e n) .0 e),
@@ -109,15 +109,15 @@ module _ (f : List ℕ) (e : verdictOf f ≡ verdict.Accepted) where
 
   module _ (start limit budget room n : ℕ) (number : Number (Walk (objectAt f (layoutOf f)) start (limitOf limit)) n) where
     -- THEOREM: 14 exactly where the question is in range and the legal partial walks outnumber the budget
-    pub too-many-iff : (routesOf f start limit budget room ≡ refusedFor Steps) ↔ (Within (boundaryAt (layoutOf f) start) (limitOf limit) budget × (budget < n))
+    pub too-many-iff : (routesAsked f start limit budget room ≡ refusedFor Steps) ↔ (Within (boundaryAt (layoutOf f) start) (limitOf limit) budget × (budget < n))
     too-many-iff =
         from-start start limit budget room Steps (Within (boundaryAt (layoutOf f) start) (limitOf limit) budget × (budget < n)) (λ z. omega arith) (λ p. p .0 .boundary)
-        (λ b. steps-iff (objectAt f (layoutOf f)) (Place f (layoutOf f)) linked start (place start b) (boundaryAt (layoutOf f) start) limit budget room n number)
+        (λ b. steps-iff (objectAt f (layoutOf f)) (Target f (layoutOf f)) linked start (place start b) (boundaryAt (layoutOf f) start) limit budget room n number)
 
     -- THEOREM: 15 exactly where the question is in range, the legal partial walks are at most the budget, and the words of all legal routes are
     -- more than find room
     pub no-room-iff : (routes : List (List ℕ)) → Exactly (Route (objectAt f (layoutOf f)) start (limitOf limit)) routes
-        → (routesOf f start limit budget room ≡ refusedFor Room) ↔ (Within (boundaryAt (layoutOf f) start) (limitOf limit) budget × (n ≤ budget) × (room < length (wordsOf routes)))
+        → (routesAsked f start limit budget room ≡ refusedFor Room) ↔ (Within (boundaryAt (layoutOf f) start) (limitOf limit) budget × (n ≤ budget) × (room < length (wordsOf routes)))
     no-room-iff routes exactly =
         from-start start limit budget room Room (Within (boundaryAt (layoutOf f) start) (limitOf limit) budget × (n ≤ budget) × (room < length (wordsOf routes))) (λ z. omega arith) (λ p. p .0 .boundary)
-        (λ b. room-iff (objectAt f (layoutOf f)) (Place f (layoutOf f)) linked start (place start b) (boundaryAt (layoutOf f) start) limit budget room n number routes exactly)
+        (λ b. room-iff (objectAt f (layoutOf f)) (Target f (layoutOf f)) linked start (place start b) (boundaryAt (layoutOf f) start) limit budget room n number routes exactly)

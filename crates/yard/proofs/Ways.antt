@@ -13,23 +13,23 @@ use Rattle.application.specs.Facts.{verdictOf}
 use Rattle.routes.specs.declared.RoutesAnswer.{RoutesAnswer}
 use Rattle.routes.specs.declared.RoutesAnswer.the-variants.{Refused}
 use Rattle.routes.specs.Answered.{answerIn, leftIn}
-use Rattle.yard.specs.Routes.{routesOf, leftOf}
+use Rattle.yard.specs.Routes.{routesAsked, leftAsked}
 
 module _ (f : List ℕ) (start limit budget : ℕ) (v : Verdict) (p : v ≡ verdictOf f) where
-  pub fault-keeps : (t : Fault) → v ≡ verdict.Refused t → (out : List ℕ) → out ≡ leftOf f start limit budget out
-  unfolding leftOf
+  pub fault-keeps : (t : Fault) → v ≡ verdict.Refused t → (out : List ℕ) → out ≡ leftAsked f start limit budget out
+  unfolding leftAsked
   fault-keeps t e out = sym (fault-is (λ (u : Fault). out) (verdictOf f) t _ (sym p ∙ e))
 
   module _ (e : v ≡ verdict.Accepted) (l : Layout) (i : l ≡ layoutOf f) where
-    pub answered : (room : ℕ) (r : RoutesAnswer) → r ≡ answerIn f l start limit budget room → r ≡ routesOf f start limit budget room
-    unfolding routesOf
+    pub answered : (room : ℕ) (r : RoutesAnswer) → r ≡ answerIn f l start limit budget room → r ≡ routesAsked f start limit budget room
+    unfolding routesAsked
     answered room r q =
         q
         ∙ ap (λ (k : Layout). answerIn f k start limit budget room) i
         ∙ sym (no-fault Refused (verdictOf f) _ (sym p ∙ e))
 
-    pub written : (out after : List ℕ) → after ≡ leftIn f l start limit budget out → after ≡ leftOf f start limit budget out
-    unfolding leftOf
+    pub written : (out after : List ℕ) → after ≡ leftIn f l start limit budget out → after ≡ leftAsked f start limit budget out
+    unfolding leftAsked
     written out after q =
         q
         ∙ ap (λ (k : Layout). leftIn f k start limit budget out) i

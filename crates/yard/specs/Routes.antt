@@ -11,8 +11,8 @@ use Rattle.routes.specs.declared.RoutesAnswer.the-variants.{Refused}
 use Rattle.routes.specs.Answered.{answerIn, leftIn}
 
 -- the answer with room for some words, and the bytes lent after it
-unfoldable pub routesOf : List ℕ → ℕ → ℕ → ℕ → ℕ → RoutesAnswer
-routesOf f start limit budget room = afterVerdict Refused (verdictOf f) (answerIn f (layoutOf f) start limit budget room)
+unfoldable pub routesAsked : List ℕ → ℕ → ℕ → ℕ → ℕ → RoutesAnswer
+routesAsked f start limit budget room = afterVerdict Refused (verdictOf f) (answerIn f (layoutOf f) start limit budget room)
 
-unfoldable pub leftOf : List ℕ → ℕ → ℕ → ℕ → List ℕ → List ℕ
-leftOf f start limit budget out = afterVerdict (λ t. out) (verdictOf f) (leftIn f (layoutOf f) start limit budget out)
+unfoldable pub leftAsked : List ℕ → ℕ → ℕ → ℕ → List ℕ → List ℕ
+leftAsked f start limit budget out = afterVerdict (λ t. out) (verdictOf f) (leftIn f (layoutOf f) start limit budget out)

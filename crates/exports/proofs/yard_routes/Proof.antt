@@ -4,7 +4,7 @@ use mathlib.Core.Path.{ap, _∙_}
 use Rattle.walks.specs.Lent.{roomOf}
 use Rattle.routes.specs.declared.RoutesAnswer.{RoutesAnswer}
 use Rattle.routes.specs.Answered.{routesAnswer}
-use Rattle.yard.specs.Routes.{routesOf}
+use Rattle.yard.specs.Routes.{routesAsked}
 use Rattle.exports.specs.Shown.{shown, leaves}
 use Rattle.exports.proofs.Ways.{scrap-shown, scrap-leaves, scrap-words, listed-words}
 use borrow.Author.Needs.{needs}
@@ -27,7 +27,7 @@ returns : tie.Need-returns
 returns c =
     let a = c .before .before .before .before .before .before .before .before .before .before .before .args in
     let h = c .before .before .before .before .before .before .before .if1 .taken in
-    let due = routesOf (a .file .now) (a .start) (a .limit) (a .budget) (roomOf (a .words .now)) in
+    let due = routesAsked (a .file .now) (a .start) (a .limit) (a .budget) (roomOf (a .words .now)) in
     let e = c .before .before .before .before .before .routes .ensures .0 in
     let s = c .before .before .show-counts .ensures in
     let counts = a .counts .now in

@@ -8,14 +8,14 @@ use lib.Seq.{length-take-le}
 use Rattle.walks.specs.Lent.{wordSize}
 use Rattle.verdict.specs.Answers.{answerNumber}
 use Rattle.routes.specs.Answered.{routesAnswer}
-use Rattle.yard.specs.Routes.{routesOf}
+use Rattle.yard.specs.Routes.{routesAsked}
 use borrow.Author.Needs.{needs}
 use Rattle.listings.proofs.routes.Statement.{statement}
 use Rattle.listings.proofs.routes.Tie as tie
 
 -- the number of the answer with room for n words, where n is m
-numbered : (f : List ℕ) (start limit budget n m : ℕ) {r : ℕ} → r ≡ answerNumber (routesAnswer (routesOf f start limit budget n)) → n ≡ m → r ≡ answerNumber (routesAnswer (routesOf f start limit budget m))
-numbered f start limit budget n m e same = e ∙ ap (λ x. answerNumber (routesAnswer (routesOf f start limit budget x))) same
+numbered : (f : List ℕ) (start limit budget n m : ℕ) {r : ℕ} → r ≡ answerNumber (routesAnswer (routesAsked f start limit budget n)) → n ≡ m → r ≡ answerNumber (routesAnswer (routesAsked f start limit budget m))
+numbered f start limit budget n m e same = e ∙ ap (λ x. answerNumber (routesAnswer (routesAsked f start limit budget x))) same
 
 -- the room in the bytes of k words
 halved : (n k m : ℕ) → wordSize * k ≡ n → k ≡ m → n / wordSize ≡ m

@@ -2,14 +2,14 @@
 -- Assumes nothing.
 use Rattle.verdict.proofs.Questions.{own-fault}
 use Rattle.routes.specs.declared.RoutesAnswer.the-variants as answer
-use Rattle.yard.specs.Routes.{routesOf}
+use Rattle.yard.specs.Routes.{routesAsked}
 use Rattle.yard.proofs.Ways.{fault-keeps, answered, written}
 use borrow.Author.Needs.{needs}
 use Rattle.yard.proofs.routes.Statement.{statement}
 use Rattle.yard.proofs.routes.Tie as tie
 
 returns : tie.Need-returns
-unfolding routesOf
+unfolding routesAsked
 returns c =
     let v = c .before .before .before .verdict-of .ensures in
     let e = c .before .enum-told2 .given .1 in

@@ -20,18 +20,18 @@ use Rattle.application.specs.Answers.{namedHeaderAnswer, recordAnswer}
 use Rattle.application.specs.Questions.{namedHeaderOf, recordOf}
 use Rattle.station.specs.Pair.{pairOf}
 use Rattle.routes.specs.Answered.{routesAnswer}
-use Rattle.yard.specs.Routes.{routesOf}
+use Rattle.yard.specs.Routes.{routesAsked}
 use Rattle.places.specs.Places.{placeOver}
 use Rattle.places.proofs.X1.{x1-place}
 use Rattle.places.proofs.X2.{x2-place}
 use Rattle.places.proofs.Pair.{pair-place}
 use Rattle.places.proofs.Questions.{header1-place, header2-place, track-place, point-place, coordinate-place, record-place, routes-place}
-use Rattle.exports.specs.Words.{overByte, answerWord, wordsOf}
+use Rattle.exports.specs.Words.{overByte, answerWord, valueWords}
 use Rattle.exports.specs.Shown.{short, wordsShown, verdictShown, pairShown}
-use Rattle.exports.specs.Parts.{Parts, AnswerParts}
+use Rattle.exports.specs.TakenApart.{TakenApart, AnswerParts}
 use Rattle.exports.proofs.Numbers.{number-back, file-back, place-back, number-fits, file-fits}
 
-word-parts : (number file place : ℕ) → number < overByte → file < overByte → place < placeOver → Parts (answerWord number file place) number file place
+word-parts : (number file place : ℕ) → number < overByte → file < overByte → place < placeOver → TakenApart (answerWord number file place) number file place
 word-parts number file place n f p = record {
   number-is = number-back number file place n f (omega arith);
   file-is = file-back number file place n f (omega arith);
@@ -40,20 +40,20 @@ word-parts number file place n f p = record {
 
 -- ---- the verdicts
 
-verdict-parts : (v : Verdict) → placeIn v < placeOver → Parts (verdictShown v) (numberIn v) 0 (placeIn v)
+verdict-parts : (v : Verdict) → placeIn v < placeOver → TakenApart (verdictShown v) (numberIn v) 0 (placeIn v)
 verdict-parts verdict.Accepted h = word-parts 0 0 0 (omega arith) (omega arith) h
 verdict-parts (verdict.Refused t) h = word-parts (numberOf (t .reason)) 0 (t .place) (number-fits (t .reason)) (omega arith) h
 
-pub x1-parts : (f : List ℕ) → Parts (verdictShown (geography.verdictOf f)) (numberIn (geography.verdictOf f)) 0 (placeIn (geography.verdictOf f))
+pub x1-parts : (f : List ℕ) → TakenApart (verdictShown (geography.verdictOf f)) (numberIn (geography.verdictOf f)) 0 (placeIn (geography.verdictOf f))
 x1-parts f = verdict-parts (geography.verdictOf f) (x1-place f)
 
-pub x2-parts : (f : List ℕ) → Parts (verdictShown (file.verdictOf f)) (numberIn (file.verdictOf f)) 0 (placeIn (file.verdictOf f))
+pub x2-parts : (f : List ℕ) → TakenApart (verdictShown (file.verdictOf f)) (numberIn (file.verdictOf f)) 0 (placeIn (file.verdictOf f))
 x2-parts f = verdict-parts (file.verdictOf f) (x2-place f)
 
-pub pair-parts : (f g : List ℕ) → Parts (pairShown (pairOf f g)) (pairNumberIn (pairOf f g)) (pairFileIn (pairOf f g)) (pairPlaceIn (pairOf f g))
+pub pair-parts : (f g : List ℕ) → TakenApart (pairShown (pairOf f g)) (pairNumberIn (pairOf f g)) (pairFileIn (pairOf f g)) (pairPlaceIn (pairOf f g))
 pair-parts f g = by-case (pairOf f g) (pair-place f g)
   where
-    by-case : (v : PairVerdict) → pairPlaceIn v < placeOver → Parts (pairShown v) (pairNumberIn v) (pairFileIn v) (pairPlaceIn v)
+    by-case : (v : PairVerdict) → pairPlaceIn v < placeOver → TakenApart (pairShown v) (pairNumberIn v) (pairFileIn v) (pairPlaceIn v)
     by-case pair.Accepted h = word-parts 0 0 0 (omega arith) (omega arith) h
     by-case (pair.Refused d t) h = word-parts (numberOf (t .reason)) _ (t .place) (number-fits (t .reason)) (file-fits d) h
 
@@ -61,9 +61,9 @@ pair-parts f g = by-case (pairOf f g) (pair-place f g)
 
 answer-parts : (a : Answer) (out : List ℕ) → answerPlace a < placeOver → AnswerParts a out
 unfolding wordsShown
-answer-parts (answered values) out h = by-room (short (wordsOf values) out)
+answer-parts (answered values) out h = by-room (short (valueWords values) out)
   where
-    by-room : (t : Bool) → Parts (cond t (answerWord (numberOf Room) 0 0) (answerWord 0 0 0)) (cond t (numberOf Room) 0) 0 0
+    by-room : (t : Bool) → TakenApart (cond t (answerWord (numberOf Room) 0 0) (answerWord 0 0 0)) (cond t (numberOf Room) 0) 0 0
     by-room true = word-parts (numberOf Room) 0 0 (omega arith) (omega arith) (omega arith)
     by-room false = word-parts 0 0 0 (omega arith) (omega arith) (omega arith)
 answer-parts (refused n t) out h = word-parts (numberOf (t .reason)) 0 (t .place) (number-fits (t .reason)) (omega arith) h
@@ -87,5 +87,5 @@ module _ (out f : List ℕ) where
   pub record-parts : (x : ℕ) → AnswerParts (recordAnswer (recordOf f x)) out
   record-parts x = answer-parts (recordAnswer (recordOf f x)) out (record-place f x)
 
-  pub routes-parts : (start limit budget room : ℕ) → AnswerParts (routesAnswer (routesOf f start limit budget room)) out
-  routes-parts start limit budget room = answer-parts (routesAnswer (routesOf f start limit budget room)) out (routes-place f start limit budget room)
+  pub routes-parts : (start limit budget room : ℕ) → AnswerParts (routesAnswer (routesAsked f start limit budget room)) out
+  routes-parts start limit budget room = answer-parts (routesAnswer (routesAsked f start limit budget room)) out (routes-place f start limit budget room)
