@@ -7,9 +7,9 @@ use borrow.Author.Tests.{lt-ltb, le-ltb}
 use Rattle.verdict.specs.declared.Judged.{Judged}
 use Rattle.verdict.specs.Facts.{judge}
 use Rattle.verdict.proofs.Facts.{judge-then}
+use Rattle.tables.specs.Rows.{tableFacts}
 use Rattle.records.specs.Places as place
 use Rattle.records.specs.Rows.{baliseTable}
-use Rattle.fields.specs.Rows.{tableFacts}
 use Rattle.layout.specs.declared.Layout.{Layout}
 use Rattle.layout.specs.Places.{startEntriesAt, endEntriesAt}
 use Rattle.layout.specs.Records.{starts}

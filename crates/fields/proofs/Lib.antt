@@ -1,5 +1,4 @@
-pub mod Rows
 pub mod Checks
 pub mod Values
+pub mod Tables
 pub mod Obeys
-pub mod Ties

@@ -10,10 +10,10 @@ use Rattle.verdict.specs.declared.Rule.the-variants as rule
 use Rattle.rules.specs.Rules.{sameAs}
 use Rattle.records.specs.declared.Kind.{Kind}
 use Rattle.records.specs.declared.Kind.the-variants as kind
-use Rattle.rules.specs.Table.{valueOf, placeIn}
+use Rattle.tables.specs.Table.{valueOf, placeIn}
 use Rattle.records.specs.Places as place
 use Rattle.records.specs.Rows as row
-use Rattle.records.specs.Tables.{placeOf, countOf}
+use Rattle.records.specs.Tables.{rankOf, countOf}
 use Rattle.layout.specs.declared.Layout.{Layout}
 use Rattle.layout.specs.Places.{startEntriesAt, endEntriesAt}
 use Rattle.layout.specs.Facts.{indexes}
@@ -38,17 +38,18 @@ entriesAgree f entries from count = flatMap (entryAgrees f entries from) (indexe
 abbrev pub groupByteOf : List ℕ → ℕ → ℕ
 groupByteOf f at = valueOf f at row.baliseGroup
 
--- a balise's place is at most its count
-abbrev pub placeInCount : List ℕ → ℕ → Fact
-placeInCount f at =
-    fact (atMost (placeOf (groupByteOf f at)) (countOf (groupByteOf f at))) (record { reason = reason.Agreement; start = at; place = placeIn at row.baliseGroup; width = 1; rule = rule.PlaceInCount })
+-- a balise's rank, which 01 calls its place, is at most its count
+abbrev pub rankInCount : List ℕ → ℕ → Fact
+rankInCount f at =
+    fact (atMost (rankOf (groupByteOf f at)) (countOf (groupByteOf f at)))
+    (record { reason = reason.Agreement; start = at; place = placeIn at row.baliseGroup; width = 1; rule = rule.PlaceInCount })
 
 -- only a balise has such a rule
 unfoldable pub kindAgrees : List ℕ → Kind → ℕ → List Fact
 kindAgrees f kind.StartBoundary at = []
 kindAgrees f kind.EndBoundary at = []
 kindAgrees f kind.Turnout at = []
-kindAgrees f kind.Balise at = placeInCount f at ∷ []
+kindAgrees f kind.Balise at = rankInCount f at ∷ []
 kindAgrees f kind.Signal at = []
 kindAgrees f kind.Joint at = []
 kindAgrees f kind.Siding at = []

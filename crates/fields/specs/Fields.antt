@@ -11,24 +11,18 @@ use Rattle.verdict.specs.Facts.{Fact, fact, same}
 use Rattle.verdict.specs.declared.Reason.the-variants as reason
 use Rattle.verdict.specs.declared.Rule.the-variants as rule
 use Rattle.rules.specs.Rules.{between}
-use Rattle.rules.specs.Table.{valueOf}
+use Rattle.tables.specs.Table.{valueOf}
+use Rattle.tables.specs.Rows.{tableFacts}
 use Rattle.names.specs.Names.{stationNameFact}
 use Rattle.records.specs.declared.Kind.{Kind}
 use Rattle.records.specs.declared.Kind.the-variants as kind
 use Rattle.records.specs.Places as place
 use Rattle.records.specs.Rows.{baliseSizeByte, tableOf}
-use Rattle.fields.specs.Rows.{tableFacts}
 use Rattle.seal.specs.Seal.{dataAt, stationAt}
 use Rattle.layout.specs.declared.Layout.{Layout}
 use Rattle.layout.specs.Places.{nameAt, entryTrack, entrySize, startEntriesAt, endEntriesAt}
 use Rattle.layout.specs.Facts.{indexes}
 use Rattle.layout.specs.Records.{kindAt, starts}
-
--- ---- rules that several fields have
-
--- every header track and every own track is 1 to 255
-abbrev pub track : List ℕ → ℕ → ℕ → Fact
-track f start place = between reason.Field f start place One 1 255
 
 -- ---- the header
 
@@ -43,8 +37,9 @@ headerFields f =
 abbrev pub trackAt : ℕ → ℕ → ℕ
 trackAt entries i = entries + entrySize * i + entryTrack
 
+-- every header track is 1 to 255
 abbrev pub entryFields : List ℕ → ℕ → ℕ → List Fact
-entryFields f entries i = track f 0 (trackAt entries i) ∷ []
+entryFields f entries i = between reason.Field f 0 (trackAt entries i) One 1 255 ∷ []
 
 unfoldable pub entriesFields : List ℕ → ℕ → ℕ → List Fact
 entriesFields f entries count = flatMap (entryFields f entries) (indexes count)

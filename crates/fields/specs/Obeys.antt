@@ -1,44 +1,126 @@
--- What the fields and the agreement of an X.2 file are, as plain facts in 01's words and order, with no search and no test. f is the file,
--- l its layout, `at` the start of a record; the start boundaries are counted by i and the end boundaries by j, each from 0.
+-- What the fields and the agreement of an X.2 file are, as plain facts in 01's words and order, with no search and no test. This is written
+-- apart from the tables of `records`, with the numbers that 01 and the standard print: `at + 1` is the byte at place 1 of the record that
+-- starts at `at`, and numAt n f p the number of the n bytes at p. proofs/Tables has the theorems that the two say the same. f is the
+-- file, l its layout; the start boundaries are counted by i and the end boundaries by j, each from 0.
 -- Assumes nothing.
-use Prim.Native.Nat.{ℕ, _+_, _-_, _≤_, _<_}
+use Prim.Native.Nat.{ℕ, _+_, _-_, _*_, _/_, _%_, _≤_, _<_}
 use mathlib.Core.Path.{_≡_}
+use mathlib.Core.Logic.{_⊎_}
 use mathlib.Core.List.{List, List·Memᴰ}
 use Rattle.octets.specs.Octets.{numAt}
 use Rattle.rules.specs.Rules.{Between}
-use Rattle.names.specs.Names.{StationName}
+use Rattle.names.specs.Names.{ObjectName, StationName}
 use Rattle.records.specs.declared.Kind.{Kind}
 use Rattle.records.specs.declared.Kind.the-variants as kind
-use Rattle.records.specs.Rows.{tableOf}
-use Rattle.fields.specs.Rows.{TableObeys}
-use Rattle.records.specs.Tables.{placeOf, countOf}
-use Rattle.seal.specs.Seal.{dataAt, stationAt}
 use Rattle.layout.specs.declared.Layout.{Layout}
-use Rattle.layout.specs.Places.{nameAt, startEntriesAt, endEntriesAt}
 use Rattle.layout.specs.Records.{kindAt, starts}
-use Rattle.fields.specs.Fields.{trackAt, sizeByteOf}
-use Rattle.fields.specs.Agreement.{ownTrackAt, groupByteOf}
+
+-- x is one of two numbers
+abbrev pub OneOfTwo : ℕ → ℕ → ℕ → Type 0
+OneOfTwo a b x = (x ≡ a) ⊎ (x ≡ b)
+
+-- x is one of four numbers
+abbrev pub OneOfFour : ℕ → ℕ → ℕ → ℕ → ℕ → Type 0
+OneOfFour a b c d x = (x ≡ a) ⊎ ((x ≡ b) ⊎ ((x ≡ c) ⊎ (x ≡ d)))
+
+-- x is one of five numbers
+abbrev pub OneOfFive : ℕ → ℕ → ℕ → ℕ → ℕ → ℕ → Type 0
+OneOfFive a b c d e x = (x ≡ a) ⊎ ((x ≡ b) ⊎ ((x ≡ c) ⊎ ((x ≡ d) ⊎ (x ≡ e))))
 
 -- ---- fields
 
--- A record of a kind: each field of its table has one of the table's values, and a balise that is larger than 16 bytes ends in 0xFF.
-pub record RecordObeys (f : List ℕ) (k : Kind) (at : ℕ) : Type 0 where
-  pub fields : TableObeys f at (tableOf k)
-  pub message : k ≡ kind.Balise → 16 < sizeByteOf f at → numAt 1 f (at + sizeByteOf f at - 1) ≡ 0xFF
+-- Tables 6 and 7. Neighbour station and neighbour track may be any.
+pub record BoundaryObeys (f : List ℕ) (at : ℕ) : Type 0 where
+  pub neighbour-type : OneOfFive 0x00 0x01 0xFF 0xFE 0x55 (numAt 1 f (at + 5))
+  pub position : numAt 4 f (at + 7) ≤ 2147483647
+  pub track : Between 1 255 (numAt 1 f (at + 11))
 
+pub record StartBoundaryObeys (f : List ℕ) (at : ℕ) : Type 0 where
+  pub entry : OneOfTwo 0x00 0x01 (numAt 1 f (at + 0))
+  pub boundary : BoundaryObeys f at
+
+pub record EndBoundaryObeys (f : List ℕ) (at : ℕ) : Type 0 where
+  pub entry : OneOfTwo 0xFF 0xFE (numAt 1 f (at + 0))
+  pub boundary : BoundaryObeys f at
+
+-- Table 8.
+pub record TurnoutObeys (f : List ℕ) (at : ℕ) : Type 0 where
+  pub entry : numAt 1 f (at + 0) ≡ 0x06
+  pub number : Between 1 255 (numAt 1 f (at + 1))
+  pub direction : OneOfTwo 0 1 (numAt 1 f (at + 2))
+  pub tip-position : numAt 4 f (at + 3) ≤ 2147483647
+  pub normal-position : numAt 4 f (at + 7) ≤ 2147483647
+  pub reverse-position : numAt 4 f (at + 11) ≤ 2147483647
+  pub front-track : Between 1 255 (numAt 1 f (at + 21))
+  pub normal-track : Between 1 255 (numAt 1 f (at + 22))
+  pub reverse-track : Between 1 255 (numAt 1 f (at + 23))
+
+-- a balise with a message is larger than 16 bytes, and its last byte is 0xFF
+abbrev pub MessageEnds : List ℕ → ℕ → Type 0
+MessageEnds f at = 16 < numAt 1 f (at + 8) → numAt 1 f (at + numAt 1 f (at + 8) - 1) ≡ 0xFF
+
+-- Table 9.
+pub record BaliseObeys (f : List ℕ) (at : ℕ) : Type 0 where
+  pub entry : numAt 1 f (at + 0) ≡ 0x33
+  -- any but 0xFFFFFF, the greatest number of three bytes
+  pub number : numAt 3 f (at + 5) < 0xFFFFFF
+  pub attribute : OneOfFour 0x40 0x41 0x80 0x81 (numAt 1 f (at + 9))
+  pub position : numAt 4 f (at + 10) ≤ 2147483647
+  pub track : Between 1 255 (numAt 1 f (at + 14))
+  -- the middle two bits
+  pub group : numAt 1 f (at + 15) / 8 % 4 ≡ 0
+  pub message : MessageEnds f at
+
+-- Table 10.
+pub record SignalObeys (f : List ℕ) (at : ℕ) : Type 0 where
+  pub entry : numAt 1 f (at + 0) ≡ 0xC3
+  pub name : ObjectName f (at + 5) 1
+  pub position : numAt 4 f (at + 13) ≤ 2147483647
+  pub track : Between 1 255 (numAt 1 f (at + 17))
+  -- the top two bits, the middle two and the low four
+  pub top : numAt 1 f (at + 18) / 64 % 4 ≤ 2
+  pub middle : numAt 1 f (at + 18) / 16 % 4 ≡ 0
+  pub low : Between 1 5 (numAt 1 f (at + 18) % 16)
+
+-- Table 11.
+pub record JointObeys (f : List ℕ) (at : ℕ) : Type 0 where
+  pub entry : numAt 1 f (at + 0) ≡ 0xC6
+  pub name : ObjectName f (at + 5) 1
+  pub position : numAt 4 f (at + 13) ≤ 2147483647
+  pub track : Between 1 255 (numAt 1 f (at + 17))
+
+-- Table 12. The exit signal names may be all zero, and the exit balises may be any.
+pub record SidingObeys (f : List ℕ) (at : ℕ) : Type 0 where
+  pub entry : numAt 1 f (at + 0) ≡ 0xCC
+  pub name : ObjectName f (at + 1) 1
+  pub track : Between 1 255 (numAt 1 f (at + 9))
+  pub up-signal : ObjectName f (at + 13) 0
+  pub down-signal : ObjectName f (at + 24) 0
+
+-- a record of a kind
+abbrev pub RecordObeys : List ℕ → Kind → ℕ → Type 0
+RecordObeys f kind.StartBoundary at = StartBoundaryObeys f at
+RecordObeys f kind.EndBoundary at = EndBoundaryObeys f at
+RecordObeys f kind.Turnout at = TurnoutObeys f at
+RecordObeys f kind.Balise at = BaliseObeys f at
+RecordObeys f kind.Signal at = SignalObeys f at
+RecordObeys f kind.Joint at = JointObeys f at
+RecordObeys f kind.Siding at = SidingObeys f at
+
+-- Table 5, and every record. A header entry has three bytes, and its track is the first.
 pub record FieldsObey (f : List ℕ) (l : Layout) : Type 0 where
-  pub data-version : Between 1 65535 (numAt 2 f dataAt)
-  pub station : Between 1 65535 (numAt 2 f stationAt)
-  pub station-name : StationName f nameAt
-  pub start-tracks : (i : ℕ) → i < l .starts → Between 1 255 (numAt 1 f (trackAt startEntriesAt i))
-  pub end-tracks : (j : ℕ) → j < l .ends → Between 1 255 (numAt 1 f (trackAt (endEntriesAt (l .starts)) j))
+  pub data-version : Between 1 65535 (numAt 2 f 3)
+  pub station : Between 1 65535 (numAt 2 f 5)
+  pub station-name : StationName f 7
+  pub start-tracks : (i : ℕ) → i < l .starts → Between 1 255 (numAt 1 f (24 + 3 * i))
+  pub end-tracks : (j : ℕ) → j < l .ends → Between 1 255 (numAt 1 f (25 + 3 * l .starts + 3 * j))
   pub each-record : (at : ℕ) → List·Memᴰ at (starts f l) → RecordObeys f (kindAt l at) at
 
 -- ---- agreement
 
 pub record AgreementObeys (f : List ℕ) (l : Layout) : Type 0 where
   -- a header boundary's track equals its record's
-  pub start-tracks : (i : ℕ) → i < l .starts → numAt 1 f (trackAt startEntriesAt i) ≡ numAt 1 f (ownTrackAt (l .header) i)
-  pub end-tracks : (j : ℕ) → j < l .ends → numAt 1 f (trackAt (endEntriesAt (l .starts)) j) ≡ numAt 1 f (ownTrackAt (l .middle) j)
-  -- a balise's place is at most its count
-  pub places : (at : ℕ) → List·Memᴰ at (starts f l) → kindAt l at ≡ kind.Balise → placeOf (groupByteOf f at) ≤ countOf (groupByteOf f at)
+  pub start-tracks : (i : ℕ) → i < l .starts → numAt 1 f (24 + 3 * i) ≡ numAt 1 f (l .header + 12 * i + 11)
+  pub end-tracks : (j : ℕ) → j < l .ends → numAt 1 f (25 + 3 * l .starts + 3 * j) ≡ numAt 1 f (l .middle + 12 * j + 11)
+  -- a balise's place, the low three bits of its group byte and 1, is at most its count, the top three and 1
+  pub places : (at : ℕ) → List·Memᴰ at (starts f l) → kindAt l at ≡ kind.Balise → numAt 1 f (at + 15) % 8 + 1 ≤ numAt 1 f (at + 15) / 32 % 8 + 1

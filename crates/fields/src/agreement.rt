@@ -1,11 +1,11 @@
 // The agreement of X.2: 7 in 01's table.
 ghost use mathlib.Core.Path.{_≡_};
 ghost use mathlib.Core.List.{[], _∷_};
-ghost use Prim.Native.Nat.{_≤_, _<_};
+ghost use Prim.Native.Nat.{_≤_};
 ghost use Rattle.verdict.specs.Facts.{judge};
-ghost use Rattle.layout.specs.Bounds.{countMost, placeMost, Bounded, ifBounded};
+ghost use Rattle.layout.specs.Bounds.{countMost, placeMost, headerMost, Bounded, ifBounded};
 ghost use Rattle.layout.specs.Records.{eachRecord};
-ghost use Rattle.fields.specs.Agreement.{entriesAgree, placeInCount, kindAgrees, agreementFacts};
+ghost use Rattle.fields.specs.Agreement.{entriesAgree, rankInCount, kindAgrees, agreementFacts};
 use layout::ENTRY_SIZE;
 use layout::ENTRY_TRACK;
 use layout::Layout;
@@ -13,12 +13,12 @@ use layout::START_ENTRIES;
 use layout::is_bounded;
 use layout::kind_at;
 use layout::size_of;
-use octets::Width;
-use octets::byte_at;
 use records::Balise;
 use records::Boundary;
 use records::Kind;
 use rules::same_as;
+use tables::number_of;
+use tables::place_of;
 use verdict::Judged;
 use verdict::Mark;
 use verdict::Reason;
@@ -26,35 +26,34 @@ use verdict::Rule;
 use verdict::also_fact;
 
 // The tracks in so many entries are those of the boundaries from a place on.
-fn entries_agree(f: &[u8], entries: usize, from: usize, count: usize, v: Judged) -> Judged
-    requires { ⌜ (entries < 1000) × (from ≤ placeMost) × (count ≤ countMost) ⌝ }
+fn entries_agree(v: Judged, f: &[u8], entries: usize, from: usize, count: usize) -> Judged
+    requires { ⌜ (entries ≤ headerMost) × (from ≤ placeMost) × (count ≤ countMost) ⌝ }
     ensures { λ r. ⌜ r ≡ judge v (entriesAgree (now (f .entry)) entries from count) ⌝ }
 {
+    let width = ENTRY_TRACK.1;
     let mut w = v;
     let mut i = 0;
     while i < count {
-        let here = entries + ENTRY_SIZE * i + ENTRY_TRACK;
-        let own = from + Boundary::SIZE * i + Boundary::TRACK.0;
-        w = same_as(w, f, 0, here, Width::One, here, own);
+        let here = place_of((entries + ENTRY_SIZE * i) as u32, ENTRY_TRACK);
+        let own = place_of((from + Boundary::SIZE * i) as u32, Boundary::TRACK);
+        w = same_as(w, f, 0, here, width, here, own);
         i = i + 1;
     }
     w
 }
 
-// A balise's place is at most its count.
-fn place_in_count(v: Judged, f: &[u8], at: usize) -> Judged
-    requires { ⌜ at ≤ placeMost ⌝ }
-    ensures { λ r. ⌜ r ≡ judge v (placeInCount (now (f .entry)) at ∷ []) ⌝ }
+// A balise's rank, which 01 calls its place, is at most its count.
+fn rank_in_count(v: Judged, f: &[u8], at: u32) -> Judged
+    ensures { λ r. ⌜ r ≡ judge v (rankInCount (now (f .entry)) at ∷ []) ⌝ }
 {
-    let place = at + Balise::GROUP.0;
-    let byte = byte_at(f, place);
-    let ok = Balise::place_of(byte) <= Balise::count_of(byte);
+    let byte = number_of(f, at, Balise::GROUP);
+    let ok = Balise::rank_of(byte) <= Balise::count_of(byte);
     let reason = Reason::Agreement;
     let rule = Rule::PlaceInCount;
     let mark = Mark {
         reason,
-        start: at,
-        place,
+        start: at as usize,
+        place: place_of(at, Balise::GROUP),
         width: 1,
         rule,
     };
@@ -62,15 +61,14 @@ fn place_in_count(v: Judged, f: &[u8], at: usize) -> Judged
 }
 
 // A record of a kind.
-fn kind_agrees(f: &[u8], k: Kind, at: usize, v: Judged) -> Judged
-    requires { ⌜ at ≤ placeMost ⌝ }
+fn kind_agrees(v: Judged, f: &[u8], k: Kind, at: u32) -> Judged
     ensures { λ r. ⌜ r ≡ judge v (kindAgrees (now (f .entry)) k at) ⌝ }
 {
     match k {
         Kind::StartBoundary => v,
         Kind::EndBoundary => v,
         Kind::Turnout => v,
-        Kind::Balise => place_in_count(v, f, at),
+        Kind::Balise => rank_in_count(v, f, at),
         Kind::Signal => v,
         Kind::Joint => v,
         Kind::Siding => v,
@@ -78,7 +76,7 @@ fn kind_agrees(f: &[u8], k: Kind, at: usize, v: Judged) -> Judged
 }
 
 // Every record.
-fn records_agree(f: &[u8], l: Layout, v: Judged) -> Judged
+fn records_agree(v: Judged, f: &[u8], l: Layout) -> Judged
     requires { ⌜ Bounded l ⌝ }
     ensures { λ r. ⌜ r ≡ judge v (eachRecord (now (f .entry)) l (kindAgrees (now (f .entry)))) ⌝ }
 {
@@ -87,29 +85,29 @@ fn records_agree(f: &[u8], l: Layout, v: Judged) -> Judged
     let mut at = l.header;
     while at < stop {
         let k = kind_at(l, at);
-        w = kind_agrees(f, k, at, w);
+        w = kind_agrees(w, f, k, at as u32);
         at = at + size_of(f, k, at);
     }
     w
 }
 
 // The tracks of the header and every record.
-fn all_agree(f: &[u8], l: Layout, v: Judged) -> Judged
+fn all_agree(v: Judged, f: &[u8], l: Layout) -> Judged
     requires { ⌜ Bounded l ⌝ }
     ensures { λ r. ⌜ r ≡ judge v (agreementFacts (now (f .entry)) l) ⌝ }
 {
-    let entries = START_ENTRIES + ENTRY_SIZE * l.starts + 1;
-    let mut w = entries_agree(f, START_ENTRIES, l.header, l.starts, v);
-    w = entries_agree(f, entries, l.middle, l.ends, w);
-    records_agree(f, l, w)
+    let end_entries = START_ENTRIES + ENTRY_SIZE * l.starts + 1;
+    let mut w = entries_agree(v, f, START_ENTRIES, l.header, l.starts);
+    w = entries_agree(w, f, end_entries, l.middle, l.ends);
+    records_agree(w, f, l)
 }
 
 // The verdict so far, then the agreement. A layout that no file has is not looked at.
-pub fn check_agreement(f: &[u8], l: Layout, v: Judged) -> Judged
+pub fn check_agreement(v: Judged, f: &[u8], l: Layout) -> Judged
     ensures { λ r. ⌜ r ≡ judge v (ifBounded l (agreementFacts (now (f .entry)) l)) ⌝ }
 {
     if !is_bounded(l) {
         return v;
     }
-    all_agree(f, l, v)
+    all_agree(v, f, l)
 }

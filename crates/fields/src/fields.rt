@@ -16,7 +16,7 @@ use layout::size_of;
 use verdict::Judged;
 
 // The fields of every record.
-fn records_fields(f: &[u8], l: Layout, v: Judged) -> Judged
+fn records_fields(v: Judged, f: &[u8], l: Layout) -> Judged
     requires { ⌜ Bounded l ⌝ }
     ensures { λ r. ⌜ r ≡ judge v (eachRecord (now (f .entry)) l (kindFields (now (f .entry)))) ⌝ }
 {
@@ -25,30 +25,30 @@ fn records_fields(f: &[u8], l: Layout, v: Judged) -> Judged
     let mut at = l.header;
     while at < stop {
         let k = kind_at(l, at);
-        w = kind_fields(f, k, at, w);
+        w = kind_fields(w, f, k, at as u32);
         at = at + size_of(f, k, at);
     }
     w
 }
 
 // The fields of the header and of every record.
-fn all_fields(f: &[u8], l: Layout, v: Judged) -> Judged
+fn all_fields(v: Judged, f: &[u8], l: Layout) -> Judged
     requires { ⌜ Bounded l ⌝ }
     ensures { λ r. ⌜ r ≡ judge v (fieldFacts (now (f .entry)) l) ⌝ }
 {
-    let entries = START_ENTRIES + ENTRY_SIZE * l.starts + 1;
-    let mut w = header_fields(f, v);
-    w = entries_fields(f, START_ENTRIES, l.starts, w);
-    w = entries_fields(f, entries, l.ends, w);
-    records_fields(f, l, w)
+    let end_entries = START_ENTRIES + ENTRY_SIZE * l.starts + 1;
+    let mut w = header_fields(v, f);
+    w = entries_fields(w, f, START_ENTRIES, l.starts);
+    w = entries_fields(w, f, end_entries, l.ends);
+    records_fields(w, f, l)
 }
 
 // The verdict so far, then the fields. A layout that no file has is not looked at.
-pub fn check_fields(f: &[u8], l: Layout, v: Judged) -> Judged
+pub fn check_fields(v: Judged, f: &[u8], l: Layout) -> Judged
     ensures { λ r. ⌜ r ≡ judge v (ifBounded l (fieldFacts (now (f .entry)) l)) ⌝ }
 {
     if !is_bounded(l) {
         return v;
     }
-    all_fields(f, l, v)
+    all_fields(v, f, l)
 }

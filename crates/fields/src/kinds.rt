@@ -1,12 +1,10 @@
-// The fields of each kind of record: tables 6 to 12. A place is one of a file of at most 65,535 bytes.
+// The fields of each kind of record: tables 6 to 12, a line for each rule in the table's order. `at` is where the record starts.
 ghost use mathlib.Core.Path.{_≡_};
-ghost use mathlib.Core.List.{[], _∷_, _++_};
-ghost use Prim.Native.Nat.{_+_, _≤_, _<_};
+ghost use mathlib.Core.List.{_++_};
 ghost use Rattle.verdict.specs.Facts.{judge};
-ghost use Rattle.layout.specs.Bounds.{placeMost};
-ghost use Rattle.fields.specs.Fields.{track, lastByte, messageFields, kindFields};
-ghost use Rattle.fields.specs.Rows.{tableFacts};
+ghost use Rattle.tables.specs.Rows.{tableFacts};
 ghost use Rattle.records.specs.Rows.{boundaryTable, turnoutTable, baliseTable, signalTable, jointTable, sidingTable};
+ghost use Rattle.fields.specs.Fields.{messageFields, kindFields};
 use crate::DUTY_LEAST;
 use crate::DUTY_MOST;
 use crate::FACING_MOST;
@@ -15,8 +13,6 @@ use crate::OPPOSITE_PHYSICAL;
 use crate::OPPOSITE_VIRTUAL;
 use crate::SAME_PHYSICAL;
 use crate::SAME_VIRTUAL;
-use names::object_name;
-use octets::Width;
 use octets::byte_at;
 use records::Balise;
 use records::Boundary;
@@ -25,11 +21,13 @@ use records::Kind;
 use records::Siding;
 use records::Signal;
 use records::Turnout;
-use rules::between;
-use rules::field_among;
-use rules::field_between;
-use rules::field_bits;
-use rules::field_is;
+use tables::among_five;
+use tables::among_four;
+use tables::between;
+use tables::exactly;
+use tables::named;
+use tables::number_of;
+use tables::part;
 use tracks::POSITION_MOST;
 use verdict::Judged;
 use verdict::Mark;
@@ -37,20 +35,12 @@ use verdict::Reason;
 use verdict::Rule;
 use verdict::also_fact;
 
-// A track.
-pub fn track_at(v: Judged, f: &[u8], start: usize, place: usize) -> Judged
-    ensures { λ r. ⌜ r ≡ judge v (track (now (f .entry)) start place ∷ []) ⌝ }
-{
-    between(v, f, Reason::Field, start, place, Width::One, 1, 255)
-}
-
-// A boundary, whose type byte is one of two.
-fn boundary_fields(f: &[u8], low: usize, high: usize, at: usize, v: Judged) -> Judged
-    requires { ⌜ at ≤ placeMost ⌝ }
+// Tables 6 and 7: a boundary, whose type byte lies between two numbers.
+fn boundary_fields(v: Judged, f: &[u8], at: u32, low: usize, high: usize) -> Judged
     ensures { λ r. ⌜ r ≡ judge v (tableFacts (now (f .entry)) at (boundaryTable low high)) ⌝ }
 {
-    let mut w = field_between(v, f, at, Boundary::ENTRY, low, high);
-    w = field_among(
+    let mut w = between(v, f, at, Boundary::ENTRY, low, high);
+    w = among_five(
         w,
         f,
         at,
@@ -61,71 +51,32 @@ fn boundary_fields(f: &[u8], low: usize, high: usize, at: usize, v: Judged) -> J
         Boundary::END_DOWN,
         Boundary::UNKNOWN,
     );
-    w = field_between(w, f, at, Boundary::POSITION, 0, POSITION_MOST);
-    field_between(w, f, at, Boundary::TRACK, 1, 255)
+    w = between(w, f, at, Boundary::POSITION, 0, POSITION_MOST);
+    between(w, f, at, Boundary::TRACK, 1, 255)
 }
 
-// A turnout.
-fn turnout_fields(f: &[u8], at: usize, v: Judged) -> Judged
-    requires { ⌜ at ≤ placeMost ⌝ }
+// Table 8: a turnout.
+fn turnout_fields(v: Judged, f: &[u8], at: u32) -> Judged
     ensures { λ r. ⌜ r ≡ judge v (tableFacts (now (f .entry)) at turnoutTable) ⌝ }
 {
-    let mut w = field_is(v, f, at, Turnout::ENTRY, Turnout::TYPE);
-    w = field_between(w, f, at, Turnout::NUMBER, 1, 255);
-    w = field_between(w, f, at, Turnout::DIRECTION, 0, 1);
-    w = field_between(w, f, at, Turnout::TIP_POSITION, 0, POSITION_MOST);
-    w = field_between(w, f, at, Turnout::NORMAL_POSITION, 0, POSITION_MOST);
-    w = field_between(w, f, at, Turnout::REVERSE_POSITION, 0, POSITION_MOST);
-    w = field_between(w, f, at, Turnout::FRONT_TRACK, 1, 255);
-    w = field_between(w, f, at, Turnout::NORMAL_TRACK, 1, 255);
-    field_between(w, f, at, Turnout::REVERSE_TRACK, 1, 255)
+    let mut w = exactly(v, f, at, Turnout::ENTRY, Turnout::TYPE);
+    w = between(w, f, at, Turnout::NUMBER, 1, 255);
+    w = between(w, f, at, Turnout::DIRECTION, 0, 1);
+    w = between(w, f, at, Turnout::TIP_POSITION, 0, POSITION_MOST);
+    w = between(w, f, at, Turnout::NORMAL_POSITION, 0, POSITION_MOST);
+    w = between(w, f, at, Turnout::REVERSE_POSITION, 0, POSITION_MOST);
+    w = between(w, f, at, Turnout::FRONT_TRACK, 1, 255);
+    w = between(w, f, at, Turnout::NORMAL_TRACK, 1, 255);
+    between(w, f, at, Turnout::REVERSE_TRACK, 1, 255)
 }
 
-// The last of so many bytes at a place is this one.
-fn last_byte(v: Judged, f: &[u8], start: usize, place: usize, width: usize, n: usize) -> Judged
-    requires { ⌜ (place < 66000) × (0 < width) × (width < 256) ⌝ }
-    ensures { λ r. ⌜ r ≡ judge v (lastByte (now (f .entry)) start place width n ∷ []) ⌝ }
-{
-    let last = byte_at(f, place + width - 1);
-    let reason = Reason::Field;
-    let rule = Rule::LastByte(n);
-    let mark = Mark {
-        reason,
-        start,
-        place,
-        width,
-        rule,
-    };
-    also_fact(v, last == n, mark)
-}
-
-// The message of a balise, where it has one.
-fn message_fields(f: &[u8], at: usize, v: Judged) -> Judged
-    requires { ⌜ at ≤ placeMost ⌝ }
-    ensures { λ r. ⌜ r ≡ judge v (messageFields (now (f .entry)) at) ⌝ }
-{
-    let size = byte_at(f, at + Balise::SIZE_BYTE.0);
-    if size <= Balise::SIZE {
-        return v;
-    }
-    last_byte(
-        v,
-        f,
-        at,
-        at + Balise::MESSAGE,
-        size - Balise::SIZE,
-        MESSAGE_END,
-    )
-}
-
-// A balise without its message.
-fn fixed_fields(f: &[u8], at: usize, v: Judged) -> Judged
-    requires { ⌜ at ≤ placeMost ⌝ }
+// Table 9: a balise without its message.
+fn fixed_fields(v: Judged, f: &[u8], at: u32) -> Judged
     ensures { λ r. ⌜ r ≡ judge v (tableFacts (now (f .entry)) at baliseTable) ⌝ }
 {
-    let mut w = field_is(v, f, at, Balise::ENTRY, Balise::TYPE);
-    w = field_between(w, f, at, Balise::NUMBER, 0, Balise::NONE - 1);
-    w = field_among(
+    let mut w = exactly(v, f, at, Balise::ENTRY, Balise::TYPE);
+    w = between(w, f, at, Balise::NUMBER, 0, Balise::NONE - 1);
+    w = among_four(
         w,
         f,
         at,
@@ -134,73 +85,91 @@ fn fixed_fields(f: &[u8], at: usize, v: Judged) -> Judged
         OPPOSITE_PHYSICAL,
         SAME_VIRTUAL,
         SAME_PHYSICAL,
-        SAME_PHYSICAL,
     );
-    w = field_between(w, f, at, Balise::POSITION, 0, POSITION_MOST);
-    w = field_between(w, f, at, Balise::TRACK, 1, 255);
-    field_bits(w, f, at, Balise::GROUP, Balise::MIDDLE, 0, 0)
+    w = between(w, f, at, Balise::POSITION, 0, POSITION_MOST);
+    w = between(w, f, at, Balise::TRACK, 1, 255);
+    part(w, f, at, Balise::GROUP, Balise::MIDDLE, 0, 0)
+}
+
+// The message of a balise, where it has one: its last byte is 0xFF.
+fn message_fields(v: Judged, f: &[u8], at: u32) -> Judged
+    ensures { λ r. ⌜ r ≡ judge v (messageFields (now (f .entry)) at) ⌝ }
+{
+    let size = number_of(f, at, Balise::SIZE_BYTE);
+    if size <= Balise::SIZE {
+        return v;
+    }
+    let start = at as usize;
+    let place = start + Balise::MESSAGE;
+    let width = size - Balise::SIZE;
+    let last = byte_at(f, place + width - 1);
+    let reason = Reason::Field;
+    let rule = Rule::LastByte(MESSAGE_END);
+    let mark = Mark {
+        reason,
+        start,
+        place,
+        width,
+        rule,
+    };
+    also_fact(v, last == MESSAGE_END, mark)
 }
 
 // A balise.
-fn balise_fields(f: &[u8], at: usize, v: Judged) -> Judged
-    requires { ⌜ at ≤ placeMost ⌝ }
+fn balise_fields(v: Judged, f: &[u8], at: u32) -> Judged
     ensures { λ r. ⌜ r ≡ judge v (tableFacts (now (f .entry)) at baliseTable ++ messageFields (now (f .entry)) at) ⌝ }
 {
-    let w = fixed_fields(f, at, v);
-    message_fields(f, at, w)
+    let w = fixed_fields(v, f, at);
+    message_fields(w, f, at)
 }
 
-// A signal.
-fn signal_fields(f: &[u8], at: usize, v: Judged) -> Judged
-    requires { ⌜ at ≤ placeMost ⌝ }
+// Table 10: a signal.
+fn signal_fields(v: Judged, f: &[u8], at: u32) -> Judged
     ensures { λ r. ⌜ r ≡ judge v (tableFacts (now (f .entry)) at signalTable) ⌝ }
 {
-    let mut w = field_is(v, f, at, Signal::ENTRY, Signal::TYPE);
-    w = object_name(w, f, at, at + Signal::NAME, 1);
-    w = field_between(w, f, at, Signal::POSITION, 0, POSITION_MOST);
-    w = field_between(w, f, at, Signal::TRACK, 1, 255);
-    w = field_bits(w, f, at, Signal::BYTE, Signal::TOP, 0, FACING_MOST);
-    w = field_bits(w, f, at, Signal::BYTE, Signal::MIDDLE, 0, 0);
-    field_bits(w, f, at, Signal::BYTE, Signal::LOW, DUTY_LEAST, DUTY_MOST)
+    let mut w = exactly(v, f, at, Signal::ENTRY, Signal::TYPE);
+    w = named(w, f, at, Signal::NAME, 1);
+    w = between(w, f, at, Signal::POSITION, 0, POSITION_MOST);
+    w = between(w, f, at, Signal::TRACK, 1, 255);
+    w = part(w, f, at, Signal::BYTE, Signal::TOP, 0, FACING_MOST);
+    w = part(w, f, at, Signal::BYTE, Signal::MIDDLE, 0, 0);
+    part(w, f, at, Signal::BYTE, Signal::LOW, DUTY_LEAST, DUTY_MOST)
 }
 
-// A joint.
-fn joint_fields(f: &[u8], at: usize, v: Judged) -> Judged
-    requires { ⌜ at ≤ placeMost ⌝ }
+// Table 11: a joint.
+fn joint_fields(v: Judged, f: &[u8], at: u32) -> Judged
     ensures { λ r. ⌜ r ≡ judge v (tableFacts (now (f .entry)) at jointTable) ⌝ }
 {
-    let mut w = field_is(v, f, at, Joint::ENTRY, Joint::TYPE);
-    w = object_name(w, f, at, at + Joint::NAME, 1);
-    w = field_between(w, f, at, Joint::POSITION, 0, POSITION_MOST);
-    field_between(w, f, at, Joint::TRACK, 1, 255)
+    let mut w = exactly(v, f, at, Joint::ENTRY, Joint::TYPE);
+    w = named(w, f, at, Joint::NAME, 1);
+    w = between(w, f, at, Joint::POSITION, 0, POSITION_MOST);
+    between(w, f, at, Joint::TRACK, 1, 255)
 }
 
-// A siding.
-fn siding_fields(f: &[u8], at: usize, v: Judged) -> Judged
-    requires { ⌜ at ≤ placeMost ⌝ }
+// Table 12: a siding, whose two exit signal names may be all zero.
+fn siding_fields(v: Judged, f: &[u8], at: u32) -> Judged
     ensures { λ r. ⌜ r ≡ judge v (tableFacts (now (f .entry)) at sidingTable) ⌝ }
 {
-    let mut w = field_is(v, f, at, Siding::ENTRY, Siding::TYPE);
-    w = object_name(w, f, at, at + Siding::NAME, 1);
-    w = field_between(w, f, at, Siding::TRACK, 1, 255);
-    w = object_name(w, f, at, at + Siding::UP_SIGNAL, 0);
-    object_name(w, f, at, at + Siding::DOWN_SIGNAL, 0)
+    let mut w = exactly(v, f, at, Siding::ENTRY, Siding::TYPE);
+    w = named(w, f, at, Siding::NAME, 1);
+    w = between(w, f, at, Siding::TRACK, 1, 255);
+    w = named(w, f, at, Siding::UP_SIGNAL, 0);
+    named(w, f, at, Siding::DOWN_SIGNAL, 0)
 }
 
 // A record of a kind.
-pub fn kind_fields(f: &[u8], k: Kind, at: usize, v: Judged) -> Judged
-    requires { ⌜ at ≤ placeMost ⌝ }
+pub fn kind_fields(v: Judged, f: &[u8], k: Kind, at: u32) -> Judged
     ensures { λ r. ⌜ r ≡ judge v (kindFields (now (f .entry)) k at) ⌝ }
 {
     match k {
         Kind::StartBoundary => {
-            boundary_fields(f, Boundary::START_UP, Boundary::START_DOWN, at, v)
+            boundary_fields(v, f, at, Boundary::START_UP, Boundary::START_DOWN)
         }
-        Kind::EndBoundary => boundary_fields(f, Boundary::END_DOWN, Boundary::END_UP, at, v),
-        Kind::Turnout => turnout_fields(f, at, v),
-        Kind::Balise => balise_fields(f, at, v),
-        Kind::Signal => signal_fields(f, at, v),
-        Kind::Joint => joint_fields(f, at, v),
-        Kind::Siding => siding_fields(f, at, v),
+        Kind::EndBoundary => boundary_fields(v, f, at, Boundary::END_DOWN, Boundary::END_UP),
+        Kind::Turnout => turnout_fields(v, f, at),
+        Kind::Balise => balise_fields(v, f, at),
+        Kind::Signal => signal_fields(v, f, at),
+        Kind::Joint => joint_fields(v, f, at),
+        Kind::Siding => siding_fields(v, f, at),
     }
 }

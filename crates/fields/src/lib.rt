@@ -1,5 +1,5 @@
-// X.2's fields and agreement (01, 'X.2, fixed application'): checks 5 and 7 of a file whose layout was found. Each function takes the
-// verdict so far and goes on with the facts of its part, in byte order.
+// X.2's fields and agreement (01, 'X.2, fixed application': 'Fields' and 'Agreement'): checks 5 and 7 of a file whose layout was found. Each
+// function takes the verdict so far and goes on with the facts of its part, in byte order.
 mod agreement;
 mod fields;
 mod header;
@@ -8,7 +8,7 @@ mod kinds;
 pub use agreement::check_agreement;
 pub use fields::check_fields;
 
-// The attribute byte of a balise: the way of its group against rising positions, and its nature.
+// The attribute byte of a balise: the direction of its group against rising positions, and its nature.
 pub const OPPOSITE_VIRTUAL: usize = 0x40;
 
 pub const OPPOSITE_PHYSICAL: usize = 0x41;

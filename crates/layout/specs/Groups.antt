@@ -98,7 +98,8 @@ rightSize n = either (same n baliseSize) (liesBetween sizeLeast sizeMost n)
 
 abbrev pub sizeByte : List ℕ → ℕ → Fact
 sizeByte f at =
-    fact (rightSize (numAt 1 f (at + baliseSizeByte))) (record { reason = reason.Layout; start = at; place = at; width = 1; rule = rule.SizeByte (at + baliseSizeByte) sizeLeast sizeMost })
+    fact (rightSize (numAt 1 f (at + baliseSizeByte)))
+    (record { reason = reason.Layout; start = at; place = at; width = 1; rule = rule.SizeByte (at + baliseSizeByte) sizeLeast sizeMost })
 
 -- 16 bytes are left of the group, the size byte is right, and the balise is not too large for the rest. (Width 0: the first and the last
 -- are about the whole balise and no field of it.)

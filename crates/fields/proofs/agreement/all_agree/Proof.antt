@@ -7,19 +7,10 @@ use Rattle.fields.proofs.agreement.all_agree.Tie as tie
 
 returns : tie.Need-returns
 returns c =
-    let a = c .before .before .before .before .before .args in
-    let first = c .before .before .entries-agree in
-    let second = c .before .entries-agree2 in
-    agreement-judged (a .f .now) (a .v) (first .result) (c .records-agree .result) (a .l) (second .result) (first .ensures) (second .ensures) (c .records-agree .ensures)
+    let second = c .before in
+    let first = second .before in
+    let a = first .before .before .before .args in
+    agreement-judged (a .f .now) (a .v) _ _ (a .l) _ (first .entries-agree .ensures) (second .entries-agree2 .ensures) (c .records-agree .ensures)
 
 pub all-agree-spec : {M : Type 1} → statement M
-all-agree-spec =
-    tie.close
-    (tie.spec
-    (λ c. search needs)
-    (λ c. search needs)
-    (λ c. search needs)
-    (λ c κs. search needs)
-    (λ c κs. search needs)
-    (λ c κs. search needs)
-    returns)
+all-agree-spec = tie.close (tie.spec (λ c. search needs) (λ c. search needs) (λ c. search needs) (λ c κs. search needs) (λ c κs. search needs) (λ c κs. search needs) returns)

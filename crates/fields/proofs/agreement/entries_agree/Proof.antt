@@ -15,43 +15,30 @@ use Rattle.fields.proofs.agreement.entries_agree.Statement.{statement}
 use Rattle.fields.proofs.agreement.entries_agree.Tie as tie
 
 abbrev Inv-loop : tie.InvT-loop
-Inv-loop f entries from count w₀ i₀ w i =
-    judge w (flatMap (entryAgrees f entries from) (startsFrom (λ _. 1) count i)) ≡ judge w₀ (flatMap (entryAgrees f entries from) (indexes count))
+Inv-loop f entries from count width w₀ i₀ w i =
+    judge w (flatMap (entryAgrees f entries from) (startsFrom (λ _. 1) count i)) ≡ judge w₀ (entriesAgree f entries from count)
 
 abbrev μ-loop : tie.MeasureT-loop
-μ-loop f entries from count w₀ i₀ w i = count - i
+μ-loop f entries from count width w₀ i₀ w i = count - i
 
 loop-holds : tie.Need-loop-holds Inv-loop μ-loop
-unfolding indexes
+unfolding entriesAgree indexes
 loop-holds c = refl
 
 loop-again : tie.Need-loop-again Inv-loop μ-loop
 loop-again c =
-    let a = c .before .before .before .before .before .args in
-    let h = c .before .before .before .loop in
-    judge-step (λ _. 1) (a .count) (entryAgrees (a .f .now) (a .entries) (a .from)) (λ x. omega arith) (h .w) _ (h .i) _ (omega arith) (c .same-as .ensures) refl ∙ h .inv
+    let own = c .before in
+    let here = own .before in
+    let h = here .before .before .loop in
+    let a = here .before .before .before .before .args in
+    judge-step (λ _. 1) (a .count) (entryAgrees (a .f .now) (a .entries) (a .from)) (λ x. omega arith) (h .w) _ (h .i) _ (omega arith)
+    (simp (c .same-as .ensures, own .place-of2 .ensures, here .place-of .ensures)) refl
+    ∙ h .inv
 
 returns : tie.Need-returns Inv-loop μ-loop
-unfolding entriesAgree
 returns c =
     let a = c .before .before .before .args in
     sym (judge-stop (λ _. 1) (a .count) (entryAgrees (a .f .now) (a .entries) (a .from)) _ _ (omega arith)) ∙ c .before .loop .inv
 
 pub entries-agree-spec : {M : Type 1} → statement M
-entries-agree-spec =
-    tie.close
-    (tie.spec
-    Inv-loop
-    μ-loop
-    loop-holds
-    (λ c. search needs)
-    (λ c. search needs)
-    (λ c. search needs)
-    (λ c. search needs)
-    (λ c. search needs)
-    (λ c. search needs)
-    (λ c κs. search needs)
-    (λ c. search needs)
-    (λ c. search needs)
-    loop-again
-    returns)
+entries-agree-spec = tie.close (tie.spec Inv-loop μ-loop loop-holds (λ c. search needs) (λ c. search needs) (λ c. search needs) (λ c κs. search needs) (λ c. search needs) (λ c. search needs) (λ c. search needs) (λ c κs. search needs) (λ c κs. search needs) (λ c. search needs) (λ c. search needs) loop-again returns)

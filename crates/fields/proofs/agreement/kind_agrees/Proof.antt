@@ -1,4 +1,4 @@
--- `fields::agreement::kind_agrees` meets its contract. Each arm is what its kind is asked for.
+-- `fields::agreement::kind_agrees` meets its contract: only a balise has a rule.
 -- Assumes nothing.
 use Rattle.fields.specs.Agreement.{kindAgrees}
 use borrow.Author.Needs.{needs}
@@ -19,7 +19,7 @@ returns-3 c = rw (c .enum-told3 .given .1)
 
 returns-4 : tie.Need-returns-4
 unfolding kindAgrees
-returns-4 c = rw (c .before .enum-told4 .given .1) (c .place-in-count .ensures)
+returns-4 c = rw (c .before .enum-told4 .given .1) (c .rank-in-count .ensures)
 
 returns-5 : tie.Need-returns-5
 unfolding kindAgrees
@@ -34,21 +34,4 @@ unfolding kindAgrees
 returns-7 c = rw (c .enum-told7 .given .1)
 
 pub kind-agrees-spec : {M : Type 1} → statement M
-kind-agrees-spec =
-    tie.close
-    (tie.spec
-    (λ c. search needs)
-    (λ c. search needs)
-    (λ c. search needs)
-    (λ c. search needs)
-    (λ c κs. search needs)
-    (λ c. search needs)
-    (λ c. search needs)
-    (λ c. search needs)
-    returns
-    returns-2
-    returns-3
-    returns-4
-    returns-5
-    returns-6
-    returns-7)
+kind-agrees-spec = tie.close (tie.spec (λ c. search needs) (λ c. search needs) (λ c. search needs) (λ c. search needs) (λ c κs. search needs) (λ c. search needs) (λ c. search needs) (λ c. search needs) returns returns-2 returns-3 returns-4 returns-5 returns-6 returns-7)

@@ -7,21 +7,11 @@ use Rattle.fields.proofs.fields.all_fields.Tie as tie
 
 returns : tie.Need-returns
 returns c =
-    let a = c .before .before .before .before .before .before .args in
-    let head = c .before .before .before .header-fields in
-    let first = c .before .before .entries-fields in
-    let second = c .before .entries-fields2 in
-    fields-judged (a .f .now) (a .v) (head .result) (c .records-fields .result) (a .l) (first .result) (second .result) (head .ensures) (first .ensures) (second .ensures) (c .records-fields .ensures)
+    let second = c .before in
+    let first = second .before in
+    let head = first .before in
+    let a = head .before .before .before .args in
+    fields-judged (a .f .now) (a .v) _ _ (a .l) _ _ (head .header-fields .ensures) (first .entries-fields .ensures) (second .entries-fields2 .ensures) (c .records-fields .ensures)
 
 pub all-fields-spec : {M : Type 1} → statement M
-all-fields-spec =
-    tie.close
-    (tie.spec
-    (λ c. search needs)
-    (λ c. search needs)
-    (λ c. search needs)
-    (λ c κs. search needs)
-    (λ c κs. search needs)
-    (λ c κs. search needs)
-    (λ c κs. search needs)
-    returns)
+all-fields-spec = tie.close (tie.spec (λ c. search needs) (λ c. search needs) (λ c. search needs) (λ c κs. search needs) (λ c κs. search needs) (λ c κs. search needs) (λ c κs. search needs) returns)

@@ -15,40 +15,26 @@ use Rattle.fields.proofs.header.entries_fields.Statement.{statement}
 use Rattle.fields.proofs.header.entries_fields.Tie as tie
 
 abbrev Inv-loop : tie.InvT-loop
-Inv-loop f entries count w₀ i₀ w i =
-    judge w (flatMap (entryFields f entries) (startsFrom (λ _. 1) count i)) ≡ judge w₀ (flatMap (entryFields f entries) (indexes count))
+Inv-loop f entries count width w₀ i₀ w i =
+    judge w (flatMap (entryFields f entries) (startsFrom (λ _. 1) count i)) ≡ judge w₀ (entriesFields f entries count)
 
 abbrev μ-loop : tie.MeasureT-loop
-μ-loop f entries count w₀ i₀ w i = count - i
+μ-loop f entries count width w₀ i₀ w i = count - i
 
 loop-holds : tie.Need-loop-holds Inv-loop μ-loop
-unfolding indexes
+unfolding entriesFields indexes
 loop-holds c = refl
 
 loop-again : tie.Need-loop-again Inv-loop μ-loop
 loop-again c =
-    let a = c .before .before .before .before .args in
-    let h = c .before .before .loop in
-    judge-step (λ _. 1) (a .count) (entryFields (a .f .now) (a .entries)) (λ x. omega arith) (h .w) _ (h .i) _ (omega arith) (c .track-at .ensures) refl ∙ h .inv
+    let h = c .before .before .before .loop in
+    let a = c .before .before .before .before .before .args in
+    judge-step (λ _. 1) (a .count) (entryFields (a .f .now) (a .entries)) (λ x. omega arith) (h .w) _ (h .i) _ (omega arith) (simp (c .between .ensures, c .before .place-of .ensures)) refl ∙ h .inv
 
 returns : tie.Need-returns Inv-loop μ-loop
-unfolding entriesFields
 returns c =
     let a = c .before .before .before .args in
     sym (judge-stop (λ _. 1) (a .count) (entryFields (a .f .now) (a .entries)) _ _ (omega arith)) ∙ c .before .loop .inv
 
 pub entries-fields-spec : {M : Type 1} → statement M
-entries-fields-spec =
-    tie.close
-    (tie.spec
-    Inv-loop
-    μ-loop
-    loop-holds
-    (λ c. search needs)
-    (λ c. search needs)
-    (λ c. search needs)
-    (λ c κs. search needs)
-    (λ c. search needs)
-    (λ c. search needs)
-    loop-again
-    returns)
+entries-fields-spec = tie.close (tie.spec Inv-loop μ-loop loop-holds (λ c. search needs) (λ c. search needs) (λ c. search needs) (λ c κs. search needs) (λ c κs. search needs) (λ c. search needs) (λ c. search needs) loop-again returns)

@@ -8,10 +8,4 @@ returns : tie.Need-returns
 returns c = simp (c .station-name .ensures, c .before .between2 .ensures, c .before .before .between .ensures)
 
 pub header-fields-spec : {M : Type 1} → statement M
-header-fields-spec =
-    tie.close
-    (tie.spec
-    (λ c κs. search needs)
-    (λ c κs. search needs)
-    (λ c κs. search needs)
-    returns)
+header-fields-spec = tie.close (tie.spec (λ c κs. search needs) (λ c κs. search needs) (λ c κs. search needs) returns)

@@ -8,12 +8,7 @@ use Rattle.fields.proofs.kinds.balise_fields.Tie as tie
 returns : tie.Need-returns
 returns c =
     let a = c .before .before .before .args in
-    let fixed = c .before .fixed-fields in
-    balise-judged (a .f .now) (a .v) (fixed .result) (c .message-fields .result) (a .at) (fixed .ensures) (c .message-fields .ensures)
+    balise-judged (a .f .now) (a .v) _ _ (a .at) (c .before .fixed-fields .ensures) (c .message-fields .ensures)
 
 pub balise-fields-spec : {M : Type 1} → statement M
-balise-fields-spec = tie.close
-    (tie.spec
-    (λ c κs. search needs)
-    (λ c κs. search needs)
-    returns)
+balise-fields-spec = tie.close (tie.spec (λ c κs. search needs) (λ c κs. search needs) returns)

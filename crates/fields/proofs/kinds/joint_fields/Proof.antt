@@ -1,19 +1,11 @@
--- `fields::kinds::joint_fields` meets its contract.
+-- `fields::kinds::joint_fields` meets its contract: the facts of each rule in turn.
 -- Assumes nothing.
 use borrow.Author.Needs.{needs}
 use Rattle.fields.proofs.kinds.joint_fields.Statement.{statement}
 use Rattle.fields.proofs.kinds.joint_fields.Tie as tie
 
 returns : tie.Need-returns
-returns c = simp (c .field-between2 .ensures, c .before .field-between .ensures, c .before .before .object-name .ensures, c .before .before .before .field-is .ensures)
+returns c = simp (c .between2 .ensures, c .before .between .ensures, c .before .before .named .ensures, c .before .before .before .exactly .ensures)
 
 pub joint-fields-spec : {M : Type 1} → statement M
-joint-fields-spec =
-    tie.close
-    (tie.spec
-    (λ c κs. search needs)
-    (λ c. search needs)
-    (λ c κs. search needs)
-    (λ c κs. search needs)
-    (λ c κs. search needs)
-    returns)
+joint-fields-spec = tie.close (tie.spec (λ c κs. search needs) (λ c κs. search needs) (λ c κs. search needs) (λ c κs. search needs) returns)

@@ -1,22 +1,16 @@
--- `fields::kinds::siding_fields` meets its contract.
+-- `fields::kinds::siding_fields` meets its contract: the facts of each rule in turn.
 -- Assumes nothing.
 use borrow.Author.Needs.{needs}
 use Rattle.fields.proofs.kinds.siding_fields.Statement.{statement}
 use Rattle.fields.proofs.kinds.siding_fields.Tie as tie
 
 returns : tie.Need-returns
-returns c = simp (c .object-name3 .ensures, c .before .object-name2 .ensures, c .before .before .field-between .ensures, c .before .before .before .object-name .ensures, c .before .before .before .before .field-is .ensures)
+returns c =
+    let r4 = c .before in
+    let r3 = r4 .before in
+    let r2 = r3 .before in
+    let r1 = r2 .before in
+    simp (c .named3 .ensures, r4 .named2 .ensures, r3 .between .ensures, r2 .named .ensures, r1 .exactly .ensures)
 
 pub siding-fields-spec : {M : Type 1} → statement M
-siding-fields-spec =
-    tie.close
-    (tie.spec
-    (λ c κs. search needs)
-    (λ c. search needs)
-    (λ c κs. search needs)
-    (λ c κs. search needs)
-    (λ c. search needs)
-    (λ c κs. search needs)
-    (λ c. search needs)
-    (λ c κs. search needs)
-    returns)
+siding-fields-spec = tie.close (tie.spec (λ c κs. search needs) (λ c κs. search needs) (λ c κs. search needs) (λ c κs. search needs) (λ c κs. search needs) returns)

@@ -1,23 +1,20 @@
--- `fields::kinds::turnout_fields` meets its contract.
+-- `fields::kinds::turnout_fields` meets its contract: the facts of each rule in turn.
 -- Assumes nothing.
 use borrow.Author.Needs.{needs}
 use Rattle.fields.proofs.kinds.turnout_fields.Statement.{statement}
 use Rattle.fields.proofs.kinds.turnout_fields.Tie as tie
 
 returns : tie.Need-returns
-returns c = simp (c .field-between8 .ensures, c .before .field-between7 .ensures, c .before .before .field-between6 .ensures, c .before .before .before .field-between5 .ensures, c .before .before .before .before .field-between4 .ensures, c .before .before .before .before .before .field-between3 .ensures, c .before .before .before .before .before .before .field-between2 .ensures, c .before .before .before .before .before .before .before .field-between .ensures, c .before .before .before .before .before .before .before .before .field-is .ensures)
+returns c =
+    let r8 = c .before in
+    let r7 = r8 .before in
+    let r6 = r7 .before in
+    let r5 = r6 .before in
+    let r4 = r5 .before in
+    let r3 = r4 .before in
+    let r2 = r3 .before in
+    let r1 = r2 .before in
+    simp (c .between8 .ensures, r8 .between7 .ensures, r7 .between6 .ensures, r6 .between5 .ensures, r5 .between4 .ensures, r4 .between3 .ensures, r3 .between2 .ensures, r2 .between .ensures, r1 .exactly .ensures)
 
 pub turnout-fields-spec : {M : Type 1} → statement M
-turnout-fields-spec =
-    tie.close
-    (tie.spec
-    (λ c κs. search needs)
-    (λ c κs. search needs)
-    (λ c κs. search needs)
-    (λ c κs. search needs)
-    (λ c κs. search needs)
-    (λ c κs. search needs)
-    (λ c κs. search needs)
-    (λ c κs. search needs)
-    (λ c κs. search needs)
-    returns)
+turnout-fields-spec = tie.close (tie.spec (λ c κs. search needs) (λ c κs. search needs) (λ c κs. search needs) (λ c κs. search needs) (λ c κs. search needs) (λ c κs. search needs) (λ c κs. search needs) (λ c κs. search needs) (λ c κs. search needs) returns)
