@@ -13,7 +13,7 @@ use Rattle.verdict.specs.declared.Verdict.{Verdict}
 use Rattle.verdict.specs.declared.Verdict.the-variants as verdict
 use Rattle.verdict.specs.declared.Reason.the-variants.{Question}
 use Rattle.verdict.specs.Answers.{refusal, afterVerdict}
-use Rattle.verdict.proofs.Questions.{no-fault, accepted-by}
+use Rattle.verdict.proofs.Questions.{fault-is, no-fault, accepted-by}
 use Rattle.verdict.specs.Facts.{test}
 use Rattle.verdict.specs.Reasons.{shownOf}
 use Rattle.names.specs.Names.{byteBehind, stationNameLength}
@@ -47,6 +47,11 @@ shown-accepted (judged.Refused m) e = let z : _≡_ {A = ℕ} 0 1 = cc in absurd
 -- an accepted file obeys
 pub verdict-obeys : (f : List ℕ) → verdictOf f ≡ verdict.Accepted → Obeys f
 verdict-obeys f e = (accepted-obeys f) .0 (shown-accepted (judgedOf f) e)
+
+-- THEOREM: each question first gives its file's own fault.
+pub file-fault : (f : List ℕ) (t : Fault) → verdictOf f ≡ verdict.Refused t → (namedHeaderOf f ≡ header.Refused t) × ((x : ℕ) → recordOf f x ≡ answer.Refused t)
+unfolding namedHeaderOf recordOf
+file-fault f t g = (fault-is header.Refused (verdictOf f) t _ g, λ x. fault-is answer.Refused (verdictOf f) t _ g)
 
 -- ---- the header: v is the verdict as it was found, h and n what was read
 
