@@ -67,8 +67,8 @@ pub fn track(f: &[u8], index: usize) -> usize
 fn point_lines(p: Point) {
     head(b"answer", 0, 0);
     line(b"position", p.position);
-    signed_line(b"latitude_increment", p.latitude);
-    signed_line(b"longitude_increment", p.longitude);
+    signed_line(b"latitude_increment", p.latitude_increment);
+    signed_line(b"longitude_increment", p.longitude_increment);
     signed_line(b"heading", p.heading);
     line(b"near", p.near);
 }

@@ -10,13 +10,13 @@ use application::RecordAnswer;
 use records::Balise;
 use records::Boundary;
 use records::Facing;
+use records::GroupDirection;
 use records::Joint;
 use records::Nature;
 use records::Record;
 use records::Siding;
 use records::Signal;
 use records::Turnout;
-use records::Way;
 use text::head;
 use text::line;
 use text::message_line;
@@ -65,10 +65,10 @@ fn nature_line(nature: Nature) {
     }
 }
 
-fn way_line(way: Way) {
-    match way {
-        Way::Opposite => text_line(b"direction", b"opposite"),
-        Way::Same => text_line(b"direction", b"same"),
+fn group_direction_line(d: GroupDirection) {
+    match d {
+        GroupDirection::Opposite => text_line(b"direction", b"opposite"),
+        GroupDirection::Same => text_line(b"direction", b"same"),
     }
 }
 
@@ -83,16 +83,16 @@ fn message_bytes(size: usize) -> usize {
 
 fn balise_lines(f: &[u8], b: Balise) {
     let nature = b.nature;
-    let way = b.direction;
+    let direction = b.direction;
     line(b"previous", b.previous);
     line(b"next", b.next);
     line(b"number", b.number);
     line(b"size", b.size);
     nature_line(nature);
-    way_line(way);
+    group_direction_line(direction);
     line(b"position", b.position);
     line(b"track", b.track);
-    line(b"place", b.place);
+    line(b"place", b.rank);
     line(b"count", b.count);
     message_line(b"message", f, b.message, message_bytes(b.size));
 }

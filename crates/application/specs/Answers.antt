@@ -8,7 +8,7 @@ use Rattle.seal.specs.Header.{headerValues}
 use Rattle.records.specs.declared.Record.{Record as Decoded}
 use Rattle.records.specs.declared.Record.the-variants as is
 use Rattle.records.specs.declared.boundaries.Boundary.{Boundary}
-use Rattle.records.specs.Tables.{directionNumber, natureNumber, wayNumber, facingNumber, dutyNumber}
+use Rattle.records.specs.Tables.{directionNumber, natureNumber, groupDirectionNumber, facingNumber, dutyNumber}
 use Rattle.application.specs.declared.NamedHeader.{NamedHeader}
 use Rattle.application.specs.declared.NamedHeaderAnswer.{NamedHeaderAnswer}
 use Rattle.application.specs.declared.NamedHeaderAnswer.the-variants as header
@@ -69,10 +69,10 @@ fieldsOf (is.Balise b) =
     ∷ b .number
     ∷ b .size
     ∷ natureNumber (b .nature)
-    ∷ wayNumber (b .direction)
+    ∷ groupDirectionNumber (b .direction)
     ∷ b .position
     ∷ b .track
-    ∷ b .place
+    ∷ b .rank
     ∷ b .count
     ∷ b .message
     ∷ []

@@ -59,19 +59,19 @@ fn check_records(f: &[u8], l: Layout) -> Judged
     requires { ⌜ Bounded l ⌝ }
     ensures { λ r. ⌜ r ≡ firstFault (recordFacts (now (f .entry)) l) ⌝ }
 {
-    let filled = check_fields(f, l, Judged::Accepted);
+    let filled = check_fields(Judged::Accepted, f, l);
     let Judged::Accepted = filled else {
         return filled;
     };
-    let agreed = check_agreement(f, l, Judged::Accepted);
+    let agreed = check_agreement(Judged::Accepted, f, l);
     let Judged::Accepted = agreed else {
         return agreed;
     };
-    let aimed = check_targets(f, l, Judged::Accepted);
+    let aimed = check_targets(Judged::Accepted, f, l);
     let Judged::Accepted = aimed else {
         return aimed;
     };
-    check_returns(f, l, Judged::Accepted)
+    check_returns(Judged::Accepted, f, l)
 }
 
 // The verdict of the layout.
@@ -92,7 +92,7 @@ pub fn first_fault(f: &[u8]) -> Judged
     let Judged::Accepted = sized else {
         return sized;
     };
-    let sealed = check_seal(f, FILE_TYPE, Judged::Accepted);
+    let sealed = check_seal(Judged::Accepted, f, FILE_TYPE);
     let Judged::Accepted = sealed else {
         return sealed;
     };

@@ -98,8 +98,8 @@ pub fn point_words(p: Point) -> [u32; POINT_VALUES]
 {
     [
         word(p.position),
-        signed_word(p.latitude),
-        signed_word(p.longitude),
+        signed_word(p.latitude_increment),
+        signed_word(p.longitude_increment),
         signed_word(p.heading),
         word(p.near),
     ]
@@ -158,7 +158,7 @@ fn balise_words(b: Balise) -> [u32; RECORD_VALUES]
     ensures { λ r. ⌜ r ≡ valueWords (recordValues (Record.Balise b)) ⌝ }
 {
     let nature = b.nature;
-    let way = b.direction;
+    let direction = b.direction;
     [
         word(BALISE),
         word(b.previous),
@@ -166,10 +166,10 @@ fn balise_words(b: Balise) -> [u32; RECORD_VALUES]
         word(b.number),
         word(b.size),
         word(nature.number()),
-        word(way.number()),
+        word(direction.number()),
         word(b.position),
         word(b.track),
-        word(b.place),
+        word(b.rank),
         word(b.count),
         word(b.message),
     ]

@@ -12,7 +12,7 @@ use Rattle.tables.specs.Rows.{RowObeys, TableObeys, LowestAtFault}
 use Rattle.tables.proofs.Rows.{tiled, RefusedAt, fault-iff}
 use Rattle.records.specs.declared.Kind.{Kind}
 use Rattle.records.specs.Rows.{boundaryTable, turnoutFrontTrack, turnoutNormalTrack, turnoutReverseTrack, turnoutTable, baliseTable, signalByte, signalTable, jointTable, sidingTable, tableOf}
-use Rattle.records.specs.Records.{sizeOf}
+use Rattle.records.specs.Records.{fixedSize}
 use Rattle.records.proofs.Whole.{whole}
 use Rattle.fields.specs.Obeys.{BoundaryObeys, StartBoundaryObeys, EndBoundaryObeys, TurnoutObeys, MessageEnds, BaliseObeys, SignalObeys, JointObeys, SidingObeys}
 use Rattle.fields.proofs.Values.{two-iff, two-down-iff, most-iff, below-iff, zero-iff, low-bits}
@@ -179,4 +179,4 @@ module _ (f : List ℕ) (at : ℕ) where
   -- ---- THEOREM: the fields of a record of any kind are refused at a place exactly where that is the lowest field at fault.
 
   pub refused-at : (k : Kind) (p : ℕ) → RefusedAt f at (tableOf k) p ↔ LowestAtFault f at (tableOf k) p
-  refused-at k p = fault-iff f at 0 (sizeOf k) (tableOf k) p (tiled 0 (tableOf k) (sizeOf k) (whole k))
+  refused-at k p = fault-iff f at 0 (fixedSize k) (tableOf k) p (tiled 0 (tableOf k) (fixedSize k) (whole k))

@@ -16,11 +16,9 @@ use Rattle.verdict.specs.declared.PairVerdict.{PairVerdict}
 use Rattle.verdict.specs.declared.PairVerdict.the-variants as pair
 use Rattle.verdict.specs.Reasons.{shownOf}
 use Rattle.verdict.proofs.Facts.{accepted-iff, all-append, all-each}
-use Rattle.seal.specs.Seal.{stationAt}
-use Rattle.tracks.specs.Places as track
 use Rattle.geography.specs.Facts as geography
 use Rattle.geography.specs.Layout.{countOf}
-use Rattle.geography.specs.Obeys.{entryAt, Obeys}
+use Rattle.geography.specs.Obeys.{entryPlace, Obeys}
 use Rattle.lookup.specs.declared.Found.{Found}
 use Rattle.lookup.specs.declared.Found.the-variants.{At, Absent}
 use Rattle.lookup.specs.Lookup.{findTrack}
@@ -36,14 +34,14 @@ use Rattle.station.specs.Obeys.{TrackIn, SpotObeys, PairObeys}
 
 module _ (f : List ℕ) (o : Obeys f) where
   -- a track that has a number is the one that is found
-  found-in : (number i : ℕ) → TrackIn f number i → findTrack f number ≡ At (entryAt i)
-  found-in number i w = (lookup.found-iff f o number (entryAt i)) .1 (record { track = i; in-file = w .in-file; there = refl; same = w .same })
+  found-in : (number i : ℕ) → TrackIn f number i → findTrack f number ≡ At (entryPlace i)
+  found-in number i w = (lookup.found-iff f o number (entryPlace i)) .1 (record { track = i; in-file = w .in-file; there = refl; same = w .same })
 
   -- a track that is found has the number
-  in-found : (number e : ℕ) → findTrack f number ≡ At e → (i : ℕ) × TrackIn f number i × (e ≡ entryAt i)
+  in-found : (number e : ℕ) → findTrack f number ≡ At e → (i : ℕ) × TrackIn f number i × (e ≡ entryPlace i)
   in-found number e q =
       let w = lookup.found-number f number e q in
-      (w .track, record { in-file = w .in-file; same = subst (λ (x : ℕ). numAt 1 f (x + track.number) ≡ number) (w .there) (w .same) }, w .there)
+      (w .track, record { in-file = w .in-file; same = subst (λ (x : ℕ). numAt 1 f (x + 0) ≡ number) (w .there) (w .same) }, w .there)
 
   present-iff : (number : ℕ) → (present (findTrack f number) ≡ 1) ↔ ((i : ℕ) × TrackIn f number i)
   present-iff number = (λ h. by-case (findTrack f number) refl h, λ w. ap present (found-in number (w .0) (w .1)))
@@ -52,14 +50,14 @@ module _ (f : List ℕ) (o : Obeys f) where
       by-case (At e) q h = let w = in-found number e q in (w .0, w .1)
       by-case Absent q h = absurd (omega arith)
 
-  within-iff : (number x : ℕ) → ((present (findTrack f number) ≡ 1) × (x ≤ reach f (findTrack f number))) ↔ ((i : ℕ) × TrackIn f number i × (x ≤ numAt 4 f (entryAt i + track.endPosition)))
+  within-iff : (number x : ℕ) → ((present (findTrack f number) ≡ 1) × (x ≤ reach f (findTrack f number))) ↔ ((i : ℕ) × TrackIn f number i × (x ≤ numAt 4 f (entryPlace i + 14)))
   within-iff number x = (
     λ h. by-case (findTrack f number) refl (h .0) (h .1),
     λ w. let q = found-in number (w .0) (w .1) in (ap present q, subst (λ (d : Found). x ≤ reach f d) (sym q) (w .2)),
   )
     where
-      by-case : (d : Found) → findTrack f number ≡ d → present d ≡ 1 → x ≤ reach f d → (i : ℕ) × TrackIn f number i × (x ≤ numAt 4 f (entryAt i + track.endPosition))
-      by-case (At e) q h k = let w = in-found number e q in (w .0, w .1, subst (λ (y : ℕ). x ≤ numAt 4 f (y + track.endPosition)) (w .2) k)
+      by-case : (d : Found) → findTrack f number ≡ d → present d ≡ 1 → x ≤ reach f d → (i : ℕ) × TrackIn f number i × (x ≤ numAt 4 f (entryPlace i + 14))
+      by-case (At e) q h k = let w = in-found number e q in (w .0, w .1, subst (λ (y : ℕ). x ≤ numAt 4 f (y + 14)) (w .2) k)
       by-case Absent q h k = absurd (omega arith)
 
   module _ (g : List ℕ) where
@@ -81,10 +79,10 @@ module _ (f : List ℕ) (o : Obeys f) where
 
     -- the pair's own facts
     pair-iff : (l : Layout) → AllHold (pairFacts f g l)
-        ↔ ((numAt 2 g stationAt ≡ numAt 2 f stationAt) × ((at : ℕ) → List·Memᴰ at (starts g l) → (s : Spot) → List·Memᴰ s (spots (kindAt l at) at) → SpotObeys f g s))
+        ↔ ((numAt 2 g 5 ≡ numAt 2 f 5) × ((at : ℕ) → List·Memᴰ at (starts g l) → (s : Spot) → List·Memᴰ s (spots (kindAt l at) at) → SpotObeys f g s))
     unfolding pairFacts recordsPair AllHold
     pair-iff l =
-        let each = all-each (recordPair f g l) (starts g l) in (
+        let each = all-each (λ at. recordPair f g (kindAt l at) at) (starts g l) in (
           λ h. (h .0, λ at m. (spots-iff at (spots (kindAt l at) at)) .0 (each .0 (h .1) at m)),
           λ h. (h .0, each .1 (λ at m. (spots-iff at (spots (kindAt l at) at)) .1 (h .1 at m))),
         )

@@ -3,7 +3,6 @@ ghost use mathlib.Core.Path.{_≡_};
 ghost use mathlib.Core.List.{[], _∷_};
 ghost use Prim.Native.Nat.{_+_};
 ghost use Rattle.verdict.specs.Facts.{judge};
-ghost use Rattle.geography.specs.Obeys.{Obeys};
 ghost use Rattle.layout.specs.Bounds.{Bounded};
 ghost use Rattle.lookup.specs.Lookup.{findTrack};
 ghost use Rattle.station.specs.Pair.{lies, present, reach, inFirst, withinTrack, spotFacts, recordPair, recordsPair};
@@ -48,7 +47,6 @@ fn present_in(f: &[u8], number: usize) -> usize
 
 // The end position of the track of X.1 that has a number.
 fn reach_of(f: &[u8], number: usize) -> usize
-    requires { ⌜ Obeys (now f) ⌝ }
     ensures { λ r. ⌜ r ≡ reach (now (f .entry)) (findTrack (now (f .entry)) number) ⌝ }
 {
     match find_track(f, number) {
@@ -76,7 +74,6 @@ fn in_first(v: Judged, f: &[u8], g: &[u8], at: u32, t: usize) -> Judged
 
 // The position at p is at most the end of the track at t.
 fn within_track(v: Judged, f: &[u8], g: &[u8], at: u32, t: usize, p: usize) -> Judged
-    requires { ⌜ Obeys (now f) ⌝ }
     ensures { λ r. ⌜ r ≡ judge v (withinTrack (now (f .entry)) (now (g .entry)) at t p ∷ []) ⌝ }
 {
     let end = reach_of(f, byte_at(g, t));
@@ -95,7 +92,6 @@ fn within_track(v: Judged, f: &[u8], g: &[u8], at: u32, t: usize, p: usize) -> J
 
 // A track with a position on it.
 fn lies_on(v: Judged, f: &[u8], g: &[u8], at: u32, track: Field, position: Field) -> Judged
-    requires { ⌜ Obeys (now f) ⌝ }
     ensures { λ r. ⌜ r ≡ judge v (spotFacts (now (f .entry)) (now (g .entry)) at (lies (at + track .0) (at + position .0))) ⌝ }
 {
     let t = place_of(at, track);
@@ -106,7 +102,6 @@ fn lies_on(v: Judged, f: &[u8], g: &[u8], at: u32, track: Field, position: Field
 
 // The three positions of a turnout, each with its own track.
 fn turnout_pair(v: Judged, f: &[u8], g: &[u8], at: u32) -> Judged
-    requires { ⌜ Obeys (now f) ⌝ }
     ensures { λ r. ⌜ r ≡ judge v (recordPair (now (f .entry)) (now (g .entry)) Kind.Turnout at) ⌝ }
 {
     let mut w = lies_on(v, f, g, at, Turnout::FRONT_TRACK, Turnout::TIP_POSITION);
@@ -123,7 +118,6 @@ fn turnout_pair(v: Judged, f: &[u8], g: &[u8], at: u32) -> Judged
 
 // The tracks and positions of one record.
 fn record_pair(v: Judged, f: &[u8], g: &[u8], k: Kind, at: u32) -> Judged
-    requires { ⌜ Obeys (now f) ⌝ }
     ensures { λ r. ⌜ r ≡ judge v (recordPair (now (f .entry)) (now (g .entry)) k at) ⌝ }
 {
     match k {
@@ -139,7 +133,7 @@ fn record_pair(v: Judged, f: &[u8], g: &[u8], k: Kind, at: u32) -> Judged
 
 // The tracks and positions of every record.
 pub fn records_pair(v: Judged, f: &[u8], g: &[u8], l: Layout) -> Judged
-    requires { ⌜ Obeys (now f) × Bounded l ⌝ }
+    requires { ⌜ Bounded l ⌝ }
     ensures { λ r. ⌜ r ≡ judge v (recordsPair (now (f .entry)) (now (g .entry)) l) ⌝ }
 {
     let stop = l.stop;

@@ -2,7 +2,6 @@
 ghost use mathlib.Core.Path.{_≡_};
 ghost use mathlib.Core.List.{[], _∷_};
 ghost use Rattle.verdict.specs.Facts.{judge};
-ghost use Rattle.geography.specs.Obeys.{Obeys};
 ghost use Rattle.layout.specs.Bounds.{Bounded};
 ghost use Rattle.station.specs.Pair.{sameStation, pairFacts, ofFirst, ofSecond, ofPair, pairOf};
 use crate::spots::records_pair;
@@ -45,7 +44,7 @@ fn same_station(v: Judged, f: &[u8], g: &[u8]) -> Judged
 
 // The facts of a pair of files that are each accepted.
 fn check_pair(f: &[u8], g: &[u8], l: Layout) -> Judged
-    requires { ⌜ Obeys (now f) × Bounded l ⌝ }
+    requires { ⌜ Bounded l ⌝ }
     ensures { λ r. ⌜ r ≡ judge Judged.Accepted (pairFacts (now (f .entry)) (now (g .entry)) l) ⌝ }
 {
     let v = same_station(Judged::Accepted, f, g);

@@ -1,8 +1,5 @@
 -- `station::verdicts::pair_verdict` meets its contract.
 -- Assumes nothing.
-use mathlib.Core.Path.{sym, _∙_}
-use native.Mathlib.Omega.{arith}
-use Rattle.lookup.proofs.Lookup as lookup
 use Rattle.application.proofs.Questions.{accepted-bounded}
 use Rattle.station.proofs.Checks.{first-fault, second-fault, pair-fault}
 use borrow.Author.Needs.{needs}
@@ -21,9 +18,7 @@ returns-2 c = second-fault _ _ _ (c .before .before .before .before .before .bef
 check-pair-requires : tie.Need-check-pair-requires
 check-pair-requires c κs =
     let a = c .before .before .before .before .before .before .before .before .before .args in
-    let o = (lookup.verdict-obeys (a .first .now)) .0 (sym (c .before .before .before .before .before .before .verdict-of .ensures) ∙ c .before .before .before .before .enum-told .given .1) in
-    let d = accepted-bounded (a .second .now) 0 _ (c .before .before .before .verdict-of2 .ensures) (c .before .enum-told3 .given .1) _ (c .layout-of .ensures .0) in
-    (o, omega (arith, d .header), omega (arith, d .stop))
+    accepted-bounded (a .second .now) 0 _ (c .before .before .before .verdict-of2 .ensures) (c .before .enum-told3 .given .1) _ (c .layout-of .ensures .0)
 
 returns-3 : tie.Need-returns-3
 returns-3 c = pair-fault _ _ _ (c .before .before .before .before .before .before .before .before .verdict-of .ensures) (c .before .before .before .before .before .before .enum-told .given .1) _ (c .before .before .before .before .before .verdict-of2 .ensures) (c .before .before .before .enum-told3 .given .1) _ (c .before .before .layout-of .ensures .0) _ (c .before .check-pair .ensures) _ (c .shown .ensures)
