@@ -35,13 +35,13 @@ pub fn find_stretch(f: &[u8], size: u8, e: u32, x: usize) -> Found
     Found::Absent
 }
 
-// One coordinate, t of the den centimetres on the way between the two points at `from` and `to`.
-fn along(f: &[u8], axis: Axis, e: u32, from: u32, to: u32, t: usize, den: usize) -> i64
-    requires { ⌜ Limits (axisSum (now f) axis e from) (axisSum (now f) axis e to) t den ⌝ }
-    ensures { λ r. ⌜ r ≡ coordinateOf (axisSum (now (f .entry)) axis e from) (axisSum (now (f .entry)) axis e to) t den ⌝ }
+// One coordinate, t of the den centimetres on the way from the point at p to the one at `next`.
+fn along(f: &[u8], axis: Axis, e: u32, p: u32, next: u32, t: usize, den: usize) -> i64
+    requires { ⌜ Limits (axisSum (now f) axis e p) (axisSum (now f) axis e next) t den ⌝ }
+    ensures { λ r. ⌜ r ≡ coordinateOf (axisSum (now (f .entry)) axis e p) (axisSum (now (f .entry)) axis e next) t den ⌝ }
 {
-    let y0 = sum_of(f, axis, e, from);
-    let y1 = sum_of(f, axis, e, to);
+    let y0 = sum_of(f, axis, e, p);
+    let y1 = sum_of(f, axis, e, next);
     let way = rounding::coordinate(y0, y1, t, den);
     let Way::At(y) = way else {
         return 0;
