@@ -6,17 +6,16 @@ use mathlib.Core.Bool.{Bool, true, false, cond}
 use mathlib.Core.List.{List}
 use lib.Dec.{ltb, leb}
 use native.Mathlib.Omega.{arith}
-use Rattle.octets.specs.Octets.{numAt}
 use Rattle.verdict.specs.declared.Reason.the-variants as reason
 use Rattle.verdict.specs.declared.Fault.{Fault}
 use Rattle.verdict.specs.declared.Verdict.{Verdict}
 use Rattle.verdict.specs.declared.Verdict.the-variants as verdict
 use Rattle.verdict.specs.Facts.{test}
 use Rattle.verdict.specs.Reasons.{placeIn}
-use Rattle.tracks.specs.Places.{pointSize, endPosition}
+use Rattle.tracks.specs.Places.{pointSize}
 use Rattle.tracks.specs.Tracks.{trackAt, pointAt, pointsIn}
 use Rattle.geography.specs.Layout.{countOf, firstOf, lastOf}
-use Rattle.geography.specs.Obeys.{entryAt, pointAt as pointPlace}
+use Rattle.geography.specs.Obeys.{entryPlace, pointPlace}
 use Rattle.geography.specs.Facts as geography
 use Rattle.lookup.specs.Lookup.{findTrack}
 use Rattle.lookup.specs.declared.Found.{Found}
@@ -24,7 +23,7 @@ use Rattle.lookup.specs.declared.Found.the-variants.{At, Absent}
 use Rattle.survey.specs.declared.answers.TrackAnswer.the-variants as track
 use Rattle.survey.specs.declared.answers.PointAnswer.the-variants as point
 use Rattle.survey.specs.declared.answers.CoordinateAnswer.the-variants as coordinate
-use Rattle.survey.specs.Stretch.{stretchOf}
+use Rattle.survey.specs.Stretch.{endPositionOf, stretchOf}
 use Rattle.survey.specs.Answers.{trackPlaceIn, pointPlaceIn, coordinatePlaceIn}
 use Rattle.survey.specs.Questions.{refusal, afterVerdict, trackIn, trackOf, pointIn, pointOf, onStretch, onTrack, onFound, coordinateAsked}
 use Rattle.layout.specs.Layout.{layoutOf}
@@ -58,7 +57,7 @@ module _ (f : List ℕ) where
   unfolding trackOf
   track-place i =
       after-below trackPlaceIn track.Refused (λ t. refl) (geography.verdictOf f) (trackIn f i) (x1-place f)
-      (if-below trackPlaceIn (ltb i (countOf f)) (track.Track (trackAt f (entryAt i))) (track.Refused (refusal reason.Question)) (omega arith) (omega arith))
+      (if-below trackPlaceIn (ltb i (countOf f)) (track.Track (trackAt f (entryPlace i))) (track.Refused (refusal reason.Question)) (omega arith) (omega arith))
 
   point-in : (e j : ℕ) → pointPlaceIn (pointIn f pointSize e j) < placeOver
   point-in e j =
@@ -67,9 +66,9 @@ module _ (f : List ℕ) where
   pub point-place : (i j : ℕ) → pointPlaceIn (pointOf f i j) < placeOver
   unfolding pointOf
   point-place i j =
-      let answer = cond (ltb i (countOf f)) (pointIn f pointSize (entryAt i) j) (point.Refused (refusal reason.Question)) in
+      let answer = cond (ltb i (countOf f)) (pointIn f pointSize (entryPlace i) j) (point.Refused (refusal reason.Question)) in
       after-below pointPlaceIn point.Refused (λ t. refl) (geography.verdictOf f) answer (x1-place f)
-      (if-below pointPlaceIn (ltb i (countOf f)) (pointIn f pointSize (entryAt i) j) (point.Refused (refusal reason.Question)) (point-in (entryAt i) j) (omega arith))
+      (if-below pointPlaceIn (ltb i (countOf f)) (pointIn f pointSize (entryPlace i) j) (point.Refused (refusal reason.Question)) (point-in (entryPlace i) j) (omega arith))
 
   on-stretch : (e x : ℕ) (w : Found) → coordinatePlaceIn (onStretch f pointSize e x w) < placeOver
   on-stretch e x (At p) = omega arith
@@ -78,7 +77,7 @@ module _ (f : List ℕ) where
   on-found : (x : ℕ) (w : Found) → coordinatePlaceIn (onFound f pointSize x w) < placeOver
   unfolding onTrack
   on-found x (At e) =
-      if-below coordinatePlaceIn (leb x (numAt 4 f (e + endPosition))) (onStretch f pointSize e x (stretchOf f pointSize e x)) (coordinate.Refused (refusal reason.Position))
+      if-below coordinatePlaceIn (leb x (endPositionOf f e)) (onStretch f pointSize e x (stretchOf f pointSize e x)) (coordinate.Refused (refusal reason.Position))
       (on-stretch e x (stretchOf f pointSize e x)) (omega arith)
   on-found x Absent = omega arith
 
