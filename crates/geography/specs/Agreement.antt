@@ -19,6 +19,7 @@ use Rattle.verdict.specs.declared.Rule.the-variants as rule
 use Rattle.rules.specs.Rules.{zeroAt, sameAs, above}
 use Rattle.tables.specs.Table.{any, Row, signedRow, placeIn, signedOf}
 use Rattle.tables.specs.declared.Field.{Field}
+use Rattle.tracks.specs.declared.Axis.{Axis}
 use Rattle.tracks.specs.Places.{entrySize, latitudeMost, longitudeMost}
 use Rattle.tracks.specs.Rows as rows
 use Rattle.geography.specs.Layout.{isFirst, firstOf, lastOf, entries}
@@ -33,9 +34,13 @@ sumOf f e start p increment = signedOf f e start +ℤ signedOf f p increment
 abbrev pub fieldRow : Field → Row
 fieldRow k = signedRow "" (k .0) (bytesOf (k .1)) any
 
+-- the sum of one of the two coordinates, by the code's fields
+abbrev pub axisSum : List ℕ → Axis → ℕ → ℕ → ℤ
+axisSum f axis e p = sumOf f e (fieldRow (axis .start)) p (fieldRow (axis .increment))
+
 -- r is that sum, and small
-pub record SumOf (f : List ℕ) (e : ℕ) (start : Field) (p : ℕ) (increment : Field) (r : ℤ) : Type 0 where
-  pub is : r ≡ sumOf f e (fieldRow start) p (fieldRow increment)
+pub record SumOf (f : List ℕ) (axis : Axis) (e p : ℕ) (r : ℤ) : Type 0 where
+  pub is : r ≡ axisSum f axis e p
   pub small : mag r < 2 ^ 33
 
 -- the mark of a rule of the point at p

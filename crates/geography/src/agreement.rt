@@ -20,8 +20,11 @@ use tables::Field;
 use tables::number_of;
 use tables::place_of;
 use tables::signed_of;
+use tracks::Axis;
 use tracks::ENTRIES;
+use tracks::LATITUDE;
 use tracks::LATITUDE_MOST;
+use tracks::LONGITUDE;
 use tracks::LONGITUDE_MOST;
 use tracks::Point;
 use tracks::Track;
@@ -33,10 +36,12 @@ use verdict::also_fact;
 
 // ---- start plus increment
 
-// A start, of the entry at e, plus an increment, of the point at p.
-pub fn sum_of(f: &[u8], e: u32, start: Field, p: u32, increment: Field) -> i64
-    ensures { λ r. ⌜ SumOf (now (f .entry)) e start p increment r ⌝ }
+// The start, of the entry at e, plus the increment, of the point at p.
+pub fn sum_of(f: &[u8], axis: Axis, e: u32, p: u32) -> i64
+    ensures { λ r. ⌜ SumOf (now (f .entry)) axis e p r ⌝ }
 {
+    let start = axis.start;
+    let increment = axis.increment;
     signed_of(f, e, start) + signed_of(f, p, increment)
 }
 
@@ -58,27 +63,24 @@ fn ask(v: Judged, ok: bool, p: u32, k: Field, rule: Rule) -> Judged
 }
 
 // Start plus increment is at most so far from 0.
-fn sum_within(
-    v: Judged,
-    f: &[u8],
-    e: u32,
-    start: Field,
-    p: u32,
-    increment: Field,
-    limit: usize,
-) -> Judged
-    ensures { λ r. ⌜ r ≡ judge v (sumWithin (now (f .entry)) e (fieldRow start) p (fieldRow increment) limit ∷ []) ⌝ }
+fn sum_within(v: Judged, f: &[u8], axis: Axis, e: u32, p: u32, limit: usize) -> Judged
+    ensures { λ r. ⌜ r ≡ judge v (sumWithin (now (f .entry)) e (fieldRow (axis .start)) p (fieldRow (axis .increment)) limit ∷ []) ⌝ }
 {
-    let far = distance(sum_of(f, e, start, p, increment));
+    let start = axis.start;
+    let increment = axis.increment;
+    let far = distance(sum_of(f, axis, e, p));
     let rule = Rule::SumWithin(place_of(p, increment), place_of(e, start), limit);
     ask(v, far <= limit, p, increment, rule)
 }
 
 // Start plus increment is the end.
-fn sum_is(v: Judged, f: &[u8], e: u32, start: Field, end: Field, p: u32, increment: Field) -> Judged
-    ensures { λ r. ⌜ r ≡ judge v (sumIs (now (f .entry)) e (fieldRow start) (fieldRow end) p (fieldRow increment) ∷ []) ⌝ }
+fn sum_is(v: Judged, f: &[u8], axis: Axis, e: u32, p: u32) -> Judged
+    ensures { λ r. ⌜ r ≡ judge v (sumIs (now (f .entry)) e (fieldRow (axis .start)) (fieldRow (axis .end)) p (fieldRow (axis .increment)) ∷ []) ⌝ }
 {
-    let far = distance(sum_of(f, e, start, p, increment) - signed_of(f, e, end));
+    let start = axis.start;
+    let end = axis.end;
+    let increment = axis.increment;
+    let far = distance(sum_of(f, axis, e, p) - signed_of(f, e, end));
     let rule = Rule::SumIs(place_of(p, increment), place_of(e, start), place_of(e, end));
     ask(v, far == 0, p, increment, rule)
 }
@@ -152,17 +154,8 @@ fn starts_right(v: Judged, f: &[u8], size: u8, first: u16, p: u32) -> Judged
 fn stays_in(v: Judged, f: &[u8], e: u32, p: u32) -> Judged
     ensures { λ r. ⌜ r ≡ judge v (stays (now (f .entry)) e p) ⌝ }
 {
-    let start = Track::START_LATITUDE;
-    let w = sum_within(v, f, e, start, p, Point::LATITUDE_INCREMENT, LATITUDE_MOST);
-    sum_within(
-        w,
-        f,
-        e,
-        Track::START_LONGITUDE,
-        p,
-        Point::LONGITUDE_INCREMENT,
-        LONGITUDE_MOST,
-    )
+    let w = sum_within(v, f, LATITUDE, e, p, LATITUDE_MOST);
+    sum_within(w, f, LONGITUDE, e, p, LONGITUDE_MOST)
 }
 
 // A point of a track, where it is the last one.
@@ -174,24 +167,8 @@ fn ends_right(v: Judged, f: &[u8], e: u32, last: u16, p: u32) -> Judged
     }
     let end = place_of(e, Track::END_POSITION);
     let mut w = is_same(v, f, p, Point::POSITION, end);
-    w = sum_is(
-        w,
-        f,
-        e,
-        Track::START_LATITUDE,
-        Track::END_LATITUDE,
-        p,
-        Point::LATITUDE_INCREMENT,
-    );
-    sum_is(
-        w,
-        f,
-        e,
-        Track::START_LONGITUDE,
-        Track::END_LONGITUDE,
-        p,
-        Point::LONGITUDE_INCREMENT,
-    )
+    w = sum_is(w, f, LATITUDE, e, p);
+    sum_is(w, f, LONGITUDE, e, p)
 }
 
 // One point of the entry at e.

@@ -6,7 +6,6 @@ use mathlib.Core.Bool.{Bool, true, false, cond}
 use mathlib.Core.List.{List}
 use lib.Dec.{ltb, leb}
 use native.Mathlib.Omega.{arith}
-use Rattle.octets.specs.Octets.{numAt}
 use Rattle.verdict.specs.declared.Reason.the-variants as reason
 use Rattle.verdict.specs.declared.Fault.{Fault}
 use Rattle.verdict.specs.declared.Verdict.{Verdict}
@@ -15,10 +14,10 @@ use Rattle.verdict.specs.Facts.{test}
 use Rattle.verdict.specs.Reasons.{placeIn}
 use Rattle.verdict.specs.Answers.{Answer, answerPlace, refusal, afterVerdict}
 use Rattle.seal.specs.Header.{headerIn}
-use Rattle.tracks.specs.Places.{pointSize, endPosition}
+use Rattle.tracks.specs.Places.{pointSize}
 use Rattle.tracks.specs.Tracks.{trackAt, pointAt, pointsIn}
 use Rattle.geography.specs.Layout.{countOf, firstOf, lastOf}
-use Rattle.geography.specs.Obeys.{entryAt, pointAt as pointPlace}
+use Rattle.geography.specs.Obeys.{entryPlace, pointPlace}
 use Rattle.geography.specs.Facts as geography
 use Rattle.lookup.specs.Lookup.{findTrack}
 use Rattle.lookup.specs.declared.Found.{Found}
@@ -27,7 +26,7 @@ use Rattle.survey.specs.declared.answers.HeaderAnswer.the-variants as header
 use Rattle.survey.specs.declared.answers.TrackAnswer.the-variants as track
 use Rattle.survey.specs.declared.answers.PointAnswer.the-variants as point
 use Rattle.survey.specs.declared.answers.CoordinateAnswer.the-variants as coordinate
-use Rattle.survey.specs.Stretch.{stretchOf}
+use Rattle.survey.specs.Stretch.{endPositionOf, stretchOf}
 use Rattle.survey.specs.Answers.{headerAnswer, trackAnswer, pointAnswer, coordinateAnswer}
 use Rattle.survey.specs.Questions.{headerOf, trackIn, trackOf, pointIn, pointOf, onStretch, onTrack, onFound, coordinateAsked}
 use Rattle.layout.specs.Layout.{layoutOf}
@@ -69,7 +68,7 @@ module _ (f : List ℕ) where
   unfolding trackOf
   track-place i =
       after-below trackAnswer track.Refused (λ t. refl) (geography.verdictOf f) (trackIn f i) (x1-place f)
-      (if-below trackAnswer (ltb i (countOf f)) (track.Track (trackAt f (entryAt i))) (track.Refused (refusal reason.Question)) (omega arith) (omega arith))
+      (if-below trackAnswer (ltb i (countOf f)) (track.Track (trackAt f (entryPlace i))) (track.Refused (refusal reason.Question)) (omega arith) (omega arith))
 
   point-in : (e j : ℕ) → answerPlace (pointAnswer (pointIn f pointSize e j)) < placeOver
   point-in e j =
@@ -78,9 +77,9 @@ module _ (f : List ℕ) where
   pub point-place : (i j : ℕ) → answerPlace (pointAnswer (pointOf f i j)) < placeOver
   unfolding pointOf
   point-place i j =
-      let answer = cond (ltb i (countOf f)) (pointIn f pointSize (entryAt i) j) (point.Refused (refusal reason.Question)) in
+      let answer = cond (ltb i (countOf f)) (pointIn f pointSize (entryPlace i) j) (point.Refused (refusal reason.Question)) in
       after-below pointAnswer point.Refused (λ t. refl) (geography.verdictOf f) answer (x1-place f)
-      (if-below pointAnswer (ltb i (countOf f)) (pointIn f pointSize (entryAt i) j) (point.Refused (refusal reason.Question)) (point-in (entryAt i) j) (omega arith))
+      (if-below pointAnswer (ltb i (countOf f)) (pointIn f pointSize (entryPlace i) j) (point.Refused (refusal reason.Question)) (point-in (entryPlace i) j) (omega arith))
 
   on-stretch : (e x : ℕ) (w : Found) → answerPlace (coordinateAnswer (onStretch f pointSize e x w)) < placeOver
   on-stretch e x (At p) = omega arith
@@ -89,7 +88,7 @@ module _ (f : List ℕ) where
   on-found : (x : ℕ) (w : Found) → answerPlace (coordinateAnswer (onFound f pointSize x w)) < placeOver
   unfolding onTrack
   on-found x (At e) =
-      if-below coordinateAnswer (leb x (numAt 4 f (e + endPosition))) (onStretch f pointSize e x (stretchOf f pointSize e x)) (coordinate.Refused (refusal reason.Position))
+      if-below coordinateAnswer (leb x (endPositionOf f e)) (onStretch f pointSize e x (stretchOf f pointSize e x)) (coordinate.Refused (refusal reason.Position))
       (on-stretch e x (stretchOf f pointSize e x)) (omega arith)
   on-found x Absent = omega arith
 

@@ -4,6 +4,7 @@ pub mod OfOctets
 pub mod OfRules
 pub mod OfChecksum
 pub mod OfNames
+pub mod OfTables
 pub mod OfSeal
 pub mod OfTracks
 pub mod OfGeography

@@ -33,6 +33,8 @@ use Rattle.octets.proofs.distance.Kinds as distance-kinds
 use Rattle.octets.proofs.distance.Reads as distance-reads
 use Rattle.octets.proofs.least.Kinds as least-kinds
 use Rattle.octets.proofs.least.Reads as least-reads
+use Rattle.octets.proofs.less.Kinds as less-kinds
+use Rattle.octets.proofs.less.Reads as less-reads
 
 pub width-bytes-determined : Determined 0 width-bytes-kinds.ps width-bytes-kinds.r width-bytes-reads.Pre width-bytes-reads.Post
 width-bytes-determined κs a = by-equation (λ v w. refl)
@@ -78,3 +80,6 @@ distance-determined κs a = by-equation (λ v w. refl)
 
 pub least-determined : Determined 0 least-kinds.ps least-kinds.r least-reads.Pre least-reads.Post
 least-determined κs a = by-equation (λ v w. refl)
+
+pub less-determined : Determined 0 less-kinds.ps less-kinds.r less-reads.Pre less-reads.Post
+less-determined κs a = by-equation (λ v w. refl)

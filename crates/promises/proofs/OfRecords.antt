@@ -11,12 +11,12 @@ use Rattle.records.proofs.balises.Nature.of.Kinds as nature-of-kinds
 use Rattle.records.proofs.balises.Nature.of.Reads as nature-of-reads
 use Rattle.records.proofs.balises.Nature.number.Kinds as nature-number-kinds
 use Rattle.records.proofs.balises.Nature.number.Reads as nature-number-reads
-use Rattle.records.proofs.balises.Way.of.Kinds as way-of-kinds
-use Rattle.records.proofs.balises.Way.of.Reads as way-of-reads
-use Rattle.records.proofs.balises.Way.number.Kinds as way-number-kinds
-use Rattle.records.proofs.balises.Way.number.Reads as way-number-reads
-use Rattle.records.proofs.balises.Balise.place_of.Kinds as balise-place-of-kinds
-use Rattle.records.proofs.balises.Balise.place_of.Reads as balise-place-of-reads
+use Rattle.records.proofs.balises.GroupDirection.of.Kinds as groupdirection-of-kinds
+use Rattle.records.proofs.balises.GroupDirection.of.Reads as groupdirection-of-reads
+use Rattle.records.proofs.balises.GroupDirection.number.Kinds as groupdirection-number-kinds
+use Rattle.records.proofs.balises.GroupDirection.number.Reads as groupdirection-number-reads
+use Rattle.records.proofs.balises.Balise.rank_of.Kinds as balise-rank-of-kinds
+use Rattle.records.proofs.balises.Balise.rank_of.Reads as balise-rank-of-reads
 use Rattle.records.proofs.balises.Balise.count_of.Kinds as balise-count-of-kinds
 use Rattle.records.proofs.balises.Balise.count_of.Reads as balise-count-of-reads
 use Rattle.records.proofs.balises.Balise.read.Kinds as balise-read-kinds
@@ -43,6 +43,8 @@ use Rattle.records.proofs.turnouts.Direction.number.Kinds as direction-number-k
 use Rattle.records.proofs.turnouts.Direction.number.Reads as direction-number-reads
 use Rattle.records.proofs.turnouts.Turnout.read.Kinds as turnout-read-kinds
 use Rattle.records.proofs.turnouts.Turnout.read.Reads as turnout-read-reads
+use Rattle.records.proofs.Kind.links.Kinds as kind-links-kinds
+use Rattle.records.proofs.Kind.links.Reads as kind-links-reads
 
 pub kind-size-determined : Determined 0 kind-size-kinds.ps kind-size-kinds.r kind-size-reads.Pre kind-size-reads.Post
 kind-size-determined κs a = by-equation (λ v w. refl)
@@ -56,14 +58,14 @@ nature-of-determined κs a = by-equation (λ v w. refl)
 pub nature-number-determined : Determined 0 nature-number-kinds.ps nature-number-kinds.r nature-number-reads.Pre nature-number-reads.Post
 nature-number-determined κs a = by-equation (λ v w. refl)
 
-pub way-of-determined : Determined 0 way-of-kinds.ps way-of-kinds.r way-of-reads.Pre way-of-reads.Post
-way-of-determined κs a = by-equation (λ v w. refl)
+pub groupdirection-of-determined : Determined 0 groupdirection-of-kinds.ps groupdirection-of-kinds.r groupdirection-of-reads.Pre groupdirection-of-reads.Post
+groupdirection-of-determined κs a = by-equation (λ v w. refl)
 
-pub way-number-determined : Determined 0 way-number-kinds.ps way-number-kinds.r way-number-reads.Pre way-number-reads.Post
-way-number-determined κs a = by-equation (λ v w. refl)
+pub groupdirection-number-determined : Determined 0 groupdirection-number-kinds.ps groupdirection-number-kinds.r groupdirection-number-reads.Pre groupdirection-number-reads.Post
+groupdirection-number-determined κs a = by-equation (λ v w. refl)
 
-pub balise-place-of-determined : Determined 0 balise-place-of-kinds.ps balise-place-of-kinds.r balise-place-of-reads.Pre balise-place-of-reads.Post
-balise-place-of-determined κs a = by-equation (λ v w. refl)
+pub balise-rank-of-determined : Determined 0 balise-rank-of-kinds.ps balise-rank-of-kinds.r balise-rank-of-reads.Pre balise-rank-of-reads.Post
+balise-rank-of-determined κs a = by-equation (λ v w. refl)
 
 pub balise-count-of-determined : Determined 0 balise-count-of-kinds.ps balise-count-of-kinds.r balise-count-of-reads.Pre balise-count-of-reads.Post
 balise-count-of-determined κs a = by-equation (λ v w. refl)
@@ -103,3 +105,6 @@ direction-number-determined κs a = by-equation (λ v w. refl)
 
 pub turnout-read-determined : Determined 1 turnout-read-kinds.ps turnout-read-kinds.r turnout-read-reads.Pre turnout-read-reads.Post
 turnout-read-determined κs a = by-equation (λ v w. refl)
+
+pub kind-links-determined : Determined 0 kind-links-kinds.ps kind-links-kinds.r kind-links-reads.Pre kind-links-reads.Post
+kind-links-determined κs a = by-equation (λ v w. refl)

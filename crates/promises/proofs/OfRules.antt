@@ -9,12 +9,6 @@ use Rattle.rules.proofs.is_number.Kinds as is-number-kinds
 use Rattle.rules.proofs.is_number.Reads as is-number-reads
 use Rattle.rules.proofs.between.Kinds as between-kinds
 use Rattle.rules.proofs.between.Reads as between-reads
-use Rattle.rules.proofs.within.Kinds as within-kinds
-use Rattle.rules.proofs.within.Reads as within-reads
-use Rattle.rules.proofs.among.Kinds as among-kinds
-use Rattle.rules.proofs.among.Reads as among-reads
-use Rattle.rules.proofs.part.Kinds as part-kinds
-use Rattle.rules.proofs.part.Reads as part-reads
 use Rattle.rules.proofs.fits.Kinds as fits-kinds
 use Rattle.rules.proofs.fits.Reads as fits-reads
 use Rattle.rules.proofs.whole.Kinds as whole-kinds
@@ -27,6 +21,10 @@ use Rattle.rules.proofs.same_as.Kinds as same-as-kinds
 use Rattle.rules.proofs.same_as.Reads as same-as-reads
 use Rattle.rules.proofs.above.Kinds as above-kinds
 use Rattle.rules.proofs.above.Reads as above-reads
+use Rattle.rules.proofs.quotient.Kinds as quotient-kinds
+use Rattle.rules.proofs.quotient.Reads as quotient-reads
+use Rattle.rules.proofs.rest.Kinds as rest-kinds
+use Rattle.rules.proofs.rest.Reads as rest-reads
 
 pub length-between-determined : Determined 1 length-between-kinds.ps length-between-kinds.r length-between-reads.Pre length-between-reads.Post
 length-between-determined κs a = by-equation (λ v w. refl)
@@ -36,15 +34,6 @@ is-number-determined κs a = by-equation (λ v w. refl)
 
 pub between-determined : Determined 1 between-kinds.ps between-kinds.r between-reads.Pre between-reads.Post
 between-determined κs a = by-equation (λ v w. refl)
-
-pub within-determined : Determined 1 within-kinds.ps within-kinds.r within-reads.Pre within-reads.Post
-within-determined κs a = by-equation (λ v w. refl)
-
-pub among-determined : Determined 1 among-kinds.ps among-kinds.r among-reads.Pre among-reads.Post
-among-determined κs a = by-equation (λ v w. refl)
-
-pub part-determined : Determined 1 part-kinds.ps part-kinds.r part-reads.Pre part-reads.Post
-part-determined κs a = by-equation (λ v w. refl)
 
 pub fits-determined : Determined 0 fits-kinds.ps fits-kinds.r fits-reads.Pre fits-reads.Post
 fits-determined κs a = by-equation (λ v w. refl)
@@ -63,3 +52,9 @@ same-as-determined κs a = by-equation (λ v w. refl)
 
 pub above-determined : Determined 1 above-kinds.ps above-kinds.r above-reads.Pre above-reads.Post
 above-determined κs a = by-equation (λ v w. refl)
+
+pub quotient-determined : Determined 0 quotient-kinds.ps quotient-kinds.r quotient-reads.Pre quotient-reads.Post
+quotient-determined κs a = by-equation (λ v w. refl)
+
+pub rest-determined : Determined 0 rest-kinds.ps rest-kinds.r rest-reads.Pre rest-reads.Post
+rest-determined κs a = by-equation (λ v w. refl)

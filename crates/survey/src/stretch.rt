@@ -2,7 +2,7 @@
 // each coordinate on it. `size` is the size of a point, e where the track's entry starts, p where a point does.
 ghost use mathlib.Core.Path.{_≡_};
 ghost use Prim.Native.Nat.{_<_};
-ghost use Rattle.geography.specs.Agreement.{fieldRow, sumOf};
+ghost use Rattle.geography.specs.Agreement.{axisSum};
 ghost use Rattle.rounding.specs.Nearest.{coordinateOf};
 ghost use Rattle.rounding.specs.Way.{Limits};
 ghost use Rattle.survey.specs.Stretch.{stretchOf, coordinateOn};
@@ -11,8 +11,10 @@ use crate::answers::Coordinate;
 use geography::sum_of;
 use lookup::Found;
 use rounding::Way;
-use tables::Field;
 use tables::number_of;
+use tracks::Axis;
+use tracks::LATITUDE;
+use tracks::LONGITUDE;
 use tracks::Point;
 use tracks::Track;
 
@@ -33,23 +35,13 @@ pub fn find_stretch(f: &[u8], size: u8, e: u32, x: usize) -> Found
     Found::Absent
 }
 
-// One coordinate, t of the den centimetres on the way between two points, which start at `from` and `to`: it is the start, of the entry at
-// e, and what is added to it at each of the two.
-fn along(
-    f: &[u8],
-    e: u32,
-    start: Field,
-    from: u32,
-    to: u32,
-    increment: Field,
-    t: usize,
-    den: usize,
-) -> i64
-    requires { ⌜ Limits (sumOf (now f) e (fieldRow start) from (fieldRow increment)) (sumOf (now f) e (fieldRow start) to (fieldRow increment)) t den ⌝ }
-    ensures { λ r. ⌜ r ≡ coordinateOf (sumOf (now (f .entry)) e (fieldRow start) from (fieldRow increment)) (sumOf (now (f .entry)) e (fieldRow start) to (fieldRow increment)) t den ⌝ }
+// One coordinate, t of the den centimetres on the way from the point at p to the one at `next`.
+fn along(f: &[u8], axis: Axis, e: u32, p: u32, next: u32, t: usize, den: usize) -> i64
+    requires { ⌜ Limits (axisSum (now f) axis e p) (axisSum (now f) axis e next) t den ⌝ }
+    ensures { λ r. ⌜ r ≡ coordinateOf (axisSum (now (f .entry)) axis e p) (axisSum (now (f .entry)) axis e next) t den ⌝ }
 {
-    let y0 = sum_of(f, e, start, from, increment);
-    let y1 = sum_of(f, e, start, to, increment);
+    let y0 = sum_of(f, axis, e, p);
+    let y1 = sum_of(f, axis, e, next);
     let way = rounding::coordinate(y0, y1, t, den);
     let Way::At(y) = way else {
         return 0;
@@ -68,25 +60,7 @@ pub fn coordinate_on(f: &[u8], size: u8, e: u32, x: usize, p: u32) -> Coordinate
     let t = x - from;
     let den = to - from;
     Coordinate {
-        latitude: along(
-            f,
-            e,
-            Track::START_LATITUDE,
-            p,
-            next,
-            Point::LATITUDE_INCREMENT,
-            t,
-            den,
-        ),
-        longitude: along(
-            f,
-            e,
-            Track::START_LONGITUDE,
-            p,
-            next,
-            Point::LONGITUDE_INCREMENT,
-            t,
-            den,
-        ),
+        latitude: along(f, LATITUDE, e, p, next, t, den),
+        longitude: along(f, LONGITUDE, e, p, next, t, den),
     }
 }

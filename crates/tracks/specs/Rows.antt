@@ -37,10 +37,10 @@ abbrev pub endLongitude : Row
 endLongitude = signedRow "end_longitude" 22 4 (within longitudeMost)
 
 abbrev pub first : Row
-first = row "first_point_offset" 26 2 any
+first = row "first_offset" 26 2 any
 
 abbrev pub last : Row
-last = row "last_point_offset" 28 2 any
+last = row "last_offset" 28 2 any
 
 abbrev pub entryTable : List Row
 entryTable =

@@ -118,6 +118,25 @@ impl Point {
     }
 }
 
+// One of a track's two coordinates: its start and its end, fields of the entry, and what a point adds to the start, a field of the point.
+pub struct Axis {
+    pub start: Field,
+    pub end: Field,
+    pub increment: Field,
+}
+
+pub const LATITUDE: Axis = Axis {
+    start: Track::START_LATITUDE,
+    end: Track::END_LATITUDE,
+    increment: Point::LATITUDE_INCREMENT,
+};
+
+pub const LONGITUDE: Axis = Axis {
+    start: Track::START_LONGITUDE,
+    end: Track::END_LONGITUDE,
+    increment: Point::LONGITUDE_INCREMENT,
+};
+
 // The track count, the last field of the header, and where the entries start after it.
 pub const COUNT: Field = Field(7, Width::One);
 

@@ -13,22 +13,22 @@ use Rattle.geography.proofs.agreement.sum_of.Tie as tie
 
 add-result : tie.Need-add-result
 add-result c =
-    let a = c .before .before .before .args in
+    let a = c .before .before .before .before .before .args in
     let p = c .before .signed-of .ensures .small in
     let q = c .signed-of2 .ensures .small in
-    let h = half-most (a .start .1) in
-    let k = half-most (a .increment .1) in
+    let h = half-most (a .axis .start .1) in
+    let k = half-most (a .axis .increment .1) in
     add-fits (c .before .signed-of .result) (c .signed-of2 .result) (omega arith) (omega arith)
 
 returns : tie.Need-returns
 returns c =
-    let a = c .before .before .before .args in
+    let a = c .before .before .before .before .before .args in
     let x = c .before .signed-of .result in
     let y = c .signed-of2 .result in
     let p = c .before .signed-of .ensures .small in
     let q = c .signed-of2 .ensures .small in
-    let i = half-most (a .start .1) in
-    let j = half-most (a .increment .1) in
+    let i = half-most (a .axis .start .1) in
+    let j = half-most (a .axis .increment .1) in
     let e = add-read x y (omega arith) (omega arith) in
     let m = mag-add x y (2 ^ 31) (2 ^ 31) (omega arith) (omega arith) in
     let h : mag (x +ℤ y) < 2 ^ 33 = omega arith in

@@ -4,18 +4,18 @@ use mathlib.Core.Path.{_≡_, ap, _∙_}
 use native.Mathlib.Omega.{arith}
 use lib.IntN.{natAbs}
 use Rattle.octets.proofs.Signs.{kept}
-use Rattle.geography.specs.Agreement.{fieldRow, sumOf}
+use Rattle.geography.specs.Agreement.{axisSum}
 use borrow.Author.Needs.{needs}
 use Rattle.geography.proofs.agreement.sum_within.Statement.{statement}
 use Rattle.geography.proofs.agreement.sum_within.Tie as tie
 
 returns : tie.Need-returns
 returns c =
-    let a = c .before .before .before .before .before .before .args in
-    let s = c .before .before .before .before .sum-of in
-    let h = s .ensures .small in
-    let far : c .before .before .before .distance .result ≡ natAbs (sumOf (a .f .now) (a .e) (fieldRow (a .start)) (a .p) (fieldRow (a .increment))) =
-    c .before .before .before .distance .ensures ∙ ap natAbs (kept (s .result) (omega arith) ∙ s .ensures .is)
+    let s = c .before .before .before .before in
+    let a = s .before .before .before .before .args in
+    let h = s .sum-of .ensures .small in
+    let far : c .before .before .before .distance .result ≡ natAbs (axisSum (a .f .now) (a .axis) (a .e) (a .p)) =
+    c .before .before .before .distance .ensures ∙ ap natAbs (kept (s .sum-of .result) (omega arith) ∙ s .sum-of .ensures .is)
     in
     simp (c .ask .ensures, c .before .place-of2 .ensures, c .before .before .place-of .ensures, far)
 
