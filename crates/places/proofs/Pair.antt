@@ -39,7 +39,7 @@ module _ (f g : List ℕ) where
 
   facts-below : (l : Layout) → l .stop ≤ mostLength → PlacesBelow placeOver (pairFacts f g l)
   unfolding pairFacts recordsPair
-  facts-below l most = (omega arith, λ _. records-below g l most (recordPair f g l) (λ at h. spots-below at h (kindAt l at)))
+  facts-below l most = (omega arith, λ _. records-below g l most (λ at. recordPair f g (kindAt l at) at) (λ at h. spots-below at h (kindAt l at)))
 
   -- the pair's own faults, of an X.2 that is accepted
   own-place : application.judgedOf g ≡ judged.Accepted → placeIn (shownOf (firstFault (pairFacts f g (layoutOf g)))) < placeOver

@@ -15,24 +15,25 @@ use Rattle.verdict.specs.Walk.{startsFrom}
 use Rattle.seal.specs.Seal.{mostLength, sealFacts}
 use Rattle.records.specs.declared.Kind.{Kind}
 use Rattle.records.specs.declared.Kind.the-variants as kind
+use Rattle.tables.specs.Rows.{tableFacts}
 use Rattle.records.specs.Places.{boundarySize, baliseSize, baliseMessage}
+use Rattle.records.specs.Rows.{baliseTable}
 use Rattle.layout.specs.declared.Layout.{Layout}
-use Rattle.layout.specs.Places.{startCountAt, startEntriesAt, endCountAt, endEntriesAt, groupsAt}
-use Rattle.layout.specs.Layout.{groupEnd, layoutOf}
+use Rattle.layout.specs.Places.{startCountAt, startEntriesAt, endCountAt, endEntriesAt, groupsAt, yardCount}
+use Rattle.layout.specs.Layout.{layoutOf, yardOffsets}
 use Rattle.layout.specs.Bounds.{countMost}
 use Rattle.layout.specs.declared.Made.{Made}
 use Rattle.layout.specs.declared.Made.the-variants.{Fixed, Balises}
-use Rattle.layout.specs.declared.Grouping.{Grouping}
-use Rattle.layout.specs.declared.Grouping.the-variants.{Yard}
-use Rattle.layout.specs.Groups.{madeOf, Group, group, groupStart, nextStart, groupLayout, baliseBytes, baliseLayout, walkLayout, madeFacts, oneGroup, groupFacts, groupsFrom, yardCount}
+use Rattle.layout.specs.declared.Offsets.{Offsets}
+use Rattle.layout.specs.Groups.{Group, groupIn, groupsFrom, groupStart, nextStart, groupEnd, groupLayout, baliseBytes, baliseLayout, walkLayout, madeFacts, oneGroup, groupFacts}
 use Rattle.layout.specs.Facts.{countLayout, indexes, offsetLayout, offsetsLayout, groupsIn, layoutFacts}
 use Rattle.layout.specs.Records.{kindAt, sizeAt, starts}
 use Rattle.layout.proofs.Grouped.{one-inside}
 use Rattle.layout.proofs.Obeys.{layout-obeyed}
 use Rattle.layout.proofs.Walks.{starts-between, index-iff}
-use Rattle.fields.specs.Fields.{headerFields, entryFields, entriesFields, sizeByteOf, lastByte, messageEnd, messageFields, fixedFields, kindFields, recordFields, fieldFacts}
+use Rattle.fields.specs.Fields.{headerFields, entryFields, entriesFields, sizeByteOf, lastByte, messageEnd, messageFields, kindFields, recordFields, fieldFacts}
 use Rattle.fields.specs.Agreement.{entryAgrees, entriesAgree, kindAgrees, recordAgrees, agreementFacts}
-use Rattle.links.specs.Links.{recordTargets, targetsOf, targetFacts, recordReturns, returnsOf, returnFacts}
+use Rattle.links.specs.Links.{recordTargets, targetFacts, recordReturns, returnFacts}
 use Rattle.application.specs.Facts.{fileType, recordFacts, checkFacts, facts, verdictOf}
 use Rattle.places.specs.Places.{placeOver, PlacesBelow}
 use Rattle.places.proofs.Lists.{below-append, below-both, below-each, below-if, fault-below}
@@ -57,15 +58,16 @@ module _ (f : List ℕ) (last end : ℕ) (most : end ≤ mostLength) where
       below-if placeOver (eqb (groupStart f g) 0) [] (group ++ made) tt
       (below-append placeOver group made (omega arith) (λ h. made-below (g .field) until near (omega (arith, h .1 .1 .0)) (g .made)))
 
-  groups-below : (file : Grouping) (base n i due : ℕ) → base + 2 * (i + n) < placeOver → due ≤ mostLength → PlacesBelow placeOver (groupFacts f last end due (groupsFrom file base n i))
+  groups-below : (o : Offsets) (n i due : ℕ) → o .base + 2 * (i + n) < placeOver → due ≤ mostLength → PlacesBelow placeOver (groupFacts f last end due (groupsFrom o n i))
   unfolding groupFacts groupsFrom
-  groups-below file base zero i due near before = omega arith
-  groups-below file base (suc n) i due near before =
-      let rest = groupsFrom file base n (i + 1) in
-      let g = group (base + 2 * i) (madeOf file i) in
-      let until = nextStart f end rest in
-      below-append placeOver (oneGroup f end due until g) (groupFacts f last end (groupEnd (groupStart f g) due until) rest) (one-below due until g (omega arith)) (λ h.
-      groups-below file base n (i + 1) (groupEnd (groupStart f g) due until) (omega arith) (one-inside f end due until g h mostLength before most))
+  groups-below o zero i due near before = omega arith
+  groups-below o (suc n) i due near before =
+      let rest = groupsFrom o n (i + 1) in
+      let g = groupIn o i in
+      let next = nextStart f end rest in
+      let until = groupEnd (groupStart f g) due next in
+      below-append placeOver (oneGroup f end due until g) (groupFacts f last end until rest) (one-below due until g (omega arith)) (λ h.
+      groups-below o n (i + 1) until (omega arith) (one-inside f end due next g h mostLength before most))
 
 -- ---- a record of a kind, which starts before End
 
@@ -77,7 +79,7 @@ module _ (f : List ℕ) (at : ℕ) (inside : at < mostLength) where
   fields-of kind.Turnout = omega arith
   fields-of kind.Balise =
       let message = lastByte f at (at + baliseMessage) (sizeByteOf f at - baliseSize) messageEnd ∷ [] in
-      below-both placeOver (fixedFields f at) (messageFields f at) (omega arith) (below-if placeOver (ltb baliseSize (sizeByteOf f at)) message [] (omega arith) tt)
+      below-both placeOver (tableFacts f at baliseTable) (messageFields f at) (omega arith) (below-if placeOver (ltb baliseSize (sizeByteOf f at)) message [] (omega arith) tt)
   fields-of kind.Signal = omega arith
   fields-of kind.Joint = omega arith
   fields-of kind.Siding = omega arith
@@ -153,8 +155,8 @@ module _ (f : List ℕ) (l : Layout) (most : l .stop ≤ mostLength) where
     checks-below : PlacesBelow placeOver (recordFacts f l)
     unfolding recordFacts targetFacts returnFacts
     checks-below =
-        let t = records-below f l most (targetsOf f l) (λ at h. targets-of f at h l (kindAt l at)) in
-        let r = records-below f l most (returnsOf f l) (λ at h. returns-of f at h l (kindAt l at)) in
+        let t = records-below f l most (λ at. recordTargets f l (kindAt l at) at) (λ at h. targets-of f at h l (kindAt l at)) in
+        let r = records-below f l most (λ at. recordReturns f l (kindAt l at) at) (λ at h. returns-of f at h l (kindAt l at)) in
         below-both placeOver (fieldFacts f l) (agreementFacts f l ++ (targetFacts f l ++ returnFacts f l)) fields-below
         (below-both placeOver (agreementFacts f l) (targetFacts f l ++ returnFacts f l) agreement-below (below-both placeOver (targetFacts f l) (returnFacts f l) t r))
 
@@ -172,7 +174,7 @@ module _ (f : List ℕ) (l : Layout) (most : l .stop ≤ mostLength) where
       let p = offsets-below startEntriesAt (l .header) (l .starts) (omega arith) few in
       let q = offsets-below (endEntriesAt (l .starts)) (l .middle) (l .ends) (omega arith) few′ in
       let room = count .1 .1 .1 .0 in
-      let r = groups-below f (l .bounds - boundarySize) (l .stop) most Yard (groupsAt (l .starts) (l .ends)) yardCount 0 (l .bounds) (omega arith) (omega arith) in
+      let r = groups-below f (l .bounds - boundarySize) (l .stop) most (yardOffsets (groupsAt (l .starts) (l .ends)) (l .stop)) yardCount 0 (l .bounds) (omega arith) (omega arith) in
       below-both placeOver one (two ++ rest) p (below-both placeOver two rest q r))
 
 -- ---- the file
