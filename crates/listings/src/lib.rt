@@ -16,6 +16,7 @@ use layout::layout_of;
 use octets::least;
 use octets::u16_at;
 use routes::RoutesAnswer;
+use tables::number_of;
 use text::head;
 use text::line;
 use text::write;
@@ -135,11 +136,8 @@ pub fn list(f: &[u8]) -> usize
     let l = layout_of(f);
     let n = l.starts;
     for i in 0..n {
-        start_lines(
-            f,
-            l,
-            u16_at(f, START_ENTRIES + ENTRY_SIZE * i + ENTRY_OFFSET),
-        );
+        let entry = (START_ENTRIES + ENTRY_SIZE * i) as u32;
+        start_lines(f, l, number_of(f, entry, ENTRY_OFFSET));
     }
     number
 }

@@ -26,8 +26,8 @@ returns c =
     simp (
       c .word2 .ensures,
       value-read (v .heading) (c .before .before .struct-told3 .given .1 .1 .1 .0 .1) _ (c .before .signed-word3 .ensures),
-      value-read (v .longitude) (c .before .before .before .before .struct-told2 .given .1 .1 .0 .1) _ (c .before .before .before .signed-word2 .ensures),
-      value-read (v .latitude) (c .before .before .before .before .before .before .struct-told .given .1 .0 .1) _ (c .before .before .before .before .before .signed-word .ensures),
+      value-read (v .«longitude_increment») (c .before .before .before .before .struct-told2 .given .1 .1 .0 .1) _ (c .before .before .before .signed-word2 .ensures),
+      value-read (v .«latitude_increment») (c .before .before .before .before .before .before .struct-told .given .1 .0 .1) _ (c .before .before .before .before .before .signed-word .ensures),
       c .before .before .before .before .before .before .before .word .ensures,
     )
 
