@@ -78,28 +78,28 @@ module _ (f : List ℕ) (x : ℕ) where
 -- ---- region by region
 
 module _ (f : List ℕ) (l : Layout) (r : Regions f l) (x : ℕ) where
-  pub found-low : x < l .header → false ≡ test (isStart f l x)
+  pub found-low : x < l .starts → false ≡ test (isStart f l x)
   unfolding isStart
-  found-low h = sym (find-none (sizeAt f l) (l .stop) x (λ s. eqb s x) (other x) (l .header) (inl h))
+  found-low h = sym (find-none (sizeAt f l) (l .end) x (λ s. eqb s x) (other x) (l .starts) (inl h))
 
-  pub found-high : l .stop ≤ x → false ≡ test (isStart f l x)
+  pub found-high : l .end ≤ x → false ≡ test (isStart f l x)
   unfolding isStart
-  found-high h = sym (find-none (sizeAt f l) (l .stop) x (λ s. eqb s x) (other x) (l .header) (inr h))
+  found-high h = sym (find-none (sizeAt f l) (l .end) x (λ s. eqb s x) (other x) (l .starts) (inr h))
 
-  pub found-turnout : l .bounds ≤ x → x < l .turnouts → eqb ((x - l .bounds) % turnoutSize) 0 ≡ test (isStart f l x)
-  found-turnout g h = found-fixed f l r x (l .bounds) (l .turnouts) turnoutSize (reach-bounds f l r) (omega arith) (size-turnout f l r) g h (omega arith)
+  pub found-turnout : l .turnouts ≤ x → x < l .balises → eqb ((x - l .turnouts) % turnoutSize) 0 ≡ test (isStart f l x)
+  found-turnout g h = found-fixed f l r x (l .turnouts) (l .balises) turnoutSize (reach-bounds f l r) (omega arith) (size-turnout f l r) g h (omega arith)
 
-  pub found-balise : l .turnouts ≤ x → x < l .balises → test (baliseStarts f (l .turnouts) x) ≡ test (isStart f l x)
+  pub found-balise : l .balises ≤ x → x < l .signals → test (baliseStarts f (l .balises) x) ≡ test (isStart f l x)
   unfolding isStart baliseStarts
   found-balise g h =
-      find-alike (sizeAt f l) (baliseBytes f) (sizeAt-pos f l) (baliseBytes-pos f) (l .turnouts) (l .stop) x (λ y p q. size-balise f l r y p (omega arith)) (omega arith)
-      ∙ sym (find-skip (sizeAt f l) (l .stop) x (λ s. eqb s x) (other x) (sizeAt-pos f l) (reach-turnouts f l r) g (omega arith))
+      find-alike (sizeAt f l) (baliseBytes f) (sizeAt-pos f l) (baliseBytes-pos f) (l .balises) (l .end) x (λ y p q. size-balise f l r y p (omega arith)) (omega arith)
+      ∙ sym (find-skip (sizeAt f l) (l .end) x (λ s. eqb s x) (other x) (sizeAt-pos f l) (reach-turnouts f l r) g (omega arith))
 
-  pub found-signal : l .balises ≤ x → x < l .signals → eqb ((x - l .balises) % signalSize) 0 ≡ test (isStart f l x)
-  found-signal g h = found-fixed f l r x (l .balises) (l .signals) signalSize (reach-balises f l r) (omega arith) (size-signal f l r) g h (omega arith)
+  pub found-signal : l .signals ≤ x → x < l .joints → eqb ((x - l .signals) % signalSize) 0 ≡ test (isStart f l x)
+  found-signal g h = found-fixed f l r x (l .signals) (l .joints) signalSize (reach-balises f l r) (omega arith) (size-signal f l r) g h (omega arith)
 
-  pub found-joint : l .signals ≤ x → x < l .joints → eqb ((x - l .signals) % jointSize) 0 ≡ test (isStart f l x)
-  found-joint g h = found-fixed f l r x (l .signals) (l .joints) jointSize (reach-signals f l r) (omega arith) (size-joint f l r) g h (omega arith)
+  pub found-joint : l .joints ≤ x → x < l .sidings → eqb ((x - l .joints) % jointSize) 0 ≡ test (isStart f l x)
+  found-joint g h = found-fixed f l r x (l .joints) (l .sidings) jointSize (reach-signals f l r) (omega arith) (size-joint f l r) g h (omega arith)
 
-  pub found-siding : l .joints ≤ x → x < l .stop → eqb ((x - l .joints) % sidingSize) 0 ≡ test (isStart f l x)
-  found-siding g h = found-fixed f l r x (l .joints) (l .stop) sidingSize (reach-joints f l r) (omega arith) (λ y p q. size-siding f l r y p) g h (le-refl (l .stop))
+  pub found-siding : l .sidings ≤ x → x < l .end → eqb ((x - l .sidings) % sidingSize) 0 ≡ test (isStart f l x)
+  found-siding g h = found-fixed f l r x (l .sidings) (l .end) sidingSize (reach-joints f l r) (omega arith) (λ y p q. size-siding f l r y p) g h (le-refl (l .end))

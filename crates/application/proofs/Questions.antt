@@ -98,7 +98,7 @@ module _ (f : List ℕ) (x : ℕ) (v : Verdict) (p : v ≡ verdictOf f) where
       unfolding recordOf
       no-record h n = ap answer.Refused n ∙ sym (there ∙ ap (λ (c : Bool). recordIf c f x) h)
 
-      pub start-small : b ≡ true → Regions f l → l .stop ≤ placeMost → x ≤ placeMost
+      pub start-small : b ≡ true → Regions f l → l .end ≤ placeMost → x ≤ placeMost
       start-small h g s =
           let z = start-below f l g x ((start-tested f l x) .0 (sym q ∙ h)) in
           omega arith

@@ -31,26 +31,26 @@ pub fn starts_record(f: &[u8], l: Layout, x: usize) -> bool
     requires { ⌜ Regions (now f) l ⌝ }
     ensures { λ r. ⌜ r ≡ test (isStart (now (f .entry)) l x) ⌝ }
 {
-    if x < l.header {
+    if x < l.starts {
         return false;
     }
-    if x < l.bounds {
-        return (x - l.header) % Boundary::SIZE == 0;
-    }
     if x < l.turnouts {
-        return (x - l.bounds) % Turnout::SIZE == 0;
+        return (x - l.starts) % Boundary::SIZE == 0;
     }
     if x < l.balises {
-        return starts_balise(f, l.turnouts, x);
+        return (x - l.turnouts) % Turnout::SIZE == 0;
     }
     if x < l.signals {
-        return (x - l.balises) % Signal::SIZE == 0;
+        return starts_balise(f, l.balises, x);
     }
     if x < l.joints {
-        return (x - l.signals) % Joint::SIZE == 0;
+        return (x - l.signals) % Signal::SIZE == 0;
     }
-    if x < l.stop {
-        return (x - l.joints) % Siding::SIZE == 0;
+    if x < l.sidings {
+        return (x - l.joints) % Joint::SIZE == 0;
+    }
+    if x < l.end {
+        return (x - l.sidings) % Siding::SIZE == 0;
     }
     false
 }

@@ -36,21 +36,21 @@ module _ (f : List ℕ) (v x r : Judged) where
 
   module _ (l : Layout) (y : Judged) where
     pub fields-judged :
-        (z : Judged) → x ≡ judge v (headerFields f) → y ≡ judge x (entriesFields f startEntriesAt (l .starts)) → z ≡ judge y (entriesFields f (endEntriesAt (l .starts)) (l .ends))
+        (z : Judged) → x ≡ judge v (headerFields f) → y ≡ judge x (entriesFields f startEntriesAt (l .n)) → z ≡ judge y (entriesFields f (endEntriesAt (l .n)) (l .k))
         → r ≡ judge z (flatMap (recordFields f l) (starts f l)) → r ≡ judge v (fieldFacts f l)
     unfolding fieldFacts
     fields-judged z p q s t =
-        let first = entriesFields f startEntriesAt (l .starts) in
-        let second = entriesFields f (endEntriesAt (l .starts)) (l .ends) in
+        let first = entriesFields f startEntriesAt (l .n) in
+        let second = entriesFields f (endEntriesAt (l .n)) (l .k) in
         let each = flatMap (recordFields f l) (starts f l) in
         judge-then v x r (headerFields f) (first ++ (second ++ each)) p (judge-then x y r first (second ++ each) q (judge-then y z r second each s t))
 
     pub agreement-judged :
-        x ≡ judge v (entriesAgree f startEntriesAt (l .header) (l .starts)) → y ≡ judge x (entriesAgree f (endEntriesAt (l .starts)) (l .middle) (l .ends))
+        x ≡ judge v (entriesAgree f startEntriesAt (l .starts) (l .n)) → y ≡ judge x (entriesAgree f (endEntriesAt (l .n)) (l .ends) (l .k))
         → r ≡ judge y (flatMap (recordAgrees f l) (starts f l)) → r ≡ judge v (agreementFacts f l)
     unfolding agreementFacts
     agreement-judged p q s =
-        let first = entriesAgree f startEntriesAt (l .header) (l .starts) in
-        let second = entriesAgree f (endEntriesAt (l .starts)) (l .middle) (l .ends) in
+        let first = entriesAgree f startEntriesAt (l .starts) (l .n) in
+        let second = entriesAgree f (endEntriesAt (l .n)) (l .ends) (l .k) in
         let each = flatMap (recordAgrees f l) (starts f l) in
         judge-then v x r first (second ++ each) p (judge-then x y r second each q s)

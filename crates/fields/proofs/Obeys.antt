@@ -96,14 +96,14 @@ module _ (f : List ℕ) (l : Layout) where
   pub fields-iff : AllHold (fieldFacts f l) ↔ FieldsObey f l
   unfolding fieldFacts AllHold
   fields-iff =
-      let first = entriesFields f startEntriesAt (l .starts) in
-      let second = entriesFields f (endEntriesAt (l .starts)) (l .ends) in
+      let first = entriesFields f startEntriesAt (l .n) in
+      let second = entriesFields f (endEntriesAt (l .n)) (l .k) in
       let records = flatMap (recordFields f l) (starts f l) in
       let cut = all-append (headerFields f) (first ++ (second ++ records)) in
       let rest = all-append first (second ++ records) in
       let last = all-append second records in
-      let start = entries-iff f startEntriesAt (l .starts) (λ i. 24 + 3 * i) start-track in
-      let end = entries-iff f (endEntriesAt (l .starts)) (l .ends) (λ j. 25 + 3 * l .starts + 3 * j) (end-track (l .starts)) in
+      let start = entries-iff f startEntriesAt (l .n) (λ i. 24 + 3 * i) start-track in
+      let end = entries-iff f (endEntriesAt (l .n)) (l .k) (λ j. 25 + 3 * l .n + 3 * j) (end-track (l .n)) in
       let each = all-each (recordFields f l) (starts f l) in
       let name = station-name-iff f nameAt in (
         λ h.
@@ -160,13 +160,13 @@ module _ (f : List ℕ) (l : Layout) where
   pub agreement-iff : AllHold (agreementFacts f l) ↔ AgreementObeys f l
   unfolding agreementFacts AllHold
   agreement-iff =
-      let first = entriesAgree f startEntriesAt (l .header) (l .starts) in
-      let second = entriesAgree f (endEntriesAt (l .starts)) (l .middle) (l .ends) in
+      let first = entriesAgree f startEntriesAt (l .starts) (l .n) in
+      let second = entriesAgree f (endEntriesAt (l .n)) (l .ends) (l .k) in
       let records = flatMap (recordAgrees f l) (starts f l) in
       let cut = all-append first (second ++ records) in
       let rest = all-append second records in
-      let start = agree-iff f startEntriesAt (l .header) (l .starts) (λ i. 24 + 3 * i) start-track in
-      let end = agree-iff f (endEntriesAt (l .starts)) (l .middle) (l .ends) (λ j. 25 + 3 * l .starts + 3 * j) (end-track (l .starts)) in
+      let start = agree-iff f startEntriesAt (l .starts) (l .n) (λ i. 24 + 3 * i) start-track in
+      let end = agree-iff f (endEntriesAt (l .n)) (l .ends) (l .k) (λ j. 25 + 3 * l .n + 3 * j) (end-track (l .n)) in
       let each = all-each (recordAgrees f l) (starts f l) in (
         λ h.
             let more = rest .0 ((cut .0 h) .1) in

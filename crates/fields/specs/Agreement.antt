@@ -61,5 +61,5 @@ recordAgrees f l at = kindAgrees f (kindAt l at) at
 
 unfoldable pub agreementFacts : List ℕ → Layout → List Fact
 agreementFacts f l =
-    entriesAgree f startEntriesAt (l .header) (l .starts)
-    ++ (entriesAgree f (endEntriesAt (l .starts)) (l .middle) (l .ends) ++ flatMap (recordAgrees f l) (starts f l))
+    entriesAgree f startEntriesAt (l .starts) (l .n)
+    ++ (entriesAgree f (endEntriesAt (l .n)) (l .ends) (l .k) ++ flatMap (recordAgrees f l) (starts f l))

@@ -87,5 +87,5 @@ recordFields f l at = kindFields f (kindAt l at) at
 unfoldable pub fieldFacts : List ℕ → Layout → List Fact
 fieldFacts f l =
     headerFields f
-    ++ (entriesFields f startEntriesAt (l .starts)
-    ++ (entriesFields f (endEntriesAt (l .starts)) (l .ends) ++ flatMap (recordFields f l) (starts f l)))
+    ++ (entriesFields f startEntriesAt (l .n)
+    ++ (entriesFields f (endEntriesAt (l .n)) (l .k) ++ flatMap (recordFields f l) (starts f l)))

@@ -112,15 +112,15 @@ pub record FieldsObey (f : List ℕ) (l : Layout) : Type 0 where
   pub data-version : Between 1 65535 (numAt 2 f 3)
   pub station : Between 1 65535 (numAt 2 f 5)
   pub station-name : StationName f 7
-  pub start-tracks : (i : ℕ) → i < l .starts → Between 1 255 (numAt 1 f (24 + 3 * i))
-  pub end-tracks : (j : ℕ) → j < l .ends → Between 1 255 (numAt 1 f (25 + 3 * l .starts + 3 * j))
+  pub start-tracks : (i : ℕ) → i < l .n → Between 1 255 (numAt 1 f (24 + 3 * i))
+  pub end-tracks : (j : ℕ) → j < l .k → Between 1 255 (numAt 1 f (25 + 3 * l .n + 3 * j))
   pub each-record : (at : ℕ) → List·Memᴰ at (starts f l) → RecordObeys f (kindAt l at) at
 
 -- ---- agreement
 
 pub record AgreementObeys (f : List ℕ) (l : Layout) : Type 0 where
   -- a header boundary's track equals its record's
-  pub start-tracks : (i : ℕ) → i < l .starts → numAt 1 f (24 + 3 * i) ≡ numAt 1 f (l .header + 12 * i + 11)
-  pub end-tracks : (j : ℕ) → j < l .ends → numAt 1 f (25 + 3 * l .starts + 3 * j) ≡ numAt 1 f (l .middle + 12 * j + 11)
+  pub start-tracks : (i : ℕ) → i < l .n → numAt 1 f (24 + 3 * i) ≡ numAt 1 f (l .starts + 12 * i + 11)
+  pub end-tracks : (j : ℕ) → j < l .k → numAt 1 f (25 + 3 * l .n + 3 * j) ≡ numAt 1 f (l .ends + 12 * j + 11)
   -- a balise's place, the low three bits of its group byte and 1, is at most its count, the top three and 1
   pub places : (at : ℕ) → List·Memᴰ at (starts f l) → kindAt l at ≡ kind.Balise → numAt 1 f (at + 15) % 8 + 1 ≤ numAt 1 f (at + 15) / 32 % 8 + 1

@@ -80,10 +80,10 @@ fn records_agree(v: Judged, f: &[u8], l: Layout) -> Judged
     requires { ⌜ Bounded l ⌝ }
     ensures { λ r. ⌜ r ≡ judge v (eachRecord (now (f .entry)) l (kindAgrees (now (f .entry)))) ⌝ }
 {
-    let stop = l.stop;
+    let end = l.end;
     let mut w = v;
-    let mut at = l.header;
-    while at < stop {
+    let mut at = l.starts;
+    while at < end {
         let k = kind_at(l, at);
         w = kind_agrees(w, f, k, at as u32);
         at = at + size_of(f, k, at);
@@ -96,9 +96,9 @@ fn all_agree(v: Judged, f: &[u8], l: Layout) -> Judged
     requires { ⌜ Bounded l ⌝ }
     ensures { λ r. ⌜ r ≡ judge v (agreementFacts (now (f .entry)) l) ⌝ }
 {
-    let end_entries = START_ENTRIES + ENTRY_SIZE * l.starts + 1;
-    let mut w = entries_agree(v, f, START_ENTRIES, l.header, l.starts);
-    w = entries_agree(w, f, end_entries, l.middle, l.ends);
+    let end_entries = START_ENTRIES + ENTRY_SIZE * l.n + 1;
+    let mut w = entries_agree(v, f, START_ENTRIES, l.starts, l.n);
+    w = entries_agree(w, f, end_entries, l.ends, l.k);
     records_agree(w, f, l)
 }
 

@@ -20,10 +20,10 @@ fn records_fields(v: Judged, f: &[u8], l: Layout) -> Judged
     requires { ⌜ Bounded l ⌝ }
     ensures { λ r. ⌜ r ≡ judge v (eachRecord (now (f .entry)) l (kindFields (now (f .entry)))) ⌝ }
 {
-    let stop = l.stop;
+    let end = l.end;
     let mut w = v;
-    let mut at = l.header;
-    while at < stop {
+    let mut at = l.starts;
+    while at < end {
         let k = kind_at(l, at);
         w = kind_fields(w, f, k, at as u32);
         at = at + size_of(f, k, at);
@@ -36,10 +36,10 @@ fn all_fields(v: Judged, f: &[u8], l: Layout) -> Judged
     requires { ⌜ Bounded l ⌝ }
     ensures { λ r. ⌜ r ≡ judge v (fieldFacts (now (f .entry)) l) ⌝ }
 {
-    let end_entries = START_ENTRIES + ENTRY_SIZE * l.starts + 1;
+    let end_entries = START_ENTRIES + ENTRY_SIZE * l.n + 1;
     let mut w = header_fields(v, f);
-    w = entries_fields(w, f, START_ENTRIES, l.starts);
-    w = entries_fields(w, f, end_entries, l.ends);
+    w = entries_fields(w, f, START_ENTRIES, l.n);
+    w = entries_fields(w, f, end_entries, l.k);
     records_fields(w, f, l)
 }
 

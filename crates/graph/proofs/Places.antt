@@ -41,29 +41,29 @@ and-true false b e = absurd (true≢false (sym e))
 
 pub record BoundaryAt (l : Layout) (x : ℕ) : Type 0 where
   pub small : x ≤ offsetMost
-  pub after-header : l .header ≤ x
-  pub before-end : x < l .bounds
-  pub whole : (x - l .header) % boundarySize ≡ 0
+  pub after-header : l .starts ≤ x
+  pub before-end : x < l .turnouts
+  pub whole : (x - l .starts) % boundarySize ≡ 0
 
 -- what `boundaryAt` tests
 pub boundary-facts : (l : Layout) (x : ℕ) → boundaryAt l x ≡ true → BoundaryAt l x
 unfolding boundaryAt
 boundary-facts l x e =
     let a = and-true (leb x offsetMost) _ e in
-    let b = and-true (leb (l .header) x) _ (a .1) in
-    let c = and-true (ltb x (l .bounds)) _ (b .1) in
-    record { small = leb-true x offsetMost (a .0); after-header = leb-true (l .header) x (b .0); before-end = ltb-true x (l .bounds) (c .0); whole = eqb-true ((x - l .header) % boundarySize) 0 (c .1) }
+    let b = and-true (leb (l .starts) x) _ (a .1) in
+    let c = and-true (ltb x (l .turnouts)) _ (b .1) in
+    record { small = leb-true x offsetMost (a .0); after-header = leb-true (l .starts) x (b .0); before-end = ltb-true x (l .turnouts) (c .0); whole = eqb-true ((x - l .starts) % boundarySize) 0 (c .1) }
 
 -- the facts pass the test
 pub boundary-tested : (l : Layout) (x : ℕ) → BoundaryAt l x → boundaryAt l x ≡ true
 unfolding boundaryAt
 boundary-tested l x b =
-    rw (le-leb x offsetMost (b .small), le-leb (l .header) x (b .after-header), lt-ltb x (l .bounds) (b .before-end), eq-eqb ((x - l .header) % boundarySize) 0 (b .whole), boundaryAt) refl
+    rw (le-leb x offsetMost (b .small), le-leb (l .starts) x (b .after-header), lt-ltb x (l .turnouts) (b .before-end), eq-eqb ((x - l .starts) % boundarySize) 0 (b .whole), boundaryAt) refl
 
 -- the kinds by region, as far as the boundaries go
-kind-boundary : (f : List ℕ) (l : Layout) (x : ℕ) → l .middle ≤ l .bounds → isBoundary (objectAt f l x) ≡ ltb x (l .bounds)
+kind-boundary : (f : List ℕ) (l : Layout) (x : ℕ) → l .ends ≤ l .turnouts → isBoundary (objectAt f l x) ≡ ltb x (l .turnouts)
 unfolding objectAt viewAt kindAt
-kind-boundary f l x h = go (ltb x (l .middle)) (ltb x (l .bounds)) refl refl
+kind-boundary f l x h = go (ltb x (l .ends)) (ltb x (l .turnouts)) refl refl
   where
     other : Bool → Bool → Bool → Bool → Kind
     other c d e g = cond c kind.Turnout (cond d kind.Balise (cond e kind.Signal (cond g kind.Joint kind.Siding)))
@@ -75,27 +75,27 @@ kind-boundary f l x h = go (ltb x (l .middle)) (ltb x (l .bounds)) refl refl
     beyond false false false true = refl
     beyond false false false false = refl
 
-    go : (a b : Bool) → ltb x (l .middle) ≡ a → ltb x (l .bounds) ≡ b
-        → isBoundary (viewAt f (cond a kind.StartBoundary (cond b kind.EndBoundary (other (ltb x (l .turnouts)) (ltb x (l .balises)) (ltb x (l .signals)) (ltb x (l .joints))))) x) ≡ b
+    go : (a b : Bool) → ltb x (l .ends) ≡ a → ltb x (l .turnouts) ≡ b
+        → isBoundary (viewAt f (cond a kind.StartBoundary (cond b kind.EndBoundary (other (ltb x (l .balises)) (ltb x (l .signals)) (ltb x (l .joints)) (ltb x (l .sidings))))) x) ≡ b
     go true true p q = refl
-    go true false p q = let m = ltb-true x (l .middle) p in let n = ltb-false x (l .bounds) q in absurd (omega arith)
+    go true false p q = let m = ltb-true x (l .ends) p in let n = ltb-false x (l .turnouts) q in absurd (omega arith)
     go false true p q = refl
-    go false false p q = beyond (ltb x (l .turnouts)) (ltb x (l .balises)) (ltb x (l .signals)) (ltb x (l .joints))
+    go false false p q = beyond (ltb x (l .balises)) (ltb x (l .signals)) (ltb x (l .joints)) (ltb x (l .sidings))
 
 -- THEOREM: of a file whose layout is right, `boundaryAt` tells where a boundary's record starts
-pub boundary-iff : (f : List ℕ) (l : Layout) (x : ℕ) → Regions f l → l .stop ≤ offsetMost
+pub boundary-iff : (f : List ℕ) (l : Layout) (x : ℕ) → Regions f l → l .end ≤ offsetMost
     → (boundaryAt l x ≡ true) ↔ (List·Memᴰ x (starts f l) × (isBoundary (objectAt f l x) ≡ true))
 boundary-iff f l x r small = (there, back)
   where
     there : boundaryAt l x ≡ true → List·Memᴰ x (starts f l) × (isBoundary (objectAt f l x) ≡ true)
     there e =
         let b = boundary-facts l x e in
-        let t = sym (found-boundary f l r x (b .after-header) (b .before-end)) ∙ eq-eqb ((x - l .header) % boundarySize) 0 (b .whole) in
-        (start-tested f l x .0 t, kind-boundary f l x (omega (arith, r .end-boundaries)) ∙ lt-ltb x (l .bounds) (b .before-end))
+        let t = sym (found-boundary f l r x (b .after-header) (b .before-end)) ∙ eq-eqb ((x - l .starts) % boundarySize) 0 (b .whole) in
+        (start-tested f l x .0 t, kind-boundary f l x (omega (arith, r .end-boundaries)) ∙ lt-ltb x (l .turnouts) (b .before-end))
 
     back : List·Memᴰ x (starts f l) × (isBoundary (objectAt f l x) ≡ true) → boundaryAt l x ≡ true
     back h =
-        let below = ltb-true x (l .bounds) (sym (kind-boundary f l x (omega (arith, r .end-boundaries))) ∙ h .1) in
+        let below = ltb-true x (l .turnouts) (sym (kind-boundary f l x (omega (arith, r .end-boundaries))) ∙ h .1) in
         let least = start-least f l r x (h .0) in
         let t = found-boundary f l r x least below ∙ start-tested f l x .1 (h .0) in
-        boundary-tested l x (record { small = omega (arith, start-below f l r x (h .0)); after-header = least; before-end = below; whole = eqb-true ((x - l .header) % boundarySize) 0 t })
+        boundary-tested l x (record { small = omega (arith, start-below f l r x (h .0)); after-header = least; before-end = below; whole = eqb-true ((x - l .starts) % boundarySize) 0 t })

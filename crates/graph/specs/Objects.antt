@@ -61,4 +61,4 @@ offsetMost = 65535
 
 -- a boundary starts at x: whole boundaries stand between the header's end and x
 unfoldable pub boundaryAt : Layout → ℕ → Bool
-boundaryAt l x = leb x offsetMost && (leb (l .header) x && (ltb x (l .bounds) && eqb ((x - l .header) % place.boundarySize) 0))
+boundaryAt l x = leb x offsetMost && (leb (l .starts) x && (ltb x (l .turnouts) && eqb ((x - l .starts) % place.boundarySize) 0))

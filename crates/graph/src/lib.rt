@@ -102,14 +102,14 @@ pub fn object_at(f: &[u8], l: Layout, at: u16) -> Object
 pub fn boundary_at(l: Layout, at: usize) -> bool
     ensures { λ r. ⌜ r ≡ boundaryAt l at ⌝ }
 {
-    let header = l.header;
+    let header = l.starts;
     if OFFSET_MOST < at {
         return false;
     }
     if at < header {
         return false;
     }
-    if l.bounds <= at {
+    if l.turnouts <= at {
         return false;
     }
     (at - header) % Boundary::SIZE == 0

@@ -17,14 +17,14 @@ use Rattle.layout.specs.Bounds.{placeMost, bounded, Bounded, ifBounded}
 use Rattle.layout.specs.Regions.{Regions}
 
 pub regions-bounded : (f : List ℕ) (l : Layout) → Regions f l → length f ≤ placeMost → Bounded l
-regions-bounded f l r h = record { starts = omega arith; ends = omega arith; header = omega arith; middle = omega arith; stop = omega arith }
+regions-bounded f l r h = record { n = omega arith; k = omega arith; starts = omega arith; ends = omega arith; end = omega arith }
 
 module _ (l : Layout) where
   pub bounded-iff : (test (bounded l) ≡ true) ↔ Bounded l
   bounded-iff =
       let t = tested (bounded l) in (
-        λ e. let h = t .0 e in record { starts = h .0; ends = h .1 .0; header = h .1 .1 .0; middle = h .1 .1 .1 .0; stop = h .1 .1 .1 .1 },
-        λ b. t .1 (b .starts, (b .ends, (b .header, (b .middle, b .stop)))),
+        λ e. let h = t .0 e in record { n = h .0; k = h .1 .0; starts = h .1 .1 .0; ends = h .1 .1 .1 .0; end = h .1 .1 .1 .1 },
+        λ b. t .1 (b .n, (b .k, (b .starts, (b .ends, b .end)))),
       )
 
   asked : (v : Judged) (fs : List Fact) (t : Bool) → test (bounded l) ≡ t → judge v (ifBounded l fs) ≡ judge v (cond t fs [])

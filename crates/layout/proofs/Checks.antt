@@ -22,15 +22,15 @@ module _ (f : List ℕ) (l : Layout) (v r : Judged) where
   pub layout-judged :
       (w x y : Judged)
       → w ≡ judge v (countLayout f l)
-      → x ≡ judge w (offsetsLayout f startEntriesAt (l .header) (l .starts))
-      → y ≡ judge x (offsetsLayout f (endEntriesAt (l .starts)) (l .middle) (l .ends))
-      → r ≡ judge y (groupFacts f (l .bounds - boundarySize) (l .stop) (l .bounds) (groupsIn l))
+      → x ≡ judge w (offsetsLayout f startEntriesAt (l .starts) (l .n))
+      → y ≡ judge x (offsetsLayout f (endEntriesAt (l .n)) (l .ends) (l .k))
+      → r ≡ judge y (groupFacts f (l .turnouts - boundarySize) (l .end) (l .turnouts) (groupsIn l))
       → r ≡ judge v (layoutFacts f l)
   unfolding layoutFacts
   layout-judged w x y p q s t =
-      let starts = offsetsLayout f startEntriesAt (l .header) (l .starts) in
-      let ends = offsetsLayout f (endEntriesAt (l .starts)) (l .middle) (l .ends) in
-      let groups = groupFacts f (l .bounds - boundarySize) (l .stop) (l .bounds) (groupsIn l) in
+      let starts = offsetsLayout f startEntriesAt (l .starts) (l .n) in
+      let ends = offsetsLayout f (endEntriesAt (l .n)) (l .ends) (l .k) in
+      let groups = groupFacts f (l .turnouts - boundarySize) (l .end) (l .turnouts) (groupsIn l) in
       judge-then v w r (countLayout f l) (starts ++ (ends ++ groups)) p (judge-then w x r starts (ends ++ groups) q (judge-then x y r ends groups s t))
 
 -- ---- the layout that is found, or the first fault

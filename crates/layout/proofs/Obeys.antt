@@ -30,15 +30,15 @@ module _ (f : List ℕ) where
 pub layout-obeyed : (f : List ℕ) (l : Layout) → AllHold (layoutFacts f l) ↔ LayoutObeys f l
 unfolding layoutFacts AllHold
 layout-obeyed f l =
-    let starts = offsetsLayout f startEntriesAt (l .header) (l .starts) in
-    let ends = offsetsLayout f (endEntriesAt (l .starts)) (l .middle) (l .ends) in
-    let groups = groupFacts f (l .bounds - boundarySize) (l .stop) (l .bounds) (groupsIn l) in
+    let starts = offsetsLayout f startEntriesAt (l .starts) (l .n) in
+    let ends = offsetsLayout f (endEntriesAt (l .n)) (l .ends) (l .k) in
+    let groups = groupFacts f (l .turnouts - boundarySize) (l .end) (l .turnouts) (groupsIn l) in
     let counts = all-append (countLayout f l) (starts ++ (ends ++ groups)) in
     let first = all-append starts (ends ++ groups) in
     let second = all-append ends groups in
-    let starts-iff = offsets-iff f startEntriesAt (l .header) (l .starts) in
-    let ends-iff = offsets-iff f (endEntriesAt (l .starts)) (l .middle) (l .ends) in
-    let grouped = groups-iff f (l .bounds - boundarySize) (l .stop) (groupsIn l) (l .bounds) in (
+    let starts-iff = offsets-iff f startEntriesAt (l .starts) (l .n) in
+    let ends-iff = offsets-iff f (endEntriesAt (l .n)) (l .ends) (l .k) in
+    let grouped = groups-iff f (l .turnouts - boundarySize) (l .end) (groupsIn l) (l .turnouts) in (
       λ h.
           let count = counts .0 h in
           let start = first .0 (count .1) in

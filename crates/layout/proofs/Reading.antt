@@ -8,10 +8,10 @@ use Rattle.records.specs.Places.{boundarySize}
 use Rattle.layout.specs.declared.Offsets.{Offsets}
 use Rattle.layout.specs.Places.{endCountAt, groupsAt, headerLength}
 use Rattle.layout.specs.Groups.{groupsFrom, nextStart, groupEnds, endFrom}
-use Rattle.layout.specs.Layout.{endOf, startsOf, yardOffsets, layoutOf}
+use Rattle.layout.specs.Layout.{endOf, startCountOf, yardOffsets, layoutOf}
 
 -- n and k are the counts, stop is End, and o the group offsets
-module _ (f : List ℕ) (n k stop : ℕ) (o : Offsets) (is-n : n ≡ startsOf f) (is-k : k ≡ numAt 1 f (endCountAt n)) (is-stop : stop ≡ endOf f) (is-o : o ≡ yardOffsets (groupsAt n k) stop) where
+module _ (f : List ℕ) (n k stop : ℕ) (o : Offsets) (is-n : n ≡ startCountOf f) (is-k : k ≡ numAt 1 f (endCountAt n)) (is-stop : stop ≡ endOf f) (is-o : o ≡ yardOffsets (groupsAt n k) stop) where
   abbrev header : ℕ
   header = headerLength n k
 
@@ -23,6 +23,6 @@ module _ (f : List ℕ) (n k stop : ℕ) (o : Offsets) (is-n : n ≡ startsOf f)
 
   pub layout-is :
       (t b s j : ℕ) → t ≡ endFrom f o 0 bounds → b ≡ endFrom f o 1 t → s ≡ endFrom f o 2 b → j ≡ endFrom f o 3 s
-      → record { starts = n; ends = k; header = header; middle = middle; bounds = bounds; turnouts = t; balises = b; signals = s; joints = j; stop = stop } ≡ layoutOf f
+      → record { n = n; k = k; starts = header; ends = middle; turnouts = bounds; balises = t; signals = b; joints = s; sidings = j; end = stop } ≡ layoutOf f
   unfolding layoutOf groupEnds groupsFrom nextStart
   layout-is t b s j et eb es ej = rw (ej, es, eb, et, is-o, is-stop, is-k, is-n)

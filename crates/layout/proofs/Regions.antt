@@ -50,7 +50,7 @@ module _ (f : List ℕ) where
 
 module _ (f : List ℕ) (o : LayoutObeys f (layoutOf f)) where
   -- each balise of the walk is a right one
-  pub balise-obeys : (x : ℕ) → List·Memᴰ x (startsFrom (baliseBytes f) (layoutOf f .balises) (layoutOf f .turnouts)) → BaliseObeys f (layoutOf f .balises) x
+  pub balise-obeys : (x : ℕ) → List·Memᴰ x (startsFrom (baliseBytes f) (layoutOf f .signals) (layoutOf f .balises)) → BaliseObeys f (layoutOf f .signals) x
   unfolding layoutOf groupEnds groupsFrom nextStart madeOf MadeOf
   balise-obeys = (head f (endOf f) ((head f (endOf f) (o .groups)) .rest)) .made
 
@@ -81,6 +81,6 @@ module _ (f : List ℕ) (o : LayoutObeys f (layoutOf f)) where
         };
         signals = record { order = s .order; whole = s .made };
         joints = record { order = j .order; whole = j .made };
-        sidings = subst (Whole sidingSize (layoutOf f .joints)) (grouped-none f (endOf f) (d .rest)) (record { order = d .order; whole = d .made });
+        sidings = subst (Whole sidingSize (layoutOf f .sidings)) (grouped-none f (endOf f) (d .rest)) (record { order = d .order; whole = d .made });
         inside = omega arith;
       }

@@ -14,17 +14,17 @@ use Rattle.layout.proofs.Records.{sizeAt-pos}
 
 -- The verdict so far, then the facts of the records from `at` on, is the verdict before the loop and then the facts of all records.
 pub record Walking (f : List ℕ) (l : Layout) (facts : Kind → ℕ → List Fact) (v w : Judged) (at : ℕ) : Type 0 where
-  pub so : judge w (flatMap (λ x. facts (kindAt l x) x) (startsFrom (sizeAt f l) (l .stop) at)) ≡ judge v (eachRecord f l facts)
+  pub so : judge w (flatMap (λ x. facts (kindAt l x) x) (startsFrom (sizeAt f l) (l .end) at)) ≡ judge v (eachRecord f l facts)
 
 module _ {f : List ℕ} {l : Layout} {facts : Kind → ℕ → List Fact} {v w : Judged} {at : ℕ} (i : Walking f l facts v w at) where
   -- k is the record's kind, r the verdict after it, and n its size
-  pub walking-step : {k : Kind} {r : Judged} {n : ℕ} → at < l .stop → k ≡ kindAt l at → r ≡ judge w (facts k at) → IsSize f k at n → Walking f l facts v r (at + n)
+  pub walking-step : {k : Kind} {r : Judged} {n : ℕ} → at < l .end → k ≡ kindAt l at → r ≡ judge w (facts k at) → IsSize f k at n → Walking f l facts v r (at + n)
   walking-step {k} {r} {n} h kind judged size = record {
     so =
-        judge-step (sizeAt f l) (l .stop) (λ x. facts (kindAt l x) x) (sizeAt-pos f l) w r at (at + n) h
+        judge-step (sizeAt f l) (l .end) (λ x. facts (kindAt l x) x) (sizeAt-pos f l) w r at (at + n) h
         (judged ∙ ap (λ (k : Kind). judge w (facts k at)) kind) (ap (λ (m : ℕ). at + m) (size .is ∙ ap (λ (k : Kind). sizeOf f k at) kind))
         ∙ i .so;
   }
 
-  pub walking-stop : l .stop ≤ at → w ≡ judge v (eachRecord f l facts)
-  walking-stop h = sym (judge-stop (sizeAt f l) (l .stop) (λ x. facts (kindAt l x) x) w at h) ∙ i .so
+  pub walking-stop : l .end ≤ at → w ≡ judge v (eachRecord f l facts)
+  walking-stop h = sym (judge-stop (sizeAt f l) (l .end) (λ x. facts (kindAt l x) x) w at h) ∙ i .so

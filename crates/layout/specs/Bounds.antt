@@ -40,12 +40,12 @@ sliceOver = 2 ^ 63
 
 -- of a layout that was read
 pub record Small (l : Layout) : Type 0 where
-  pub starts : l .starts ≤ countMost
-  pub ends : l .ends ≤ countMost
-  pub header : l .header ≡ headerLength (l .starts) (l .ends)
-  pub middle : l .middle ≡ l .header + boundarySize * l .starts
-  pub bounds : l .bounds ≡ l .middle + boundarySize * l .ends
-  pub stop : l .stop < sliceOver
+  pub n : l .n ≤ countMost
+  pub k : l .k ≤ countMost
+  pub starts : l .starts ≡ headerLength (l .n) (l .k)
+  pub ends : l .ends ≡ l .starts + boundarySize * l .n
+  pub turnouts : l .turnouts ≡ l .ends + boundarySize * l .k
+  pub end : l .end < sliceOver
 
 -- of a header's group offsets
 pub record Near (o : Offsets) : Type 0 where
@@ -57,18 +57,18 @@ pub record Near (o : Offsets) : Type 0 where
 
 abbrev pub bounded : Layout → Claim
 bounded l =
-    both (atMost (l .starts) countMost)
-    (both (atMost (l .ends) countMost)
-    (both (atMost (l .header) placeMost)
-    (both (atMost (l .middle) placeMost) (atMost (l .stop) placeMost))))
+    both (atMost (l .n) countMost)
+    (both (atMost (l .k) countMost)
+    (both (atMost (l .starts) placeMost)
+    (both (atMost (l .ends) placeMost) (atMost (l .end) placeMost))))
 
 -- the same, with no test
 pub record Bounded (l : Layout) : Type 0 where
-  pub starts : l .starts ≤ countMost
-  pub ends : l .ends ≤ countMost
-  pub header : l .header ≤ placeMost
-  pub middle : l .middle ≤ placeMost
-  pub stop : l .stop ≤ placeMost
+  pub n : l .n ≤ countMost
+  pub k : l .k ≤ countMost
+  pub starts : l .starts ≤ placeMost
+  pub ends : l .ends ≤ placeMost
+  pub end : l .end ≤ placeMost
 
 -- the facts of a layout, where its numbers are those of a file; no file has another layout, and nothing is asked of it
 unfoldable pub ifBounded : Layout → List Fact → List Fact

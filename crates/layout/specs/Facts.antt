@@ -23,9 +23,9 @@ use Rattle.layout.specs.Groups.{Group, groupsOf, groupFacts}
 abbrev pub countLayout : List ℕ → Layout → List Fact
 countLayout f l =
     between reason.Layout f 0 startCountAt One 1 255
-    ∷ fits 0 startCountAt 1 (endCountAt (l .starts) + 1) (l .stop)
-    ∷ between reason.Layout f 0 (endCountAt (l .starts)) One 1 255
-    ∷ fits 0 (endCountAt (l .starts)) 1 (l .bounds) (l .stop)
+    ∷ fits 0 startCountAt 1 (endCountAt (l .n) + 1) (l .end)
+    ∷ between reason.Layout f 0 (endCountAt (l .n)) One 1 255
+    ∷ fits 0 (endCountAt (l .n)) 1 (l .turnouts) (l .end)
     ∷ []
 
 -- ---- the boundary offsets: each is where due
@@ -44,16 +44,16 @@ offsetsLayout f entries due count = flatMap (offsetLayout f entries due) (indexe
 -- ---- the groups: the first is due where the boundaries end
 
 abbrev pub groupsIn : Layout → List Group
-groupsIn l = groupsOf (yardOffsets (groupsAt (l .starts) (l .ends)) (l .stop))
+groupsIn l = groupsOf (yardOffsets (groupsAt (l .n) (l .k)) (l .end))
 
 -- ---- all of them
 
 unfoldable pub layoutFacts : List ℕ → Layout → List Fact
 layoutFacts f l =
     countLayout f l
-    ++ (offsetsLayout f startEntriesAt (l .header) (l .starts)
-    ++ (offsetsLayout f (endEntriesAt (l .starts)) (l .middle) (l .ends)
-    ++ groupFacts f (l .bounds - boundarySize) (l .stop) (l .bounds) (groupsIn l)))
+    ++ (offsetsLayout f startEntriesAt (l .starts) (l .n)
+    ++ (offsetsLayout f (endEntriesAt (l .n)) (l .ends) (l .k)
+    ++ groupFacts f (l .turnouts - boundarySize) (l .end) (l .turnouts) (groupsIn l)))
 
 -- ---- the layout that is found, or the first fault
 

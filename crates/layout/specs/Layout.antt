@@ -17,21 +17,21 @@ use Rattle.layout.specs.Groups.{groupsOf, groupEnds}
 -- ---- the boundaries
 
 -- the start boundary count n and the end boundary count k
-abbrev pub startsOf : List ℕ → ℕ
-startsOf f = numAt 1 f startCountAt
+abbrev pub startCountOf : List ℕ → ℕ
+startCountOf f = numAt 1 f startCountAt
 
-abbrev pub endsOf : List ℕ → ℕ
-endsOf f = numAt 1 f (endCountAt (startsOf f))
+abbrev pub endCountOf : List ℕ → ℕ
+endCountOf f = numAt 1 f (endCountAt (startCountOf f))
 
 -- where the header ends, where the start boundaries end, and where the end boundaries end
-abbrev pub headerOf : List ℕ → ℕ
-headerOf f = headerLength (startsOf f) (endsOf f)
+abbrev pub headerEndOf : List ℕ → ℕ
+headerEndOf f = headerLength (startCountOf f) (endCountOf f)
 
-abbrev pub middleOf : List ℕ → ℕ
-middleOf f = headerOf f + boundarySize * startsOf f
+abbrev pub startsEndOf : List ℕ → ℕ
+startsEndOf f = headerEndOf f + boundarySize * startCountOf f
 
-abbrev pub boundsOf : List ℕ → ℕ
-boundsOf f = middleOf f + boundarySize * endsOf f
+abbrev pub boundariesEndOf : List ℕ → ℕ
+boundariesEndOf f = startsEndOf f + boundarySize * endCountOf f
 
 -- ---- the groups
 
@@ -41,20 +41,20 @@ yardOffsets base end = record { file = Yard; base = base; count = yardCount; end
 
 -- where the group with the index i ends; the first nonzero one is due where the boundaries end
 abbrev pub groupEndOf : List ℕ → ℕ → ℕ
-groupEndOf f i = getD (groupEnds f (endOf f) (boundsOf f) (groupsOf (yardOffsets (groupsAt (startsOf f) (endsOf f)) (endOf f)))) i 0
+groupEndOf f i = getD (groupEnds f (endOf f) (boundariesEndOf f) (groupsOf (yardOffsets (groupsAt (startCountOf f) (endCountOf f)) (endOf f)))) i 0
 
--- ---- all numbers; the sidings end at End
+-- ---- all numbers: the two counts, where each sort of records starts, and End
 
 unfoldable pub layoutOf : List ℕ → Layout
 layoutOf f = record {
-  starts = startsOf f;
-  ends = endsOf f;
-  header = headerOf f;
-  middle = middleOf f;
-  bounds = boundsOf f;
-  turnouts = groupEndOf f 0;
-  balises = groupEndOf f 1;
-  signals = groupEndOf f 2;
-  joints = groupEndOf f 3;
-  stop = endOf f;
+  n = startCountOf f;
+  k = endCountOf f;
+  starts = headerEndOf f;
+  ends = startsEndOf f;
+  turnouts = boundariesEndOf f;
+  balises = groupEndOf f 0;
+  signals = groupEndOf f 1;
+  joints = groupEndOf f 2;
+  sidings = groupEndOf f 3;
+  end = endOf f;
 }

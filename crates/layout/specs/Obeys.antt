@@ -39,12 +39,12 @@ pub data Grouped (f : List ℕ) (end : ℕ) : ℕ → List Group → Type 0 wher
 pub record LayoutObeys (f : List ℕ) (l : Layout) : Type 0 where
   -- n is not 0, and 24 + 3n is below End
   pub start-count : (1 ≤ numAt 1 f startCountAt) × (numAt 1 f startCountAt ≤ 255)
-  pub start-room : endCountAt (l .starts) < l .stop
+  pub start-room : endCountAt (l .n) < l .end
   -- k is not 0, and header plus 12 (n + k) is not over End
-  pub end-count : (1 ≤ numAt 1 f (endCountAt (l .starts))) × (numAt 1 f (endCountAt (l .starts)) ≤ 255)
-  pub boundary-room : l .bounds ≤ l .stop
+  pub end-count : (1 ≤ numAt 1 f (endCountAt (l .n))) × (numAt 1 f (endCountAt (l .n)) ≤ 255)
+  pub boundary-room : l .turnouts ≤ l .end
   -- each boundary offset is where due: the start boundaries stand after the header, the end boundaries after those
-  pub start-offsets : (i : ℕ) → i < l .starts → numAt 2 f (startEntriesAt + entrySize * i + entryOffset) ≡ l .header + boundarySize * i
-  pub end-offsets : (j : ℕ) → j < l .ends → numAt 2 f (endEntriesAt (l .starts) + entrySize * j + entryOffset) ≡ l .middle + boundarySize * j
+  pub start-offsets : (i : ℕ) → i < l .n → numAt 2 f (startEntriesAt + entrySize * i + entryOffset) ≡ l .starts + boundarySize * i
+  pub end-offsets : (j : ℕ) → j < l .k → numAt 2 f (endEntriesAt (l .n) + entrySize * j + entryOffset) ≡ l .ends + boundarySize * j
   -- from there to End there is nothing but the groups
-  pub groups : Grouped f (l .stop) (l .bounds) (groupsIn l)
+  pub groups : Grouped f (l .end) (l .turnouts) (groupsIn l)

@@ -17,12 +17,12 @@ use Rattle.layout.specs.Facts.{baliseBytes}
 -- the kind of a record, by the region that its start lies in
 unfoldable pub kindAt : Layout → ℕ → Kind
 kindAt l at =
-    cond (ltb at (l .middle)) StartBoundary
-    (cond (ltb at (l .bounds)) EndBoundary
-    (cond (ltb at (l .turnouts)) Turnout
-    (cond (ltb at (l .balises)) Balise
-    (cond (ltb at (l .signals)) Signal
-    (cond (ltb at (l .joints)) Joint Siding)))))
+    cond (ltb at (l .ends)) StartBoundary
+    (cond (ltb at (l .turnouts)) EndBoundary
+    (cond (ltb at (l .balises)) Turnout
+    (cond (ltb at (l .signals)) Balise
+    (cond (ltb at (l .joints)) Signal
+    (cond (ltb at (l .sidings)) Joint Siding)))))
 
 -- how many bytes the record of a kind at a place has
 unfoldable pub sizeOf : List ℕ → Kind → ℕ → ℕ
@@ -45,7 +45,7 @@ sizeAt f l at = sizeOf f (kindAt l at) at
 
 -- the starts of all records
 abbrev pub starts : List ℕ → Layout → List ℕ
-starts f l = startsFrom (sizeAt f l) (l .stop) (l .header)
+starts f l = startsFrom (sizeAt f l) (l .end) (l .starts)
 
 -- the facts of each record in turn, by its kind
 abbrev pub eachRecord : List ℕ → Layout → (Kind → ℕ → List Fact) → List Fact

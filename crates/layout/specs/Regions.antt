@@ -22,16 +22,16 @@ pub record WholeBalises (f : List ℕ) (a b : ℕ) : Type 0 where
   pub ends : (at : ℕ) → List·Memᴰ at (startsFrom (baliseBytes f) b a) → at + baliseBytes f at ≤ b
 
 pub record Regions (f : List ℕ) (l : Layout) : Type 0 where
-  pub some-start : 1 ≤ l .starts
-  pub few-starts : l .starts ≤ 255
-  pub some-end : 1 ≤ l .ends
-  pub few-ends : l .ends ≤ 255
-  pub header : l .header ≡ headerLength (l .starts) (l .ends)
-  pub start-boundaries : l .middle ≡ l .header + boundarySize * l .starts
-  pub end-boundaries : l .bounds ≡ l .middle + boundarySize * l .ends
-  pub turnouts : Whole turnoutSize (l .bounds) (l .turnouts)
-  pub balises : WholeBalises f (l .turnouts) (l .balises)
-  pub signals : Whole signalSize (l .balises) (l .signals)
-  pub joints : Whole jointSize (l .signals) (l .joints)
-  pub sidings : Whole sidingSize (l .joints) (l .stop)
-  pub inside : l .stop ≤ length f
+  pub some-start : 1 ≤ l .n
+  pub few-starts : l .n ≤ 255
+  pub some-end : 1 ≤ l .k
+  pub few-ends : l .k ≤ 255
+  pub header : l .starts ≡ headerLength (l .n) (l .k)
+  pub start-boundaries : l .ends ≡ l .starts + boundarySize * l .n
+  pub end-boundaries : l .turnouts ≡ l .ends + boundarySize * l .k
+  pub turnouts : Whole turnoutSize (l .turnouts) (l .balises)
+  pub balises : WholeBalises f (l .balises) (l .signals)
+  pub signals : Whole signalSize (l .signals) (l .joints)
+  pub joints : Whole jointSize (l .joints) (l .sidings)
+  pub sidings : Whole sidingSize (l .sidings) (l .end)
+  pub inside : l .end ≤ length f

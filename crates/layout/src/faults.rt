@@ -31,9 +31,9 @@ fn counts_layout(v: Judged, f: &[u8], l: Layout) -> Judged
     ensures { λ r. ⌜ r ≡ judge v (countLayout (now (f .entry)) l) ⌝ }
 {
     let start_count = place_of(HEADER, START_COUNT);
-    let end_count = START_ENTRIES + ENTRY_SIZE * l.starts;
+    let end_count = START_ENTRIES + ENTRY_SIZE * l.n;
     let mut w = number_between(v, f, Reason::Layout, HEADER, START_COUNT, 1, COUNT_MOST);
-    w = fits(w, 0, start_count, 1, end_count + 1, l.stop);
+    w = fits(w, 0, start_count, 1, end_count + 1, l.end);
     w = between(
         w,
         f,
@@ -44,7 +44,7 @@ fn counts_layout(v: Judged, f: &[u8], l: Layout) -> Judged
         1,
         COUNT_MOST,
     );
-    fits(w, 0, end_count, 1, l.bounds, l.stop)
+    fits(w, 0, end_count, 1, l.turnouts, l.end)
 }
 
 // The offsets in so many entries from a place on: each boundary stands where it is due.
@@ -77,12 +77,12 @@ fn check_layout(v: Judged, f: &[u8], l: Layout) -> Judged
     requires { ⌜ Small l ⌝ }
     ensures { λ r. ⌜ r ≡ judge v (layoutFacts (now (f .entry)) l) ⌝ }
 {
-    let end_entries = START_ENTRIES + ENTRY_SIZE * l.starts + 1;
-    let o = yard_offsets(end_entries + ENTRY_SIZE * l.ends, l.stop);
+    let end_entries = START_ENTRIES + ENTRY_SIZE * l.n + 1;
+    let o = yard_offsets(end_entries + ENTRY_SIZE * l.k, l.end);
     let mut w = counts_layout(v, f, l);
-    w = offsets_layout(w, f, START_ENTRIES, l.starts, l.header);
-    w = offsets_layout(w, f, end_entries, l.ends, l.middle);
-    check_groups(w, f, o, l.bounds, l.bounds - Boundary::SIZE)
+    w = offsets_layout(w, f, START_ENTRIES, l.n, l.starts);
+    w = offsets_layout(w, f, end_entries, l.k, l.ends);
+    check_groups(w, f, o, l.turnouts, l.turnouts - Boundary::SIZE)
 }
 
 // The layout of a file, or its first fault.

@@ -17,29 +17,25 @@ pub use numbers::layout_of;
 pub use stream::kind_at;
 pub use stream::size_of;
 
-// The two counts of a header, and where the header and each sort of records end. Each sort starts where the one before it ends, so an
-// empty group ends there too.
+// The two counts of a header, and where each sort of records starts, in stored order. Each starts where the one before it ends, so an empty
+// group starts where the next one does.
 pub struct Layout {
     // n: how many start boundaries the header names
-    pub starts: usize,
+    pub n: usize,
     // k: how many end boundaries it names
+    pub k: usize,
+    // where the start boundaries start and the header ends
+    pub starts: usize,
+    // where the end boundaries start
     pub ends: usize,
-    // where the header ends and the start boundaries start
-    pub header: usize,
-    // where the start boundaries end and the end boundaries start
-    pub middle: usize,
-    // where the end boundaries end and the turnouts start
-    pub bounds: usize,
-    // where the turnouts end and the balises start
+    // where the turnouts start and the boundaries end
     pub turnouts: usize,
-    // where the balises end and the signals start
     pub balises: usize,
-    // where the signals end and the joints start
     pub signals: usize,
-    // where the joints end and the sidings start
     pub joints: usize,
+    pub sidings: usize,
     // End: the file's length without its checksum, where the sidings end
-    pub stop: usize,
+    pub end: usize,
 }
 
 // The layout of a file, or its first fault.

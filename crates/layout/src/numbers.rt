@@ -29,9 +29,9 @@ use tables::number_of;
 pub fn is_bounded(l: Layout) -> bool
     ensures { λ r. ⌜ r ≡ test (bounded l) ⌝ }
 {
-    (l.starts <= COUNT_MOST)
-        & ((l.ends <= COUNT_MOST)
-            & ((l.header <= PLACE_MOST) & ((l.middle <= PLACE_MOST) & (l.stop <= PLACE_MOST))))
+    (l.n <= COUNT_MOST)
+        & ((l.k <= COUNT_MOST)
+            & ((l.starts <= PLACE_MOST) & ((l.ends <= PLACE_MOST) & (l.end <= PLACE_MOST))))
 }
 
 // X.2's five group offsets, the first at a base.
@@ -54,29 +54,29 @@ pub fn layout_of(f: &[u8]) -> Layout
     ensures { λ r. ⌜ r ≡ layoutOf (now (f .entry)) ⌝ }
     ensures { λ r. ⌜ Small r ⌝ }
 {
-    let stop = end_of(f);
-    let starts = number_of(f, HEADER, START_COUNT);
-    let end_count = START_ENTRIES + ENTRY_SIZE * starts;
-    let ends = byte_at(f, end_count);
-    let groups = end_count + 1 + ENTRY_SIZE * ends;
-    let header = groups + OFFSET_SIZE * YARD_GROUPS;
-    let middle = header + Boundary::SIZE * starts;
-    let bounds = middle + Boundary::SIZE * ends;
-    let o = yard_offsets(groups, stop);
-    let turnouts = group_end(f, o, TURNOUTS, bounds);
-    let balises = group_end(f, o, BALISES, turnouts);
-    let signals = group_end(f, o, SIGNALS, balises);
-    let joints = group_end(f, o, JOINTS, signals);
+    let end = end_of(f);
+    let n = number_of(f, HEADER, START_COUNT);
+    let end_count = START_ENTRIES + ENTRY_SIZE * n;
+    let k = byte_at(f, end_count);
+    let groups = end_count + 1 + ENTRY_SIZE * k;
+    let starts = groups + OFFSET_SIZE * YARD_GROUPS;
+    let ends = starts + Boundary::SIZE * n;
+    let turnouts = ends + Boundary::SIZE * k;
+    let o = yard_offsets(groups, end);
+    let balises = group_end(f, o, TURNOUTS, turnouts);
+    let signals = group_end(f, o, BALISES, balises);
+    let joints = group_end(f, o, SIGNALS, signals);
+    let sidings = group_end(f, o, JOINTS, joints);
     Layout {
+        n,
+        k,
         starts,
         ends,
-        header,
-        middle,
-        bounds,
         turnouts,
         balises,
         signals,
         joints,
-        stop,
+        sidings,
+        end,
     }
 }

@@ -18,22 +18,22 @@ use records::Turnout;
 pub fn kind_at(l: Layout, at: usize) -> Kind
     ensures { λ r. ⌜ r ≡ kindAt l at ⌝ }
 {
-    if at < l.middle {
+    if at < l.ends {
         return Kind::StartBoundary;
     }
-    if at < l.bounds {
+    if at < l.turnouts {
         return Kind::EndBoundary;
     }
-    if at < l.turnouts {
+    if at < l.balises {
         return Kind::Turnout;
     }
-    if at < l.balises {
+    if at < l.signals {
         return Kind::Balise;
     }
-    if at < l.signals {
+    if at < l.joints {
         return Kind::Signal;
     }
-    if at < l.joints {
+    if at < l.sidings {
         return Kind::Joint;
     }
     Kind::Siding

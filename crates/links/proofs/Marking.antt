@@ -26,7 +26,7 @@ use Rattle.links.specs.Marks.{cell, cells, markOf, markIf, markAt, Blank
 pub record Marking (f : List ℕ) (l : Layout) (marks : List ℕ) (at : ℕ) : Type 0 where
   pub room : length marks ≡ cells
   pub blank : (i : ℕ) → at / cell ≤ i → getD marks i 0 ≡ 0
-  pub found : (x : ℕ) → (markAt marks x || anyOf (λ s. test (named f l x s)) (startsFrom (sizeAt f l) (l .stop) at)) ≡ test (isTarget f l x)
+  pub found : (x : ℕ) → (markAt marks x || anyOf (λ s. test (named f l x s)) (startsFrom (sizeAt f l) (l .end) at)) ≡ test (isTarget f l x)
 
 -- ---- marks: of the place itself, and of another place of its cell
 
@@ -43,11 +43,11 @@ other : (f : List ℕ) (l : Layout) (x y : ℕ) → (y ≡ x → ⊥) → test (
 other f l x y h = rw (ne-eqb y x h)
 
 module _ (f : List ℕ) (l : Layout) where
-  pub marking-none : (marks : List ℕ) → length marks ≡ cells → Blank marks → Marking f l marks (l .header)
+  pub marking-none : (marks : List ℕ) → length marks ≡ cells → Blank marks → Marking f l marks (l .starts)
   unfolding isTarget
   marking-none marks r b = record { room = r; blank = λ i h. b i; found = λ x. rw (b (x / cell), ne-eqb 0 (markOf x) (λ q. omega arith)) }
 
-  module _ (marks : List ℕ) (at next m : ℕ) (below : at < l .stop) (fits : at ≤ placeMost) (is : m ≡ markIf (test (linkable f (kindAt l at) at)) at) (step : next ≡ at + sizeAt f l at) (g : Marking f l marks at) where
+  module _ (marks : List ℕ) (at next m : ℕ) (below : at < l .end) (fits : at ≤ placeMost) (is : m ≡ markIf (test (linkable f (kindAt l at) at)) at) (step : next ≡ at + sizeAt f l at) (g : Marking f l marks at) where
     onward : at < next
     onward = omega (arith, sizeAt-least f l at)
 
@@ -59,16 +59,16 @@ module _ (f : List ℕ) (l : Layout) where
     unfilled : (x : ℕ) → x / cell ≡ at / cell → markAt marks x ≡ false
     unfilled x e = rw (g .blank (x / cell) (omega arith)) (ne-eqb 0 (markOf x) (λ q. omega arith))
 
-    here : (markAt (set marks (at / cell) m) at || anyOf (λ s. test (named f l at s)) (startsFrom (sizeAt f l) (l .stop) next)) ≡ test (isTarget f l at)
+    here : (markAt (set marks (at / cell) m) at || anyOf (λ s. test (named f l at s)) (startsFrom (sizeAt f l) (l .end) next)) ≡ test (isTarget f l at)
     here =
         let may = test (linkable f (kindAt l at) at) in
-        let none = find-none (sizeAt f l) (l .stop) at (λ s. test (named f l at s)) (other f l at) next (inl onward) in
+        let none = find-none (sizeAt f l) (l .end) at (λ s. test (named f l at s)) (other f l at) next (inl onward) in
         let filled = getD-set-same marks (at / cell) m 0 (omega (arith, g .room)) in
-        let left : (markAt (set marks (at / cell) m) at || anyOf (λ s. test (named f l at s)) (startsFrom (sizeAt f l) (l .stop) next)) ≡ may =
+        let left : (markAt (set marks (at / cell) m) at || anyOf (λ s. test (named f l at s)) (startsFrom (sizeAt f l) (l .end) next)) ≡ may =
         rw (none, filled, is, own-mark may at) (or-false may)
         in
-        let right : (markAt marks at || anyOf (λ s. test (named f l at s)) (startsFrom (sizeAt f l) (l .stop) at)) ≡ may =
-        rw (unfilled at refl, starts-step (sizeAt f l) (l .stop) (sizeAt-pos f l) at below, ← step, none, eq-eqb at at refl) (or-false may)
+        let right : (markAt marks at || anyOf (λ s. test (named f l at s)) (startsFrom (sizeAt f l) (l .end) at)) ≡ may =
+        rw (unfilled at refl, starts-step (sizeAt f l) (l .end) (sizeAt-pos f l) at below, ← step, none, eq-eqb at at refl) (or-false may)
         in
         left ∙ sym right ∙ g .found at
 
@@ -78,15 +78,15 @@ module _ (f : List ℕ) (l : Layout) where
         rw (e, getD-set-same marks (at / cell) m 0 (omega (arith, g .room)), is) (other-mark (test (linkable f (kindAt l at) at)) at x e n) ∙ sym (unfilled x e)
     kept x n (no o) = rw (getD-set-other marks (at / cell) (x / cell) m 0 o)
 
-    there : (x : ℕ) → (x ≡ at → ⊥) → (markAt (set marks (at / cell) m) x || anyOf (λ s. test (named f l x s)) (startsFrom (sizeAt f l) (l .stop) next)) ≡ test (isTarget f l x)
+    there : (x : ℕ) → (x ≡ at → ⊥) → (markAt (set marks (at / cell) m) x || anyOf (λ s. test (named f l x s)) (startsFrom (sizeAt f l) (l .end) next)) ≡ test (isTarget f l x)
     there x n =
-        let skip : anyOf (λ s. test (named f l x s)) (startsFrom (sizeAt f l) (l .stop) at) ≡ anyOf (λ s. test (named f l x s)) (startsFrom (sizeAt f l) (l .stop) next) =
-        rw (starts-step (sizeAt f l) (l .stop) (sizeAt-pos f l) at below, ← step, ne-eqb at x (λ q. n (sym q)))
+        let skip : anyOf (λ s. test (named f l x s)) (startsFrom (sizeAt f l) (l .end) at) ≡ anyOf (λ s. test (named f l x s)) (startsFrom (sizeAt f l) (l .end) next) =
+        rw (starts-step (sizeAt f l) (l .end) (sizeAt-pos f l) at below, ← step, ne-eqb at x (λ q. n (sym q)))
         in
         rw (kept x n (ℕ-discrete (x / cell) (at / cell)), ← skip) (g .found x)
 
-    pick : (x : ℕ) → Dec (x ≡ at) → (markAt (set marks (at / cell) m) x || anyOf (λ s. test (named f l x s)) (startsFrom (sizeAt f l) (l .stop) next)) ≡ test (isTarget f l x)
-    pick x (yes e) = subst (λ (y : ℕ). (markAt (set marks (at / cell) m) y || anyOf (λ s. test (named f l y s)) (startsFrom (sizeAt f l) (l .stop) next)) ≡ test (isTarget f l y)) (sym e) here
+    pick : (x : ℕ) → Dec (x ≡ at) → (markAt (set marks (at / cell) m) x || anyOf (λ s. test (named f l x s)) (startsFrom (sizeAt f l) (l .end) next)) ≡ test (isTarget f l x)
+    pick x (yes e) = subst (λ (y : ℕ). (markAt (set marks (at / cell) m) y || anyOf (λ s. test (named f l y s)) (startsFrom (sizeAt f l) (l .end) next)) ≡ test (isTarget f l y)) (sym e) here
     pick x (no n) = there x n
 
     pub marking-step : Marking f l (set marks (at / cell) m) next
@@ -96,8 +96,8 @@ module _ (f : List ℕ) (l : Layout) where
       found = λ x. pick x (ℕ-discrete x at);
     }
 
-  pub marking-all : (marks : List ℕ) (at : ℕ) → l .stop ≤ at → Marking f l marks at → Targets f l marks
-  marking-all marks at h g x below = sym (rw (starts-stop (sizeAt f l) (l .stop) at h) (or-false (markAt marks x))) ∙ g .found x
+  pub marking-all : (marks : List ℕ) (at : ℕ) → l .end ≤ at → Marking f l marks at → Targets f l marks
+  marking-all marks at h g x below = sym (rw (starts-stop (sizeAt f l) (l .end) at h) (or-false (markAt marks x))) ∙ g .found x
 
 -- cells of zeros are blank
 pub blank-zeros : (n i : ℕ) → getD {A = ℕ} (replicate n 0) i 0 ≡ 0

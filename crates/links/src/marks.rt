@@ -62,9 +62,9 @@ pub fn mark_targets(f: &[u8], l: Layout, marks: &mut [u8; CELLS])
     requires { ⌜ Bounded l × (length (now marks) ≡ cells) × Blank (now marks) ⌝ }
     ensures { λ _. ⌜ Targets (now (f .entry)) l (now (marks .exit)) ⌝ }
 {
-    let stop = l.stop;
-    let mut at = l.header;
-    while at < stop {
+    let end = l.end;
+    let mut at = l.starts;
+    while at < end {
         let k = kind_at(l, at);
         let mark = mark_if(may_link(f, k, at as u32), at);
         marks[at / CELL] = mark;

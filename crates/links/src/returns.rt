@@ -106,10 +106,10 @@ fn all_returns(v: Judged, f: &[u8], l: Layout) -> Judged
     requires { ⌜ Bounded l ⌝ }
     ensures { λ r. ⌜ r ≡ judge v (returnFacts (now (f .entry)) l) ⌝ }
 {
-    let stop = l.stop;
+    let end = l.end;
     let mut w = v;
-    let mut at = l.header;
-    while at < stop {
+    let mut at = l.starts;
+    while at < end {
         let k = kind_at(l, at);
         w = record_returns(w, f, l, k, at as u32);
         at = at + size_of(f, k, at);

@@ -105,10 +105,10 @@ fn all_targets(v: Judged, f: &[u8], l: Layout, marks: &[u8; CELLS]) -> Judged
     requires { ⌜ Targets (now f) l (now marks) × Bounded l ⌝ }
     ensures { λ r. ⌜ r ≡ judge v (targetFacts (now (f .entry)) l) ⌝ }
 {
-    let stop = l.stop;
+    let end = l.end;
     let mut w = v;
-    let mut at = l.header;
-    while at < stop {
+    let mut at = l.starts;
+    while at < end {
         let k = kind_at(l, at);
         w = record_targets(w, f, l, marks, k, at as u32);
         at = at + size_of(f, k, at);

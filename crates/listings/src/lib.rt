@@ -134,7 +134,7 @@ pub fn list(f: &[u8]) -> usize
         return number;
     };
     let l = layout_of(f);
-    let n = l.starts;
+    let n = l.n;
     for i in 0..n {
         let entry = (START_ENTRIES + ENTRY_SIZE * i) as u32;
         start_lines(f, l, number_of(f, entry, ENTRY_OFFSET));

@@ -37,7 +37,7 @@ module _ (f g : List ℕ) where
   spots-below at inside kind.Joint = omega arith
   spots-below at inside kind.Siding = omega arith
 
-  facts-below : (l : Layout) → l .stop ≤ mostLength → PlacesBelow placeOver (pairFacts f g l)
+  facts-below : (l : Layout) → l .end ≤ mostLength → PlacesBelow placeOver (pairFacts f g l)
   unfolding pairFacts recordsPair
   facts-below l most = (omega arith, λ _. records-below g l most (λ at. recordPair f g (kindAt l at) at) (λ at h. spots-below at h (kindAt l at)))
 

@@ -115,12 +115,12 @@ module _ (f : List ℕ) (at : ℕ) (inside : at < mostLength) where
 
 -- what is asked of every record: each starts before End
 pub records-below :
-    (f : List ℕ) (l : Layout) (most : l .stop ≤ mostLength) (g : ℕ → List Fact) → ((at : ℕ) → at < mostLength → PlacesBelow placeOver (g at)) → PlacesBelow placeOver (flatMap g (starts f l))
-records-below f l most g h = below-each placeOver g (starts f l) (λ at m. h at (let below = (starts-between (sizeAt f l) (l .stop) at (l .header) m) .below in omega arith))
+    (f : List ℕ) (l : Layout) (most : l .end ≤ mostLength) (g : ℕ → List Fact) → ((at : ℕ) → at < mostLength → PlacesBelow placeOver (g at)) → PlacesBelow placeOver (flatMap g (starts f l))
+records-below f l most g h = below-each placeOver g (starts f l) (λ at m. h at (let below = (starts-between (sizeAt f l) (l .end) at (l .starts) m) .below in omega arith))
 
 -- ---- check by check
 
-module _ (f : List ℕ) (l : Layout) (most : l .stop ≤ mostLength) where
+module _ (f : List ℕ) (l : Layout) (most : l .end ≤ mostLength) where
   -- what is asked of the entry of each boundary in the header
   entries-below : (g : ℕ → List Fact) (count : ℕ) → ((i : ℕ) → i < count → PlacesBelow placeOver (g i)) → PlacesBelow placeOver (flatMap g (indexes count))
   entries-below g count h = below-each placeOver g (indexes count) (λ i m. h i ((index-iff count i) .0 m))
@@ -129,26 +129,26 @@ module _ (f : List ℕ) (l : Layout) (most : l .stop ≤ mostLength) where
   unfolding offsetsLayout
   offsets-below entries due count near small = entries-below (offsetLayout f entries due) count (λ i h. omega arith)
 
-  module _ (few : l .starts ≤ countMost) (few′ : l .ends ≤ countMost) where
+  module _ (few : l .n ≤ countMost) (few′ : l .k ≤ countMost) where
     fields-below : PlacesBelow placeOver (fieldFacts f l)
     unfolding fieldFacts entriesFields
     fields-below =
-        let one = entriesFields f startEntriesAt (l .starts) in
-        let two = entriesFields f (endEntriesAt (l .starts)) (l .ends) in
+        let one = entriesFields f startEntriesAt (l .n) in
+        let two = entriesFields f (endEntriesAt (l .n)) (l .k) in
         let each = flatMap (recordFields f l) (starts f l) in
-        let p = entries-below (entryFields f startEntriesAt) (l .starts) (λ i h. omega arith) in
-        let q = entries-below (entryFields f (endEntriesAt (l .starts))) (l .ends) (λ i h. omega arith) in
+        let p = entries-below (entryFields f startEntriesAt) (l .n) (λ i h. omega arith) in
+        let q = entries-below (entryFields f (endEntriesAt (l .n))) (l .k) (λ i h. omega arith) in
         let r = records-below f l most (recordFields f l) (λ at h. fields-of f at h (kindAt l at)) in
         below-both placeOver (headerFields f) (one ++ (two ++ each)) (omega arith) (below-both placeOver one (two ++ each) p (below-both placeOver two each q r))
 
     agreement-below : PlacesBelow placeOver (agreementFacts f l)
     unfolding agreementFacts entriesAgree
     agreement-below =
-        let one = entriesAgree f startEntriesAt (l .header) (l .starts) in
-        let two = entriesAgree f (endEntriesAt (l .starts)) (l .middle) (l .ends) in
+        let one = entriesAgree f startEntriesAt (l .starts) (l .n) in
+        let two = entriesAgree f (endEntriesAt (l .n)) (l .ends) (l .k) in
         let each = flatMap (recordAgrees f l) (starts f l) in
-        let p = entries-below (entryAgrees f startEntriesAt (l .header)) (l .starts) (λ i h. omega arith) in
-        let q = entries-below (entryAgrees f (endEntriesAt (l .starts)) (l .middle)) (l .ends) (λ i h. omega arith) in
+        let p = entries-below (entryAgrees f startEntriesAt (l .starts)) (l .n) (λ i h. omega arith) in
+        let q = entries-below (entryAgrees f (endEntriesAt (l .n)) (l .ends)) (l .k) (λ i h. omega arith) in
         let r = records-below f l most (recordAgrees f l) (λ at h. agreement-of f at h (kindAt l at)) in
         below-both placeOver one (two ++ each) p (below-both placeOver two each q r)
 
@@ -162,33 +162,33 @@ module _ (f : List ℕ) (l : Layout) (most : l .stop ≤ mostLength) where
 
   -- ---- the layout, whose counts come first
 
-  layout-below : l .starts ≡ numAt 1 f startCountAt → l .ends ≡ numAt 1 f (endCountAt (l .starts)) → PlacesBelow placeOver (layoutFacts f l)
+  layout-below : l .n ≡ numAt 1 f startCountAt → l .k ≡ numAt 1 f (endCountAt (l .n)) → PlacesBelow placeOver (layoutFacts f l)
   unfolding layoutFacts AllHold
   layout-below is-n is-k =
-      let one = offsetsLayout f startEntriesAt (l .header) (l .starts) in
-      let two = offsetsLayout f (endEntriesAt (l .starts)) (l .middle) (l .ends) in
-      let rest = groupFacts f (l .bounds - boundarySize) (l .stop) (l .bounds) (groupsIn l) in
+      let one = offsetsLayout f startEntriesAt (l .starts) (l .n) in
+      let two = offsetsLayout f (endEntriesAt (l .n)) (l .ends) (l .k) in
+      let rest = groupFacts f (l .turnouts - boundarySize) (l .end) (l .turnouts) (groupsIn l) in
       below-append placeOver (countLayout f l) (one ++ (two ++ rest)) (omega arith) (λ count.
-      let few : l .starts ≤ countMost = omega (arith, is-n, count .0) in
-      let few′ : l .ends ≤ countMost = omega (arith, is-k, count .1 .1 .0) in
-      let p = offsets-below startEntriesAt (l .header) (l .starts) (omega arith) few in
-      let q = offsets-below (endEntriesAt (l .starts)) (l .middle) (l .ends) (omega arith) few′ in
+      let few : l .n ≤ countMost = omega (arith, is-n, count .0) in
+      let few′ : l .k ≤ countMost = omega (arith, is-k, count .1 .1 .0) in
+      let p = offsets-below startEntriesAt (l .starts) (l .n) (omega arith) few in
+      let q = offsets-below (endEntriesAt (l .n)) (l .ends) (l .k) (omega arith) few′ in
       let room = count .1 .1 .1 .0 in
-      let r = groups-below f (l .bounds - boundarySize) (l .stop) most (yardOffsets (groupsAt (l .starts) (l .ends)) (l .stop)) yardCount 0 (l .bounds) (omega arith) (omega arith) in
+      let r = groups-below f (l .turnouts - boundarySize) (l .end) most (yardOffsets (groupsAt (l .n) (l .k)) (l .end)) yardCount 0 (l .turnouts) (omega arith) (omega arith) in
       below-both placeOver one (two ++ rest) p (below-both placeOver two rest q r))
 
 -- ---- the file
 
 module _ (f : List ℕ) where
-  starts-are : layoutOf f .starts ≡ numAt 1 f startCountAt
+  starts-are : layoutOf f .n ≡ numAt 1 f startCountAt
   unfolding layoutOf
   starts-are = refl
 
-  ends-are : layoutOf f .ends ≡ numAt 1 f (endCountAt (layoutOf f .starts))
+  ends-are : layoutOf f .k ≡ numAt 1 f (endCountAt (layoutOf f .n))
   unfolding layoutOf
   ends-are = refl
 
-  pub stop-most : length f ≤ mostLength → layoutOf f .stop ≤ mostLength
+  pub stop-most : length f ≤ mostLength → layoutOf f .end ≤ mostLength
   unfolding layoutOf
   stop-most most = omega arith
 

@@ -136,10 +136,10 @@ pub fn records_pair(v: Judged, f: &[u8], g: &[u8], l: Layout) -> Judged
     requires { ⌜ Bounded l ⌝ }
     ensures { λ r. ⌜ r ≡ judge v (recordsPair (now (f .entry)) (now (g .entry)) l) ⌝ }
 {
-    let stop = l.stop;
+    let end = l.end;
     let mut w = v;
-    let mut at = l.header;
-    while at < stop {
+    let mut at = l.starts;
+    while at < end {
         let k = kind_at(l, at);
         w = record_pair(w, f, g, k, at as u32);
         at = at + size_of(g, k, at);

@@ -66,8 +66,8 @@ module _ (f : List ℕ) (e : verdictOf f ≡ verdict.Accepted) where
   whole : Regions f (layoutOf f)
   whole = regions f (obeys .layout)
 
-  small : layoutOf f .stop ≤ offsetMost
-  small = regions-bounded f (layoutOf f) whole (obeys .most) .stop
+  small : layoutOf f .end ≤ offsetMost
+  small = regions-bounded f (layoutOf f) whole (obeys .most) .end
 
   linked : Joined (objectAt f (layoutOf f)) (Target f (layoutOf f))
   linked = joined f (layoutOf f) whole (obeys .targets) (obeys .returns)

@@ -18,7 +18,7 @@ returns c =
     let ends = k .byte-at .ensures .below in (
       layout-is (a .f .now) (n .number-of .result) (k .byte-at .result) (e .end-of .result) (o .yard-offsets .result) (n .number-of .ensures .is) (k .byte-at .ensures .is) (e .end-of .ensures)
           (o .yard-offsets .ensures .0) _ _ _ _ (c .before .before .before .group-end .ensures .0) (c .before .before .group-end2 .ensures .0) (c .before .group-end3 .ensures .0) (c .group-end4 .ensures .0),
-      record { starts = omega arith; ends = omega arith; header = refl; middle = refl; bounds = refl; stop = search needs },
+      record { n = omega arith; k = omega arith; starts = refl; ends = refl; turnouts = refl; end = search needs },
     )
 
 pub layout-of-spec : {M : Type 1} → statement M

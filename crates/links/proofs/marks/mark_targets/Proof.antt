@@ -11,7 +11,7 @@ abbrev Inv-loop : tie.InvT-loop
 Inv-loop f l marks₀ stop at₀ marks at = Marking f l marks at
 
 abbrev μ-loop : tie.MeasureT-loop
-μ-loop f l marks₀ stop at₀ marks at = l .stop - at
+μ-loop f l marks₀ stop at₀ marks at = l .end - at
 
 loop-holds : tie.Need-loop-holds Inv-loop μ-loop
 loop-holds c = let a = c .before .args in marking-none (a .f .now) (a .l) (a .marks .now) (c .before .pre .1) (c .before .pre .2)
