@@ -16,14 +16,14 @@ use Rattle.layout.specs.declared.Shape.{Shape}
 use Rattle.layout.specs.declared.Shape.the-variants.{Found, Faulty}
 use Rattle.layout.specs.Layout.{layoutOf}
 use Rattle.layout.specs.Facts.{layoutFacts, shapeOf}
-use Rattle.layout.specs.Bounds.{Bounded, ifBounded}
+use Rattle.layout.specs.inner.Bounds.{Bounded, ifBounded}
 use Rattle.layout.proofs.Bounds.{regions-bounded, all-asked}
 use Rattle.layout.proofs.Shapes.{faulty-judged, found-judged, found-layout, found-regions}
 use Rattle.fields.specs.Fields.{fieldFacts}
 use Rattle.fields.specs.Agreement.{agreementFacts}
 use Rattle.links.specs.Links.{targetFacts, returnFacts}
 use Rattle.application.specs.Facts.{leastLength, fileType, recordFacts, checkFacts, facts, judgedOf}
-use Rattle.application.specs.Shapes.{judgedAs}
+use Rattle.application.specs.inner.Shapes.{judgedAs}
 
 -- ---- the numbers of a layout that was found
 

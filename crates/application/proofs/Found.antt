@@ -1,5 +1,5 @@
 -- Where a record starts, in a file with regions of whole records: below the header's end and from End on none; in a region of one size by
--- arithmetic; among the balises by a walk that ends just behind the place asked for, which finds what the walk of all records finds.
+-- arithmetic; among the balises by a walk that ends just after the place asked for, which finds what the walk of all records finds.
 -- Assumes nothing.
 use Prim.Native.Nat.{ℕ, suc, zero, _+_, _-_, _%_, _≤_, _<_}
 use mathlib.Core.Path.{_≡_, _∙_, sym, subst}
@@ -19,16 +19,16 @@ use Rattle.records.specs.Places.{turnoutSize, signalSize, jointSize, sidingSize
 use Rattle.layout.specs.declared.Layout.{Layout}
 use Rattle.layout.specs.Facts.{baliseBytes}
 use Rattle.layout.specs.Records.{sizeOf, sizeAt, isStart}
-use Rattle.layout.specs.Regions.{Regions}
+use Rattle.layout.specs.inner.Regions.{Regions}
 use Rattle.layout.proofs.Records.{baliseBytes-pos, sizeAt-pos}
 use Rattle.layout.proofs.Starts.{size-turnout, size-balise, size-signal, size-joint, size-siding, reach-bounds, reach-turnouts, reach-balises, reach-signals, reach-joints, found-fixed}
-use Rattle.application.specs.Starts.{baliseStarts}
+use Rattle.application.specs.inner.Starts.{baliseStarts}
 
 -- no other place is x
 other : (x y : ℕ) → (y ≡ x → ⊥) → eqb y x ≡ false
 other x y n = ne-eqb y x n
 
--- x is found by a walk to just behind it, of sizes that are the same on the way
+-- x is found by a walk to just after it, of sizes that are the same on the way
 module _ (size own : ℕ → ℕ) (pos : (y : ℕ) → 0 < size y) (pos′ : (y : ℕ) → 0 < own y) (a end x : ℕ) (alike : (y : ℕ) → a ≤ y → y < x → size y ≡ own y) (below : x < end) where
   Alike : ℕ → Type 0
   Alike at = anyOf (λ s. eqb s x) (startsFrom own (x + 1) at) ≡ anyOf (λ s. eqb s x) (startsFrom size end at)

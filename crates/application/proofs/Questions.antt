@@ -16,7 +16,7 @@ use Rattle.verdict.specs.Answers.{refusal, afterVerdict}
 use Rattle.verdict.proofs.Questions.{fault-is, no-fault, accepted-by}
 use Rattle.verdict.specs.Facts.{test}
 use Rattle.verdict.specs.Reasons.{shownOf}
-use Rattle.names.specs.Names.{byteBehind, stationNameLength}
+use Rattle.names.specs.Names.{byteAfter, stationNameLength}
 use Rattle.names.proofs.Names.{station-name-count, station-name-ends}
 use Rattle.seal.specs.declared.Header.{Header}
 use Rattle.seal.specs.Header.{headerIn}
@@ -27,8 +27,8 @@ use Rattle.layout.specs.declared.Layout.{Layout}
 use Rattle.layout.specs.Places.{nameAt}
 use Rattle.layout.specs.Layout.{layoutOf}
 use Rattle.layout.specs.Records.{kindAt, isStart}
-use Rattle.layout.specs.Bounds.{placeMost, Bounded}
-use Rattle.layout.specs.Regions.{Regions}
+use Rattle.layout.specs.inner.Bounds.{placeMost, Bounded}
+use Rattle.layout.specs.inner.Regions.{Regions}
 use Rattle.layout.proofs.Regions.{regions}
 use Rattle.layout.proofs.Bounds.{regions-bounded}
 use Rattle.layout.proofs.Starts.{start-tested, start-below}
@@ -65,7 +65,7 @@ header-there f e g q w = simp (q, w) (sym (no-fault header.Refused (verdictOf f)
 -- it.
 pub header-name :
     (f : List ℕ) (h : NamedHeader) → namedHeaderOf f ≡ header.Header h
-    → (2 ≤ h .«name_bytes») × (h .«name_bytes» ≤ 16) × ((k : ℕ) → k < 16 → (byteBehind f (h .name) k ≡ 0) ↔ (h .«name_bytes» ≤ k))
+    → (2 ≤ h .«name_bytes») × (h .«name_bytes» ≤ 16) × ((k : ℕ) → k < 16 → (byteAfter f (h .name) k ≡ 0) ↔ (h .«name_bytes» ≤ k))
 unfolding namedHeaderOf namedHeaderIn
 header-name f h e =
     let a = accepted-by header.Refused (verdictOf f) (header.Header (namedHeaderIn f)) (header.Header h) (λ t q. let z : _≡_ {A = ℕ} 0 1 = cc in omega arith) e in

@@ -2,5 +2,4 @@ pub mod Facts
 pub mod Obeys
 pub mod Questions
 pub mod Answers
-pub mod Shapes
-pub mod Starts
+pub mod inner

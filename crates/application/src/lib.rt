@@ -1,10 +1,10 @@
 // X.2, fixed application: the verdict of a file, the checks in 01's order, and the questions 'header' and 'record at an offset'.
 ghost use mathlib.Core.Path.{_≡_};
 ghost use Rattle.verdict.specs.Facts.{firstFault};
-ghost use Rattle.layout.specs.Bounds.{Bounded};
+ghost use Rattle.layout.specs.inner.Bounds.{Bounded};
 ghost use Rattle.application.specs.Facts.{recordFacts, judgedOf, verdictOf};
 ghost use Rattle.application.specs.Questions.{namedHeaderOf, recordOf};
-ghost use Rattle.application.specs.Shapes.{judgedAs};
+ghost use Rattle.application.specs.inner.Shapes.{judgedAs};
 use crate::starts::starts_record;
 use fields::check_agreement;
 use fields::check_fields;

@@ -11,7 +11,7 @@ use native.Mathlib.Omega.{arith}
 use lib.ListN.{length}
 use lib.Bits.{bitXor, xor-zero-r, xor-shifted}
 use Rattle.checksum.specs.Checksum.{step, bitStep, highFirst, bitSteps, byteStep, checksumFrom}
-use Rattle.checksum.specs.Table.{emptySteps}
+use Rattle.checksum.specs.inner.Table.{emptySteps}
 use Rattle.checksum.proofs.Xor.{xor-assoc, xor-twice}
 use Rattle.checksum.proofs.Linear.{bits-xor, bits-low}
 use Rattle.checksum.proofs.Agree.{agreed}

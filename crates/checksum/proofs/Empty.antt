@@ -9,7 +9,7 @@ use native.Mathlib.Omega.{arith}
 use lib.ListN.{length}
 use lib.Bits.{bitXor, xor-comm, xor-zero-r}
 use Rattle.checksum.specs.Checksum.{width, step, bitStep, highFirst, bitSteps, byteStep, checksumFrom}
-use Rattle.checksum.specs.Table.{emptySteps}
+use Rattle.checksum.specs.inner.Table.{emptySteps}
 use Rattle.checksum.proofs.Linear.{bits-lt, bits-xor}
 
 pub byte-lt : (r b : ℕ) → r < 2 ^ width → byteStep r b < 2 ^ width

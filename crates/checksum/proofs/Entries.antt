@@ -13,7 +13,7 @@ use lib.ListN.{length, getD, drop, length-drop}
 use lib.Seq.{getD-drop}
 use lib.Bits.{bitXor}
 use Rattle.checksum.specs.Checksum.{byteStep}
-use Rattle.checksum.specs.Table.{emptySteps, RightTable}
+use Rattle.checksum.specs.inner.Table.{emptySteps, RightTable}
 use Rattle.checksum.proofs.Agree.{both, both-left, both-right, agree, agreed}
 use Rattle.checksum.proofs.Empty.{byte-lt, empty-lt, empty-last}
 use Rattle.checksum.proofs.ByTable.{by-parts}

@@ -11,7 +11,7 @@ use lib.ListN.{length, getD, take, drop, drop-of-length-le}
 use lib.Seq.{take-nil, drop-cons}
 use lib.Bits.{bitXor}
 use Rattle.checksum.specs.Checksum.{width, byteStep, checksumFrom}
-use Rattle.checksum.specs.Table.{emptySteps}
+use Rattle.checksum.specs.inner.Table.{emptySteps}
 use Rattle.checksum.proofs.Empty.{beside}
 
 next : (s : List ℕ) (r i : ℕ) → i < length s → checksumFrom r (drop i s) ≡ checksumFrom (byteStep r (getD s i 0)) (drop (i + 1) s)

@@ -1,2 +1,2 @@
 pub mod Checksum
-pub mod Table
+pub mod inner

@@ -7,7 +7,7 @@ ghost use Prim.Native.Nat.{_+_, _≤_, _<_};
 ghost use lib.Bits.{bitXor};
 ghost use lib.ListN.{length, take, drop};
 ghost use Rattle.checksum.specs.Checksum.{byteStep, checksumFrom, checksumOf, Checksum};
-ghost use Rattle.checksum.specs.Table.{inTurns, emptySteps, RightTable};
+ghost use Rattle.checksum.specs.inner.Table.{inTurns, emptySteps, RightTable};
 use table::BYTES;
 use table::ENTRIES;
 use table::TABLE;

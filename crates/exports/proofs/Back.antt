@@ -49,13 +49,13 @@ four-back w rest h =
     let r : w / overThree % overByte ≡ w / overThree = omega arith in
     omega (arith, p, q, r, mod-add-div w overByte, mod-add-div (w / overByte) overByte, mod-add-div (w / overTwo) overByte)
 
--- a number behind some bytes
-behind : (k : ℕ) (front rest : List ℕ) (i : ℕ) → numAt k (front ++ rest) (length front + i) ≡ numAt k rest i
+-- a number after some bytes
+after : (k : ℕ) (front rest : List ℕ) (i : ℕ) → numAt k (front ++ rest) (length front + i) ≡ numAt k rest i
 unfolding numAt
-behind zero front rest i = refl
-behind (suc k) front rest i =
+after zero front rest i = refl
+after (suc k) front rest i =
     ap₂ (λ (a b : ℕ). a + 256 * b) (getD-append-add front rest i 0)
-    (ap (numAt k (front ++ rest)) (add-assoc (length front) i 1) ∙ behind k front rest (i + 1))
+    (ap (numAt k (front ++ rest)) (add-assoc (length front) i 1) ∙ after k front rest (i + 1))
 
 -- ---- the values
 
@@ -65,7 +65,7 @@ value-at [] rest i h = absurd (omega arith)
 value-at (z ∷ zs) rest zero h = four-back (wordOf z) (bytesOf (valueWords zs) ++ rest) (word-small z)
 value-at (z ∷ zs) rest (suc j) h =
     let k : valueSize * suc j ≡ valueSize + valueSize * j = omega arith in
-    rw k (behind valueSize (wordBytes (wordOf z)) (bytesOf (valueWords zs) ++ rest) (valueSize * j) ∙ value-at zs rest j (omega arith))
+    rw k (after valueSize (wordBytes (wordOf z)) (bytesOf (valueWords zs) ++ rest) (valueSize * j) ∙ value-at zs rest j (omega arith))
 
 -- a number that fits in four bytes, and a signed one
 pub number-word : (n : ℕ) → n < overWord → wordOf (pos n) ≡ n

@@ -1,5 +1,5 @@
 -- Values put in an output one after the other: after each the rest gives what the whole gives, and at the end the bytes stand at the start of
--- the output, with what was behind them.
+-- the output, with what was after them.
 -- Assumes nothing.
 use Prim.Native.Nat.{ℕ, suc, _+_, _*_, _≤_, _<_}
 use native.Mathlib.Omega.{arith}

@@ -24,7 +24,7 @@ use Rattle.fields.specs.Fields.{trackAt}
 
 -- where the track stands in the boundary with the index i, of those from `from` on
 abbrev pub ownTrackAt : ℕ → ℕ → ℕ
-ownTrackAt from i = from + place.boundarySize * i + row.boundaryTrack .place
+ownTrackAt from i = from + place.boundarySize * i + row.boundaryTrack .offset
 
 abbrev pub entryAgrees : List ℕ → ℕ → ℕ → ℕ → List Fact
 entryAgrees f entries from i = sameAs f 0 (trackAt entries i) One (trackAt entries i) (ownTrackAt from i) ∷ []

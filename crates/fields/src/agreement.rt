@@ -3,7 +3,7 @@ ghost use mathlib.Core.Path.{_≡_};
 ghost use mathlib.Core.List.{[], _∷_};
 ghost use Prim.Native.Nat.{_≤_};
 ghost use Rattle.verdict.specs.Facts.{judge};
-ghost use Rattle.layout.specs.Bounds.{countMost, placeMost, headerMost, Bounded, ifBounded};
+ghost use Rattle.layout.specs.inner.Bounds.{countMost, placeMost, headerMost, Bounded, ifBounded};
 ghost use Rattle.layout.specs.Records.{eachRecord};
 ghost use Rattle.fields.specs.Agreement.{entriesAgree, rankInCount, kindAgrees, agreementFacts};
 use layout::ENTRY_SIZE;

@@ -1,7 +1,7 @@
 // The fields of X.2: 5 in 01's table.
 ghost use mathlib.Core.Path.{_≡_};
 ghost use Rattle.verdict.specs.Facts.{judge};
-ghost use Rattle.layout.specs.Bounds.{Bounded, ifBounded};
+ghost use Rattle.layout.specs.inner.Bounds.{Bounded, ifBounded};
 ghost use Rattle.layout.specs.Records.{eachRecord};
 ghost use Rattle.fields.specs.Fields.{kindFields, fieldFacts};
 use crate::header::entries_fields;

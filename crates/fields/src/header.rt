@@ -2,7 +2,7 @@
 ghost use mathlib.Core.Path.{_≡_};
 ghost use Prim.Native.Nat.{_≤_};
 ghost use Rattle.verdict.specs.Facts.{judge};
-ghost use Rattle.layout.specs.Bounds.{countMost, headerMost};
+ghost use Rattle.layout.specs.inner.Bounds.{countMost, headerMost};
 ghost use Rattle.fields.specs.Fields.{headerFields, entriesFields};
 use layout::ENTRY_SIZE;
 use layout::ENTRY_TRACK;

@@ -15,7 +15,7 @@ use Rattle.records.specs.Records.{linkPlaces}
 use Rattle.records.specs.Places.{boundarySize}
 use Rattle.layout.specs.declared.Layout.{Layout}
 use Rattle.layout.specs.Records.{kindAt, starts}
-use Rattle.layout.specs.Regions.{Regions}
+use Rattle.layout.specs.inner.Regions.{Regions}
 use Rattle.layout.proofs.Starts.{start-tested, found-boundary, start-least, start-below}
 use Rattle.graph.specs.Objects.{viewAt, objectAt, linksOf, isBoundary, offsetMost, boundaryAt}
 

@@ -13,8 +13,8 @@ use Rattle.verdict.specs.declared.Judged.{Judged}
 use Rattle.verdict.specs.Facts.{Fact, judge, test}
 use Rattle.verdict.proofs.Facts.{tested}
 use Rattle.layout.specs.declared.Layout.{Layout}
-use Rattle.layout.specs.Bounds.{placeMost, bounded, Bounded, ifBounded}
-use Rattle.layout.specs.Regions.{Regions}
+use Rattle.layout.specs.inner.Bounds.{placeMost, bounded, Bounded, ifBounded}
+use Rattle.layout.specs.inner.Regions.{Regions}
 
 pub regions-bounded : (f : List ℕ) (l : Layout) → Regions f l → length f ≤ placeMost → Bounded l
 regions-bounded f l r h = record { n = omega arith; k = omega arith; starts = omega arith; ends = omega arith; end = omega arith }

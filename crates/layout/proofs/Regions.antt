@@ -13,7 +13,7 @@ use Rattle.layout.specs.declared.Made.the-variants.{Fixed, Balises}
 use Rattle.layout.specs.Layout.{endOf, layoutOf}
 use Rattle.layout.specs.Groups.{madeOf, Group, groupsFrom, groupStart, nextStart, groupEnd, groupEnds, baliseBytes}
 use Rattle.layout.specs.Obeys.{BaliseObeys, MadeOf, Grouped, none, empty, there, LayoutObeys}
-use Rattle.layout.specs.Regions.{Whole, Regions}
+use Rattle.layout.specs.inner.Regions.{Whole, Regions}
 use Rattle.layout.proofs.Walks.{starts-between}
 use Rattle.layout.proofs.Grouped.{end-empty, end-there, grouped-next}
 

@@ -16,7 +16,7 @@ use Rattle.layout.specs.declared.Shape.the-variants.{Found, Faulty}
 use Rattle.layout.specs.Layout.{layoutOf}
 use Rattle.layout.specs.Facts.{layoutFacts, shaped, shapeOf}
 use Rattle.layout.specs.Obeys.{LayoutObeys}
-use Rattle.layout.specs.Regions.{Regions}
+use Rattle.layout.specs.inner.Regions.{Regions}
 use Rattle.layout.proofs.Obeys.{layout-obeyed}
 use Rattle.layout.proofs.Regions.{regions}
 

@@ -19,7 +19,7 @@ use Rattle.verdict.proofs.Orders.{le-or-lt}
 use Rattle.layout.specs.declared.Layout.{Layout}
 use Rattle.layout.specs.Facts.{baliseBytes}
 use Rattle.layout.specs.Records.{kindAt, sizeOf, sizeAt, starts, isStart}
-use Rattle.layout.specs.Regions.{Regions}
+use Rattle.layout.specs.inner.Regions.{Regions}
 use Rattle.layout.proofs.Records.{baliseBytes-pos, sizeAt-pos}
 use Rattle.layout.proofs.Walks.{starts-between, starts-reached, reach-rest, reach-alike, reach-ends}
 

@@ -4,5 +4,4 @@ pub mod Layout
 pub mod Facts
 pub mod Records
 pub mod Obeys
-pub mod Bounds
-pub mod Regions
+pub mod inner

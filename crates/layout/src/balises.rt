@@ -3,7 +3,7 @@ ghost use mathlib.Core.Path.{_≡_};
 ghost use mathlib.Core.List.{[], _∷_};
 ghost use Prim.Native.Nat.{_<_};
 ghost use Rattle.verdict.specs.Facts.{judge};
-ghost use Rattle.layout.specs.Bounds.{sliceOver};
+ghost use Rattle.layout.specs.inner.Bounds.{sliceOver};
 ghost use Rattle.layout.specs.Groups.{sizeByte, baliseLayout, walkLayout};
 use crate::SIZE_LEAST;
 use crate::SIZE_MOST;

@@ -2,7 +2,7 @@
 ghost use mathlib.Core.Path.{_≡_};
 ghost use Prim.Native.Nat.{_≤_};
 ghost use Rattle.verdict.specs.Facts.{judge};
-ghost use Rattle.layout.specs.Bounds.{countMost, headerMost, boundsMost, Small};
+ghost use Rattle.layout.specs.inner.Bounds.{countMost, headerMost, boundsMost, Small};
 ghost use Rattle.layout.specs.Facts.{countLayout, offsetsLayout, layoutFacts, shapeOf};
 use crate::COUNT_MOST;
 use crate::ENTRY_OFFSET;

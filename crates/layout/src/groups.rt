@@ -3,7 +3,7 @@
 ghost use mathlib.Core.Path.{_≡_};
 ghost use Prim.Native.Nat.{_-_, _≤_, _<_};
 ghost use Rattle.verdict.specs.Facts.{judge};
-ghost use Rattle.layout.specs.Bounds.{groupsMost, sliceOver, Near};
+ghost use Rattle.layout.specs.inner.Bounds.{groupsMost, sliceOver, Near};
 ghost use Rattle.layout.specs.Groups.{madeOf, groupIn, groupsFrom, groupsOf, nextStart, endFrom, groupLayout, madeFacts, oneGroup, groupFacts};
 use crate::BALISES;
 use crate::ELEMENT_SIZE;

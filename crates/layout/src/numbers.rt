@@ -3,7 +3,7 @@ ghost use mathlib.Core.Path.{_≡_};
 ghost use Prim.Native.Nat.{_≤_, _<_};
 ghost use Rattle.verdict.specs.Facts.{test};
 ghost use Rattle.layout.specs.Layout.{yardOffsets, layoutOf};
-ghost use Rattle.layout.specs.Bounds.{headerMost, sliceOver, bounded, Near, Small};
+ghost use Rattle.layout.specs.inner.Bounds.{headerMost, sliceOver, bounded, Near, Small};
 use crate::BALISES;
 use crate::COUNT_MOST;
 use crate::ENTRY_SIZE;

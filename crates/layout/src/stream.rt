@@ -5,7 +5,7 @@ ghost use Rattle.records.specs.Places.{baliseSize};
 ghost use Rattle.layout.specs.Facts.{baliseBytes};
 ghost use Rattle.layout.specs.Records.{kindAt, IsSize};
 use crate::Layout;
-use octets::byte_behind;
+use octets::byte_after;
 use records::Balise;
 use records::Boundary;
 use records::Joint;
@@ -44,7 +44,7 @@ pub fn balise_bytes(f: &[u8], at: usize) -> usize
     ensures { λ r. ⌜ r ≡ baliseBytes (now (f .entry)) at ⌝ }
     ensures { λ r. ⌜ (baliseSize ≤ r) × (r < 256) ⌝ }
 {
-    let n = byte_behind(f, at, Balise::SIZE_BYTE.0 as usize);
+    let n = byte_after(f, at, Balise::SIZE_BYTE.0 as usize);
     if Balise::SIZE < n { n } else { Balise::SIZE }
 }
 

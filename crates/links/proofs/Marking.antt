@@ -17,11 +17,11 @@ use Rattle.verdict.specs.Facts.{test, anyOf}
 use Rattle.verdict.specs.Walk.{startsFrom}
 use Rattle.verdict.proofs.Walk.{starts-step, starts-stop, find-none}
 use Rattle.layout.specs.declared.Layout.{Layout}
-use Rattle.layout.specs.Bounds.{placeMost}
+use Rattle.layout.specs.inner.Bounds.{placeMost}
 use Rattle.layout.specs.Records.{kindAt, sizeAt}
 use Rattle.layout.proofs.Records.{sizeAt-least, sizeAt-pos}
 use Rattle.links.specs.Links.{linkable, named, isTarget}
-use Rattle.links.specs.Marks.{cell, cells, markOf, markIf, markAt, Blank, Targets}
+use Rattle.links.specs.inner.Marks.{cell, cells, markOf, markIf, markAt, Blank, Targets}
 
 pub record Marking (f : List ℕ) (l : Layout) (marks : List ℕ) (at : ℕ) : Type 0 where
   pub room : length marks ≡ cells

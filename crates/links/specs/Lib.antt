@@ -1,3 +1,3 @@
 pub mod Links
-pub mod Marks
 pub mod Obeys
+pub mod inner

@@ -3,7 +3,7 @@ ghost use mathlib.Core.Path.{_≡_};
 ghost use mathlib.Core.List.{[], _∷_};
 ghost use Rattle.verdict.specs.Facts.{judge, test};
 ghost use Rattle.records.specs.Records.{placesIn};
-ghost use Rattle.layout.specs.Bounds.{Bounded, ifBounded};
+ghost use Rattle.layout.specs.inner.Bounds.{Bounded, ifBounded};
 ghost use Rattle.links.specs.Links.{someNames, returnMark, back, distinct, returns, recordReturns, returnFacts};
 use layout::Layout;
 use layout::is_bounded;

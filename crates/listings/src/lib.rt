@@ -39,7 +39,7 @@ const LIST_ROOM: usize = 4096;
 
 const LIST_BYTES: usize = WORD_SIZE * LIST_ROOM;
 
-// The word at a place of a list; 0 behind the last one.
+// The word at a place of a list; 0 after the last one.
 fn word_at(lent: &[u8], at: usize) -> usize {
     if at < lent.len() / WORD_SIZE {
         u16_at(lent, WORD_SIZE * at)

@@ -9,16 +9,16 @@ use native.Mathlib.Nat.{le-refl, one-mul}
 use native.Mathlib.Omega.{arith}
 use Rattle.verdict.specs.Facts.{Holds}
 use Rattle.verdict.proofs.Orders.{le-or-lt}
-use Rattle.names.specs.Names.{byteBehind, bytesBetween, zeros, lead, Counted, nameLength, objectName, ObjectName, codeCount, stationNameLength, codeAt, codes, stationName, StationName}
+use Rattle.names.specs.Names.{byteAfter, bytesBetween, zeros, lead, Counted, nameLength, objectName, ObjectName, codeCount, stationNameLength, codeAt, codes, stationName, StationName}
 use Rattle.names.proofs.Counts.{lead-most, lead-is, each-number}
 
 -- ---- bytes
 
-between-iff : (f : List ℕ) (p from until low high : ℕ) → Holds (bytesBetween f p from until low high) ↔ ((k : ℕ) → from ≤ k → k < until → (low ≤ byteBehind f p k) × (byteBehind f p k ≤ high))
+between-iff : (f : List ℕ) (p from until low high : ℕ) → Holds (bytesBetween f p from until low high) ↔ ((k : ℕ) → from ≤ k → k < until → (low ≤ byteAfter f p k) × (byteAfter f p k ≤ high))
 unfolding bytesBetween
-between-iff f p from until low high = each-number (λ k. (low ≤ byteBehind f p k) × (byteBehind f p k ≤ high)) from until
+between-iff f p from until low high = each-number (λ k. (low ≤ byteAfter f p k) × (byteAfter f p k ≤ high)) from until
 
-pub zeros-iff : (f : List ℕ) (p from until : ℕ) → Holds (zeros f p from until) ↔ ((k : ℕ) → from ≤ k → k < until → byteBehind f p k ≡ 0)
+pub zeros-iff : (f : List ℕ) (p from until : ℕ) → Holds (zeros f p from until) ↔ ((k : ℕ) → from ≤ k → k < until → byteAfter f p k ≡ 0)
 zeros-iff f p from until =
     let b = between-iff f p from until 0 0 in
     (λ h k l g. let z = b .0 h k l g .1 in omega arith, λ h. b .1 (λ k l g. let z = h k l g in (omega arith, omega arith)))
@@ -30,7 +30,7 @@ codes-iff f p n = each-number (λ k. Holds (codeAt f p k)) 0 n
 -- ---- names of 8 bytes
 
 -- a name's length, counted in steps of one byte
-pub name-counted : (f : List ℕ) (p r : ℕ) → Counted (lead (λ k. byteBehind f p (1 * k)) 8) 8 r → Counted (nameLength f p) 8 r
+pub name-counted : (f : List ℕ) (p r : ℕ) → Counted (lead (λ k. byteAfter f p (1 * k)) 8) 8 r → Counted (nameLength f p) 8 r
 unfolding nameLength
 name-counted f p r h = simp one-mul at h
 
@@ -38,7 +38,7 @@ name-counted f p r h = simp one-mul at h
 pub object-name-length : {f : List ℕ} {p least : ℕ} (r : ObjectName f p least) → r .count ≡ nameLength f p
 unfolding nameLength
 object-name-length {f} {p} r =
-    lead-is (λ k. byteBehind f p k) 8 (r .count) (r .room) (λ k l z. let b = r .bytes k l .0 in omega arith) (λ l. r .rest (r .count) (le-refl (r .count)) l)
+    lead-is (λ k. byteAfter f p k) 8 (r .count) (r .room) (λ k l z. let b = r .bytes k l .0 in omega arith) (λ l. r .rest (r .count) (le-refl (r .count)) l)
 
 pub object-name-iff : (f : List ℕ) (p least : ℕ) → Holds (objectName f p least) ↔ ObjectName f p least
 unfolding objectName nameLength
@@ -46,7 +46,7 @@ object-name-iff f p least = (
   λ h. record {
     count = nameLength f p;
     enough = h .0;
-    room = lead-most (λ k. byteBehind f p k) 8;
+    room = lead-most (λ k. byteAfter f p k) 8;
     bytes = λ k l. between-iff f p 0 (nameLength f p) 0x21 0x7E .0 (h .1 .0) k (omega arith) l;
     rest = zeros-iff f p (nameLength f p) 8 .0 (h .1 .1);
   },
@@ -62,7 +62,7 @@ object-name-iff f p least = (
 pub station-name-count : {f : List ℕ} {p : ℕ} (r : StationName f p) → r .count ≡ codeCount f p
 unfolding codeCount
 station-name-count {f} {p} r =
-    lead-is (λ k. byteBehind f p (2 * k)) 8 (r .count) (r .room) (λ k l z. let b = r .first k l .0 in omega arith) (λ l. r .rest (2 * r .count) (le-refl (2 * r .count)) (omega arith))
+    lead-is (λ k. byteAfter f p (2 * k)) 8 (r .count) (r .room) (λ k l z. let b = r .first k l .0 in omega arith) (λ l. r .rest (2 * r .count) (le-refl (2 * r .count)) (omega arith))
 
 pub station-name-iff : (f : List ℕ) (p : ℕ) → Holds (stationName f p) ↔ StationName f p
 unfolding stationName codeCount
@@ -70,7 +70,7 @@ station-name-iff f p = (
   λ h. record {
     count = codeCount f p;
     enough = h .0;
-    room = lead-most (λ k. byteBehind f p (2 * k)) 8;
+    room = lead-most (λ k. byteAfter f p (2 * k)) 8;
     first = λ k l. codes-iff f p (codeCount f p) .0 (h .1 .0) k (omega arith) l .0;
     second = λ k l. codes-iff f p (codeCount f p) .0 (h .1 .0) k (omega arith) l .1;
     rest = zeros-iff f p (2 * codeCount f p) 16 .0 (h .1 .1);
@@ -82,7 +82,7 @@ station-name-iff f p = (
 )
 
 -- a byte of a code is not 0
-code-byte : {f : List ℕ} {p : ℕ} (r : StationName f p) (k : ℕ) → k < 2 * r .count → byteBehind f p k ≡ 0 → ⊥
+code-byte : {f : List ℕ} {p : ℕ} (r : StationName f p) (k : ℕ) → k < 2 * r .count → byteAfter f p k ≡ 0 → ⊥
 code-byte {f} {p} r k h z = by-half (le-or-lt 1 (k % 2))
   where
     by-half : (1 ≤ k % 2) ⊎ (k % 2 < 1) → ⊥
@@ -97,7 +97,7 @@ code-byte {f} {p} r k h z = by-half (le-or-lt 1 (k % 2))
         omega (arith, y, b)
 
 -- THEOREM: a station's name ends where its closing zeros begin: a byte of the sixteen is 0 exactly where the name's length is passed.
-pub station-name-ends : {f : List ℕ} {p : ℕ} → StationName f p → (k : ℕ) → k < 16 → (byteBehind f p k ≡ 0) ↔ (stationNameLength f p ≤ k)
+pub station-name-ends : {f : List ℕ} {p : ℕ} → StationName f p → (k : ℕ) → k < 16 → (byteAfter f p k ≡ 0) ↔ (stationNameLength f p ≤ k)
 station-name-ends {f} {p} r k h =
     let n = station-name-count r in (
       λ z. ⊎-elim (λ (g : stationNameLength f p ≤ k). g) (λ (g : k < stationNameLength f p). absurd (code-byte r k (omega arith) z)) (le-or-lt (stationNameLength f p) k),

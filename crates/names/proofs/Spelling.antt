@@ -14,17 +14,17 @@ use Rattle.octets.specs.Octets.{numAt}
 use Rattle.verdict.proofs.Orders.{le-or-lt}
 use Rattle.verdict.proofs.Facts.{Agrees, agrees}
 use Rattle.verdict.specs.Facts.{Claim, atMost, both, test, Holds}
-use Rattle.names.specs.Names.{byteBehind, zeros, objectName, ObjectName}
-use Rattle.names.specs.Letters.{Letters}
+use Rattle.names.specs.Names.{byteAfter, zeros, objectName, ObjectName}
+use Rattle.names.specs.inner.Letters.{Letters}
 use Rattle.names.proofs.Names.{zeros-iff, object-name-iff}
 
 -- ---- bytes inside and past the end
 
-pub byte-is : (f : List ℕ) (p k : ℕ) → byteBehind f p k ≡ getD f (p + k) 0
+pub byte-is : (f : List ℕ) (p k : ℕ) → byteAfter f p k ≡ getD f (p + k) 0
 unfolding numAt
 byte-is f p k = omega arith
 
-byte-past : (f : List ℕ) (p k : ℕ) → length f ≤ p + k → byteBehind f p k ≡ 0
+byte-past : (f : List ℕ) (p k : ℕ) → length f ≤ p + k → byteAfter f p k ≡ 0
 byte-past f p k h = byte-is f p k ∙ List·getD-eq-default f 0 h
 
 -- ---- what is decided the same way
@@ -38,18 +38,18 @@ same-test false false A B a b e = refl
 
 -- ---- zeros
 
-all-zeros : (f : List ℕ) (p from until : ℕ) → ((k : ℕ) → from ≤ k → k < until → byteBehind f p k ≡ 0) → true ≡ test (zeros f p from until)
+all-zeros : (f : List ℕ) (p from until : ℕ) → ((k : ℕ) → from ≤ k → k < until → byteAfter f p k ≡ 0) → true ≡ test (zeros f p from until)
 all-zeros f p from until h =
     let all : Holds (zeros f p from until) = zeros-iff f p from until .1 h in
     same-test true (test (zeros f p from until)) (Holds (zeros f p from until)) (Holds (zeros f p from until)) all (agrees (zeros f p from until)) (λ a. a, λ a. a)
 
-no-zero : (f : List ℕ) (p from until k : ℕ) → from ≤ k → k < until → (byteBehind f p k ≡ 0 → ⊥) → false ≡ test (zeros f p from until)
+no-zero : (f : List ℕ) (p from until k : ℕ) → from ≤ k → k < until → (byteAfter f p k ≡ 0 → ⊥) → false ≡ test (zeros f p from until)
 no-zero f p from until k l g z =
     let none : Holds (zeros f p from until) → ⊥ = λ all. z (zeros-iff f p from until .0 all k l g) in
     same-test false (test (zeros f p from until)) (Holds (zeros f p from until)) (Holds (zeros f p from until)) none (agrees (zeros f p from until)) (λ a. a, λ a. a)
 
 -- the bytes from `from` up to k are zeros, and k is past those that lie inside the file
-pub zeros-end : (f : List ℕ) (p from until top k : ℕ) → top ≡ min until (length f - p) → top ≤ k → ((j : ℕ) → j < k → from ≤ j → byteBehind f p j ≡ 0) → true ≡ test (zeros f p from until)
+pub zeros-end : (f : List ℕ) (p from until top k : ℕ) → top ≡ min until (length f - p) → top ≤ k → ((j : ℕ) → j < k → from ≤ j → byteAfter f p j ≡ 0) → true ≡ test (zeros f p from until)
 zeros-end f p from until top k e h passed =
     all-zeros f p from until (λ j l g. ⊎-elim (λ (a : k ≤ j). byte-past f p j (omega arith)) (λ (a : j < k). passed j a l) (le-or-lt k j))
 
@@ -60,7 +60,7 @@ zeros-stop f p from until top k e h l z = no-zero f p from until k l (omega arit
 
 -- n letters were passed
 abbrev pub Passed : List ℕ → ℕ → ℕ → Type 0
-Passed f p n = (k : ℕ) → k < n → (0x21 ≤ byteBehind f p k) × (byteBehind f p k ≤ 0x7E)
+Passed f p n = (k : ℕ) → k < n → (0x21 ≤ byteAfter f p k) × (byteAfter f p k ≤ 0x7E)
 
 pub letters-stop : (f : List ℕ) (p top n : ℕ) → top ≡ min 8 (length f - p) → n < top → Passed f p n → (0x21 ≤ getD f (p + n) 0 → getD f (p + n) 0 ≤ 0x7E → ⊥) → Letters f p n
 letters-stop f p top n e h passed other =

@@ -37,9 +37,9 @@ stationCodes = 8
 
 -- ---- bytes at a place
 
--- the byte that stands k bytes behind p
-abbrev pub byteBehind : List ℕ → ℕ → ℕ → ℕ
-byteBehind f p k = numAt 1 f (p + k)
+-- the byte that stands k bytes after p
+abbrev pub byteAfter : List ℕ → ℕ → ℕ → ℕ
+byteAfter f p k = numAt 1 f (p + k)
 
 -- the numbers from one up to another
 abbrev pub numbers : ℕ → ℕ → List ℕ
@@ -47,7 +47,7 @@ numbers from until = startsFrom (λ k. 1) until from
 
 -- each byte at p, from one up to another, lies between two numbers
 unfoldable pub bytesBetween : List ℕ → ℕ → ℕ → ℕ → ℕ → ℕ → Claim
-bytesBetween f p from until low high = every (numbers from until) (λ k. liesBetween low high (byteBehind f p k))
+bytesBetween f p from until low high = every (numbers from until) (λ k. liesBetween low high (byteAfter f p k))
 
 -- each byte at p, from one up to another, is 0x00
 abbrev pub zeros : List ℕ → ℕ → ℕ → ℕ → Claim
@@ -67,7 +67,7 @@ pub record Counted (n top r : ℕ) : Type 0 where
 
 -- how many bytes the name at p has
 unfoldable pub nameLength : List ℕ → ℕ → ℕ
-nameLength f p = lead (λ k. byteBehind f p k) objectBytes
+nameLength f p = lead (λ k. byteAfter f p k) objectBytes
 
 -- `least` or more bytes 0x21 to 0x7E, then only 0x00 up to the eighth
 unfoldable pub objectName : List ℕ → ℕ → ℕ → Claim
@@ -80,14 +80,14 @@ pub record ObjectName (f : List ℕ) (p least : ℕ) : Type 0 where
   pub count : ℕ
   pub enough : least ≤ count
   pub room : count ≤ 8
-  pub bytes : (k : ℕ) → k < count → (0x21 ≤ byteBehind f p k) × (byteBehind f p k ≤ 0x7E)
-  pub rest : (k : ℕ) → count ≤ k → k < 8 → byteBehind f p k ≡ 0
+  pub bytes : (k : ℕ) → k < count → (0x21 ≤ byteAfter f p k) × (byteAfter f p k ≤ 0x7E)
+  pub rest : (k : ℕ) → count ≤ k → k < 8 → byteAfter f p k ≡ 0
 
 -- ---- station name
 
 -- how many codes of two bytes the name at p has
 unfoldable pub codeCount : List ℕ → ℕ → ℕ
-codeCount f p = lead (λ k. byteBehind f p (2 * k)) stationCodes
+codeCount f p = lead (λ k. byteAfter f p (2 * k)) stationCodes
 
 -- how many bytes the name at p has, without its closing zeros
 abbrev pub stationNameLength : List ℕ → ℕ → ℕ
@@ -99,7 +99,7 @@ isCode a b = both (liesBetween 0x81 0xFE a) (either (liesBetween 0x40 0x7E b) (l
 
 -- the k-th pair of bytes at p, from 0, is a code
 abbrev pub codeAt : List ℕ → ℕ → ℕ → Claim
-codeAt f p k = isCode (byteBehind f p (2 * k)) (byteBehind f p (2 * k + 1))
+codeAt f p k = isCode (byteAfter f p (2 * k)) (byteAfter f p (2 * k + 1))
 
 -- the first n pairs of bytes at p are codes
 unfoldable pub codes : List ℕ → ℕ → ℕ → Claim
@@ -114,11 +114,11 @@ pub record StationName (f : List ℕ) (p : ℕ) : Type 0 where
   pub count : ℕ
   pub enough : 1 ≤ count
   pub room : count ≤ 8
-  pub first : (k : ℕ) → k < count → (0x81 ≤ byteBehind f p (2 * k)) × (byteBehind f p (2 * k) ≤ 0xFE)
+  pub first : (k : ℕ) → k < count → (0x81 ≤ byteAfter f p (2 * k)) × (byteAfter f p (2 * k) ≤ 0xFE)
   pub second :
       (k : ℕ) → k < count
-      → ((0x40 ≤ byteBehind f p (2 * k + 1)) × (byteBehind f p (2 * k + 1) ≤ 0x7E)) ⊎ ((0x80 ≤ byteBehind f p (2 * k + 1)) × (byteBehind f p (2 * k + 1) ≤ 0xFE))
-  pub rest : (k : ℕ) → 2 * count ≤ k → k < 16 → byteBehind f p k ≡ 0
+      → ((0x40 ≤ byteAfter f p (2 * k + 1)) × (byteAfter f p (2 * k + 1) ≤ 0x7E)) ⊎ ((0x80 ≤ byteAfter f p (2 * k + 1)) × (byteAfter f p (2 * k + 1) ≤ 0xFE))
+  pub rest : (k : ℕ) → 2 * count ≤ k → k < 16 → byteAfter f p k ≡ 0
 
 -- ---- the constructors of facts; `start` is where the record starts
 

@@ -5,9 +5,9 @@ ghost use mathlib.Core.List.{[], _∷_};
 ghost use Prim.Native.Nat.{_*_, _-_, min, _≤_};
 ghost use lib.ListN.{length};
 ghost use Rattle.verdict.specs.Facts.{judge, test};
-ghost use Rattle.names.specs.Names.{objectBytes, stationCodes, byteBehind, zeros, lead, Counted, nameLength, codeCount, stationBytes, stationNameLength, isCode, codes, objectNameFact, stationNameFact};
-ghost use Rattle.names.specs.Letters.{Letters};
-use octets::byte_behind;
+ghost use Rattle.names.specs.Names.{objectBytes, stationCodes, byteAfter, zeros, lead, Counted, nameLength, codeCount, stationBytes, stationNameLength, isCode, codes, objectNameFact, stationNameFact};
+ghost use Rattle.names.specs.inner.Letters.{Letters};
+use octets::byte_after;
 use verdict::Judged;
 use verdict::Mark;
 use verdict::Reason;
@@ -44,11 +44,11 @@ const SECOND_GREATEST: usize = 0xFE;
 // Of the first `top` steps at a place, each of `step` bytes, how many stand before the first that begins with a zero.
 fn steps(f: &[u8], place: usize, step: usize, top: usize) -> usize
     requires { ⌜ (step ≤ 2) × (top ≤ 8) ⌝ }
-    ensures { λ r. ⌜ Counted (lead (λ k. byteBehind (now (f .entry)) place (step * k)) top) top r ⌝ }
+    ensures { λ r. ⌜ Counted (lead (λ k. byteAfter (now (f .entry)) place (step * k)) top) top r ⌝ }
 {
     let mut n = 0;
     while n < top {
-        if byte_behind(f, place, step * n) == 0 {
+        if byte_after(f, place, step * n) == 0 {
             return n;
         }
         n = n + 1;
@@ -141,8 +141,8 @@ fn codes(f: &[u8], place: usize, n: usize) -> bool
     let mut ok = true;
     let mut k = 0;
     while k < n {
-        let a = byte_behind(f, place, CODE_BYTES * k);
-        let b = byte_behind(f, place, CODE_BYTES * k + 1);
+        let a = byte_after(f, place, CODE_BYTES * k);
+        let b = byte_after(f, place, CODE_BYTES * k + 1);
         ok = ok & is_code(a, b);
         k = k + 1;
     }

@@ -39,14 +39,14 @@ impl Width {
     }
 }
 
-// At how many places of the slice a byte stands that has so many bytes behind it inside the slice.
-fn places(s: &[u8], behind: usize) -> usize
-    ensures { λ r. ⌜ r ≡ length (now (s .entry)) - behind ⌝ }
+// At how many places of the slice a byte stands that has so many bytes after it inside the slice.
+fn places(s: &[u8], after: usize) -> usize
+    ensures { λ r. ⌜ r ≡ length (now (s .entry)) - after ⌝ }
 {
-    if s.len() < behind {
+    if s.len() < after {
         return 0;
     }
-    s.len() - behind
+    s.len() - after
 }
 
 // The byte at a place inside the slice.
@@ -91,8 +91,8 @@ pub fn byte_at(s: &[u8], at: usize) -> usize
     0
 }
 
-// The byte that stands k bytes behind a place.
-pub fn byte_behind(s: &[u8], at: usize, k: usize) -> usize
+// The byte that stands k bytes after a place.
+pub fn byte_after(s: &[u8], at: usize, k: usize) -> usize
     ensures { λ r. ⌜ Is 1 (now (s .entry)) (at + k) r ⌝ }
 {
     if s.len() <= at {

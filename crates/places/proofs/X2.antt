@@ -21,7 +21,7 @@ use Rattle.records.specs.Rows.{baliseTable}
 use Rattle.layout.specs.declared.Layout.{Layout}
 use Rattle.layout.specs.Places.{startCountAt, startEntriesAt, endCountAt, endEntriesAt, groupsAt, yardCount}
 use Rattle.layout.specs.Layout.{layoutOf, yardOffsets}
-use Rattle.layout.specs.Bounds.{countMost}
+use Rattle.layout.specs.inner.Bounds.{countMost}
 use Rattle.layout.specs.declared.Made.{Made}
 use Rattle.layout.specs.declared.Made.the-variants.{Fixed, Balises}
 use Rattle.layout.specs.declared.Offsets.{Offsets}

@@ -9,8 +9,8 @@ use Rattle.octets.proofs.Width.half.Kinds as width-half-kinds
 use Rattle.octets.proofs.Width.half.Reads as width-half-reads
 use Rattle.octets.proofs.byte_at.Kinds as byte-at-kinds
 use Rattle.octets.proofs.byte_at.Reads as byte-at-reads
-use Rattle.octets.proofs.byte_behind.Kinds as byte-behind-kinds
-use Rattle.octets.proofs.byte_behind.Reads as byte-behind-reads
+use Rattle.octets.proofs.byte_after.Kinds as byte-after-kinds
+use Rattle.octets.proofs.byte_after.Reads as byte-after-reads
 use Rattle.octets.proofs.u16_at.Kinds as u16-at-kinds
 use Rattle.octets.proofs.u16_at.Reads as u16-at-reads
 use Rattle.octets.proofs.u24_at.Kinds as u24-at-kinds
@@ -45,8 +45,8 @@ width-half-determined κs a = by-equation (λ v w. refl)
 pub byte-at-determined : Determined 1 byte-at-kinds.ps byte-at-kinds.r byte-at-reads.Pre byte-at-reads.Post
 byte-at-determined κs a = by-part (λ x p. p .is) (λ v w. refl)
 
-pub byte-behind-determined : Determined 1 byte-behind-kinds.ps byte-behind-kinds.r byte-behind-reads.Pre byte-behind-reads.Post
-byte-behind-determined κs a = by-part (λ x p. p .is) (λ v w. refl)
+pub byte-after-determined : Determined 1 byte-after-kinds.ps byte-after-kinds.r byte-after-reads.Pre byte-after-reads.Post
+byte-after-determined κs a = by-part (λ x p. p .is) (λ v w. refl)
 
 pub u16-at-determined : Determined 1 u16-at-kinds.ps u16-at-kinds.r u16-at-reads.Pre u16-at-reads.Post
 u16-at-determined κs a = by-part (λ x p. p .is) (λ v w. refl)

@@ -1,6 +1,6 @@
 -- What is promised of a function's contract (01: 'For each public function, every input, refused ones too, determines the answer and the final
 -- lent memory. That any two allowed results are equal is itself proved'): it asks nothing of any input, and of any two answers that it allows
--- on one input the results are equal, and so is what is left behind each `&mut`. A contract is given by the number of its lifetimes, the kinds
+-- on one input the results are equal, and so is what is left in each `&mut`. A contract is given by the number of its lifetimes, the kinds
 -- of its arguments and of its result, and its two clauses, `requires` and `ensures`, as the check of the function itself uses them.
 -- Assumes nothing.
 use mathlib.Core.Path.{_≡_}

@@ -16,8 +16,8 @@ use Rattle.graph.specs.Ways.{onwardOf}
 use Rattle.walks.specs.Walks.{has, walks, branches}
 use Rattle.walks.specs.declared.Tally.{Tally}
 use Rattle.walks.specs.Lent.{lays}
-use Rattle.walks.specs.Grown.{Sane, Counted, Grown}
-use Rattle.routes.specs.Ready.{Ready}
+use Rattle.walks.specs.inner.Grown.{Sane, Counted, Grown}
+use Rattle.routes.specs.inner.Ready.{Ready}
 use Rattle.routes.proofs.Stores.{path-more}
 use Rattle.walks.proofs.Grow.{grown-none, grown-open, grown-route, grown-seq}
 use Rattle.walks.proofs.Unfold.{walks-boundary, walks-nothing, walks-turnout, walks-plain, turnout-legs, turnout-front, route-at}

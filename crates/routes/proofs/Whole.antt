@@ -25,7 +25,7 @@ use Rattle.walks.proofs.Lent.{lays-front}
 use Rattle.routes.specs.declared.RoutesAnswer.{RoutesAnswer}
 use Rattle.routes.specs.declared.RoutesAnswer.the-variants.{Listed}
 use Rattle.routes.specs.Answered.{inRange, limitOf, tallyOf, refusedFor, judged, answerAt, answerOf, leaves, leftOf}
-use Rattle.walks.specs.Grown.{limitLeast, limitMost, budgetLeast, budgetMost, nothing, Counted, Grown}
+use Rattle.walks.specs.inner.Grown.{limitLeast, limitMost, budgetLeast, budgetMost, nothing, Counted, Grown}
 use Rattle.routes.specs.Listing.{Within}
 use Rattle.walks.proofs.Grow.{grown-open, grown-seq}
 

@@ -16,7 +16,7 @@ use Rattle.graph.specs.Objects.{objectAt, boundaryAt}
 use Rattle.walks.specs.declared.Tally.{Tally}
 use Rattle.walks.specs.Walks.{allWalks, allRoutes, wordsOf}
 use Rattle.walks.specs.Lent.{wordSize, roomOf, octetsOf}
-use Rattle.walks.specs.Grown.{limitLeast, limitMost, budgetLeast, budgetMost}
+use Rattle.walks.specs.inner.Grown.{limitLeast, limitMost, budgetLeast, budgetMost}
 use Rattle.routes.specs.declared.RoutesAnswer.{RoutesAnswer}
 use Rattle.routes.specs.declared.RoutesAnswer.the-variants.{Listed, Refused}
 

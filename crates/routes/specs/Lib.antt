@@ -1,3 +1,3 @@
 pub mod Answered
-pub mod Ready
 pub mod Listing
+pub mod inner

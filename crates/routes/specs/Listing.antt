@@ -14,7 +14,7 @@ use Rattle.walks.specs.Legal.{Walk}
 use Rattle.walks.specs.Walks.{wordsOf}
 use Rattle.walks.specs.Lent.{wordSize, roomOf}
 use Rattle.walks.specs.All.{Number, AllRoutes}
-use Rattle.routes.specs.Ready.{Bounds}
+use Rattle.routes.specs.inner.Ready.{Bounds}
 
 -- the question is in range: a boundary starts where it starts, and the limit that is meant and the budget are ones that may be asked with
 pub record Within (asked : Bool) (limit budget : ℕ) : Type 0 where

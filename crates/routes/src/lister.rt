@@ -3,7 +3,7 @@ ghost use mathlib.Core.Path.{_≡_};
 ghost use lib.ListN.{take};
 ghost use Rattle.graph.specs.Objects.{objectAt, edgeLink};
 ghost use Rattle.walks.specs.Lent.{roomOf};
-ghost use Rattle.routes.specs.Ready.{Ready, Followed, Branched, Bounds, PassedOver};
+ghost use Rattle.routes.specs.inner.Ready.{Ready, Followed, Branched, Bounds, PassedOver};
 ghost use Rattle.routes.specs.Answered.{limitOf, inRange, refusedFor, answerIn, leftIn};
 use crate::DEFAULT_LIMIT;
 use crate::RoutesAnswer;

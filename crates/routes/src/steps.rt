@@ -5,7 +5,7 @@ ghost use mathlib.Core.List.{_∷_};
 ghost use lib.ListN.{length, take};
 ghost use Rattle.walks.specs.Walks.{has};
 ghost use Rattle.walks.specs.Lent.{lay, lays};
-ghost use Rattle.walks.specs.Grown.{limitMost, budgetMost, Sane, Counted};
+ghost use Rattle.walks.specs.inner.Grown.{limitMost, budgetMost, Sane, Counted};
 use walks::Tally;
 use walks::WORD_SIZE;
 

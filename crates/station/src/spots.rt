@@ -3,7 +3,7 @@ ghost use mathlib.Core.Path.{_≡_};
 ghost use mathlib.Core.List.{[], _∷_};
 ghost use Prim.Native.Nat.{_+_};
 ghost use Rattle.verdict.specs.Facts.{judge};
-ghost use Rattle.layout.specs.Bounds.{Bounded};
+ghost use Rattle.layout.specs.inner.Bounds.{Bounded};
 ghost use Rattle.lookup.specs.Lookup.{findTrack};
 ghost use Rattle.station.specs.Pair.{lies, present, reach, inFirst, withinTrack, spotFacts, recordPair, recordsPair};
 use layout::Layout;

@@ -2,7 +2,7 @@
 ghost use mathlib.Core.Path.{_≡_};
 ghost use mathlib.Core.List.{[], _∷_};
 ghost use Rattle.verdict.specs.Facts.{judge};
-ghost use Rattle.layout.specs.Bounds.{Bounded};
+ghost use Rattle.layout.specs.inner.Bounds.{Bounded};
 ghost use Rattle.station.specs.Pair.{sameStation, pairFacts, ofFirst, ofSecond, ofPair, pairOf};
 use crate::spots::records_pair;
 use layout::Layout;

@@ -22,7 +22,7 @@ use Rattle.lookup.proofs.Lookup.{verdict-obeys, absent-iff}
 use Rattle.survey.specs.declared.answers.Coordinate.{Coordinate}
 use Rattle.survey.specs.declared.answers.CoordinateAnswer.the-variants as coordinate
 use Rattle.survey.specs.Stretch.{endPositionOf, positionOf, latitudeOf, longitudeOf, pointCoordinate, stretchOf, coordinateOn}
-use Rattle.survey.specs.Requires.{TrackObeys}
+use Rattle.survey.specs.inner.Requires.{TrackObeys}
 use Rattle.survey.specs.Coordinate.{Neighbours, NearestAt, CoordinateAt}
 use Rattle.verdict.specs.Answers.{refusal, answerNumber}
 use Rattle.survey.specs.Answers.{coordinateAnswer}

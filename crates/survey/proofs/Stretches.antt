@@ -21,7 +21,7 @@ use Rattle.lookup.proofs.Lookup.{found-number}
 use Rattle.lookup.proofs.Search.{FirstStart, first-iff, no-start-iff}
 use Rattle.lookup.proofs.Rising.{rise, rise-order}
 use Rattle.survey.specs.Stretch.{endPositionOf, positionOf, latitudeOf, longitudeOf, reaches, stretchOf, pastOf, lengthOf}
-use Rattle.survey.specs.Requires.{TrackObeys, OnStretch}
+use Rattle.survey.specs.inner.Requires.{TrackObeys, OnStretch}
 use Rattle.survey.specs.Coordinate.{Neighbours}
 
 -- each track of a file that obeys

@@ -2,4 +2,4 @@ pub mod Stretch
 pub mod Questions
 pub mod Answers
 pub mod Coordinate
-pub mod Requires
+pub mod inner

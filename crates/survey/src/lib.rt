@@ -5,7 +5,7 @@ ghost use Prim.Native.Nat.{_+_, _*_, _≤_, _<_};
 ghost use Rattle.seal.specs.Seal.{mostLength};
 ghost use Rattle.geography.specs.Obeys.{entryPlace};
 ghost use Rattle.survey.specs.Questions.{headerOf, trackOf, pointOf, onTrack, coordinateAsked};
-ghost use Rattle.survey.specs.Requires.{TrackObeys};
+ghost use Rattle.survey.specs.inner.Requires.{TrackObeys};
 
 mod answers;
 mod stretch;

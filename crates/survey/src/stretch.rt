@@ -6,7 +6,7 @@ ghost use Rattle.geography.specs.Agreement.{axisSum};
 ghost use Rattle.rounding.specs.Nearest.{coordinateOf};
 ghost use Rattle.rounding.specs.Way.{Limits};
 ghost use Rattle.survey.specs.Stretch.{stretchOf, coordinateOn};
-ghost use Rattle.survey.specs.Requires.{OnStretch};
+ghost use Rattle.survey.specs.inner.Requires.{OnStretch};
 use crate::answers::Coordinate;
 use geography::sum_of;
 use lookup::Found;

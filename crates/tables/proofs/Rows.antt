@@ -46,7 +46,7 @@ module _ (f : List ℕ) (at : ℕ) where
   values-iff k w (parts ps) = parts-iff k w ps
 
   pub row-iff : (r : Row) → AllHold (rowFacts f at r) ↔ RowObeys f at r
-  row-iff r = values-iff (r .place) (r .width) (r .values)
+  row-iff r = values-iff (r .offset) (r .width) (r .values)
 
   -- LAW: for any table
   pub table-iff : (t : List Row) → AllHold (tableFacts f at t) ↔ TableObeys f at t
@@ -101,19 +101,19 @@ first-at p (fact c n ∷ fs) rest m a e = go (test c) (agrees c) e (first-at p f
 fault-after : (f : List ℕ) (at from end : ℕ) (t : List Row) → Tiled from t end → (q : ℕ) → RowAtFault f at t q → at + from ≤ q
 fault-after f at from end t d q x = go (x .which) (x .there) d (x .stands)
   where
-    go : {from : ℕ} {t : List Row} (r : Row) → List·Memᴰ r t → Tiled from t end → q ≡ at + r .place → at + from ≤ q
+    go : {from : ℕ} {t : List Row} (r : Row) → List·Memᴰ r t → Tiled from t end → q ≡ at + r .offset → at + from ≤ q
     go r m done e = absurd (List·Memᴰ·not-nil m)
     go {from} {t} r m (next {r = s} {rs = rs} p d) e =
-        ⊎-elim (λ (z : r ≡ s). let y : r .place ≡ s .place = ap (λ (u : Row). u .place) z in omega arith) (λ (n : List·Memᴰ r rs). let y = go r n d e in omega arith) (List·Memᴰ·cases-cons m)
+        ⊎-elim (λ (z : r ≡ s). let y : r .offset ≡ s .offset = ap (λ (u : Row). u .offset) z in omega arith) (λ (n : List·Memᴰ r rs). let y = go r n d e in omega arith) (List·Memᴰ·cases-cons m)
 
 -- LAW: for any table that leaves no gap
 pub lowest-at-fault : (f : List ℕ) (at from end : ℕ) (t : List Row) (m : Mark) → Tiled from t end → firstFault (tableFacts f at t) ≡ Refused m → LowestAtFault f at t (m .place)
 unfolding firstFault
 lowest-at-fault f at from end [] m d e = absurd (never m (sym e))
 lowest-at-fault f at from end (r ∷ rs) m (next p d) e =
-    ⊎-elim here (later (lowest-at-fault f at (from + r .width) end rs m d)) (first-at (at + r .place) (rowFacts f at r) (tableFacts f at rs) m (values-at f at (r .place) (r .width) (r .values)) e)
+    ⊎-elim here (later (lowest-at-fault f at (from + r .width) end rs m d)) (first-at (at + r .offset) (rowFacts f at r) (tableFacts f at rs) m (values-at f at (r .offset) (r .width) (r .values)) e)
   where
-    here : (AllHold (rowFacts f at r) → ⊥) × (m .place ≡ at + r .place) → LowestAtFault f at (r ∷ rs) (m .place)
+    here : (AllHold (rowFacts f at r) → ⊥) × (m .place ≡ at + r .offset) → LowestAtFault f at (r ∷ rs) (m .place)
     here x = record {
       fault = record { which = r; there = List·Memᴰ·head refl; stands = x .1; fails = λ o. x .0 ((row-iff f at r) .1 o) };
       least = λ q g. let y = fault-after f at from end (r ∷ rs) (next p d) q g in let z = x .1 in omega arith;
@@ -144,7 +144,7 @@ and-right false b e = absurd (true≢false (sym e))
 pub tiled : (from : ℕ) (t : List Row) (end : ℕ) → tiles from t end ≡ true → Tiled from t end
 tiled from [] end e = subst (λ (x : ℕ). Tiled from [] x) (eqb-true from end e) done
 tiled from (r ∷ rs) end e =
-    next (eqb-true from (r .place) (and-left (eqb from (r .place)) (tiles (from + r .width) rs end) e)) (tiled (from + r .width) rs end (and-right (eqb from (r .place)) (tiles (from + r .width) rs end) e))
+    next (eqb-true from (r .offset) (and-left (eqb from (r .offset)) (tiles (from + r .width) rs end) e)) (tiled (from + r .width) rs end (and-right (eqb from (r .offset)) (tiles (from + r .width) rs end) e))
 
 -- LAW: each byte of the record lies in some field
 pub covered : {from end : ℕ} {t : List Row} → Tiled from t end → (k : ℕ) → from ≤ k → k < end → InRow t k
@@ -162,11 +162,11 @@ tiled-le {from} done = le-refl from
 tiled-le (next p d) = let h = tiled-le d in omega arith
 
 -- LAW: each field lies inside the record
-pub inside : {from end : ℕ} {t : List Row} → Tiled from t end → (r : Row) → List·Memᴰ r t → (from ≤ r .place) × (r .place + r .width ≤ end)
+pub inside : {from end : ℕ} {t : List Row} → Tiled from t end → (r : Row) → List·Memᴰ r t → (from ≤ r .offset) × (r .offset + r .width ≤ end)
 inside done r m = absurd (List·Memᴰ·not-nil m)
 inside (next {r = s} {rs = rs} p d) r m =
     let e = tiled-le d in
-    ⊎-elim (λ (z : r ≡ s). let y : r .place ≡ s .place = ap (λ (u : Row). u .place) z in let w : r .width ≡ s .width = ap (λ (u : Row). u .width) z in (omega arith, omega arith))
+    ⊎-elim (λ (z : r ≡ s). let y : r .offset ≡ s .offset = ap (λ (u : Row). u .offset) z in let w : r .width ≡ s .width = ap (λ (u : Row). u .width) z in (omega arith, omega arith))
     (λ (n : List·Memᴰ r rs). let y = inside d r n in (omega (arith, y .0), omega (arith, y .1))) (List·Memᴰ·cases-cons m)
 
 -- ---- a table is refused at a place exactly where that is the lowest field at fault
@@ -213,4 +213,4 @@ module _ (f : List ℕ) (other : Mark → Claim) (at : ℕ)
   -- LAW: for any table
   pub table-marked : (t : List Row) → Marked (says f other) (tableFacts f at t)
   table-marked [] = tt
-  table-marked (r ∷ rs) = marked-append (says f other) (rowFacts f at r) (tableFacts f at rs) (values-marked (r .place) (r .width) (r .values)) (table-marked rs)
+  table-marked (r ∷ rs) = marked-append (says f other) (rowFacts f at r) (tableFacts f at rs) (values-marked (r .offset) (r .width) (r .values)) (table-marked rs)

@@ -43,7 +43,7 @@ valueFacts f at k w (named least) = asked at k w (objectName f (at + k) least) (
 valueFacts f at k w (parts ps) = partFacts f at k w ps
 
 abbrev pub rowFacts : List ℕ → ℕ → Row → List Fact
-rowFacts f at r = valueFacts f at (r .place) (r .width) (r .values)
+rowFacts f at r = valueFacts f at (r .offset) (r .width) (r .values)
 
 abbrev pub tableFacts : List ℕ → ℕ → List Row → List Fact
 tableFacts f at [] = []
@@ -70,7 +70,7 @@ Allowed f p w (parts ps) = HasParts (numAt w f p) ps
 
 -- a row's field has one of its values
 abbrev pub RowObeys : List ℕ → ℕ → Row → Type 0
-RowObeys f at r = Allowed f (at + r .place) (r .width) (r .values)
+RowObeys f at r = Allowed f (at + r .offset) (r .width) (r .values)
 
 -- every field of the table has one of its values
 pub record TableObeys (f : List ℕ) (at : ℕ) (t : List Row) : Type 0 where
@@ -80,7 +80,7 @@ pub record TableObeys (f : List ℕ) (at : ℕ) (t : List Row) : Type 0 where
 pub record RowAtFault (f : List ℕ) (at : ℕ) (t : List Row) (p : ℕ) : Type 0 where
   pub which : Row
   pub there : List·Memᴰ which t
-  pub stands : p ≡ at + which .place
+  pub stands : p ≡ at + which .offset
   pub fails : RowObeys f at which → ⊥
 
 -- p is the lowest of them
@@ -93,11 +93,11 @@ pub record LowestAtFault (f : List ℕ) (at : ℕ) (t : List Row) (p : ℕ) : Ty
 -- each row stands where the one before it ends, the first at `from`, and the last one ends at `end`
 pub data Tiled : ℕ → List Row → ℕ → Type 0 where
   done : {end : ℕ} → Tiled end [] end
-  next : {from end : ℕ} {r : Row} {rs : List Row} → from ≡ r .place → Tiled (from + r .width) rs end → Tiled from (r ∷ rs) end
+  next : {from end : ℕ} {r : Row} {rs : List Row} → from ≡ r .offset → Tiled (from + r .width) rs end → Tiled from (r ∷ rs) end
 
 -- the byte k of a record lies in a row's field
 pub record InRow (t : List Row) (k : ℕ) : Type 0 where
   pub which : Row
   pub there : List·Memᴰ which t
-  pub from : which .place ≤ k
-  pub to : k + 1 ≤ which .place + which .width
+  pub from : which .offset ≤ k
+  pub to : k + 1 ≤ which .offset + which .width

@@ -1,4 +1,4 @@
--- The fields of a record as one table: a row for each field in the page's order, with its name, its place in the record, how many bytes it
+-- The fields of a record as one table: a row for each field in the page's order, with its name, its offset in the record, how many bytes it
 -- has, whether it is signed, and what may stand in it. What the rows mean as values, as facts and as statements follows from the table by
 -- one definition each.
 -- Assumes nothing.
@@ -42,31 +42,31 @@ pub data Sign : Type 0 where
 
 pub record Row : Type 0 where
   pub name : String
-  pub place : ℕ
+  pub offset : ℕ
   pub width : ℕ
   pub sign : Sign
   pub values : Values
 
 -- a field that is not signed, and one that is
 abbrev pub row : String → ℕ → ℕ → Values → Row
-row name place width values = record { name = name; place = place; width = width; sign = unsigned; values = values }
+row name offset width values = record { name = name; offset = offset; width = width; sign = unsigned; values = values }
 
 abbrev pub signedRow : String → ℕ → ℕ → Values → Row
-signedRow name place width values = record { name = name; place = place; width = width; sign = signed; values = values }
+signedRow name offset width values = record { name = name; offset = offset; width = width; sign = signed; values = values }
 
 -- ---- what its bytes mean, in the record that starts at `at`
 
 -- where a row's field stands
 abbrev pub placeIn : ℕ → Row → ℕ
-placeIn at r = at + r .place
+placeIn at r = at + r .offset
 
 -- the number that stands there
 abbrev pub valueOf : List ℕ → ℕ → Row → ℕ
-valueOf f at r = numAt (r .width) f (at + r .place)
+valueOf f at r = numAt (r .width) f (at + r .offset)
 
 -- the same as a signed number
 abbrev pub signedOf : List ℕ → ℕ → Row → ℤ
-signedOf f at r = signedAt (r .width) f (at + r .place)
+signedOf f at r = signedAt (r .width) f (at + r .offset)
 
 -- ---- the places of the links, in the table's order
 
@@ -83,10 +83,10 @@ linkPlace at k (parts ps) = []
 
 abbrev pub linksIn : ℕ → List Row → List ℕ
 linksIn at [] = []
-linksIn at (r ∷ rs) = linkPlace at (r .place) (r .values) ++ linksIn at rs
+linksIn at (r ∷ rs) = linkPlace at (r .offset) (r .values) ++ linksIn at rs
 
 -- ---- a table leaves no gap: each row stands where the one before it ends, the first at `from`, and the last one ends at `end`
 
 abbrev pub tiles : ℕ → List Row → ℕ → Bool
 tiles from [] end = eqb from end
-tiles from (r ∷ rs) end = eqb from (r .place) && tiles (from + r .width) rs end
+tiles from (r ∷ rs) end = eqb from (r .offset) && tiles (from + r .width) rs end

@@ -2,7 +2,7 @@
 ghost use mathlib.Core.Path.{_≡_};
 ghost use Prim.Native.Nat.{_<_};
 use libc::STDOUT_FILENO;
-use octets::byte_behind;
+use octets::byte_after;
 use octets::distance;
 
 // How many hexadecimal digits a byte has.
@@ -76,15 +76,15 @@ fn write_byte(b: usize)
     write(&one);
 }
 
-// The byte k places behind another one, as text.
+// The byte k places after another one, as text.
 fn write_at(f: &[u8], place: usize, k: usize) {
-    let b = byte_behind(f, place, k);
+    let b = byte_after(f, place, k);
     write_byte(b)
 }
 
-// The byte k places behind another one, in hexadecimal.
+// The byte k places after another one, in hexadecimal.
 fn write_hex_at(f: &[u8], place: usize, k: usize) {
-    io::print_hex(STDOUT_FILENO, byte_behind(f, place, k) as u64, BYTE_DIGITS);
+    io::print_hex(STDOUT_FILENO, byte_after(f, place, k) as u64, BYTE_DIGITS);
 }
 
 // An object's name that stands at a place of the file; a dash for none.

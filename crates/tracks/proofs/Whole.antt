@@ -17,5 +17,5 @@ pub point-whole : Tiled 0 pointTable 13
 point-whole = tiled 0 pointTable 13 refl
 
 -- the entries start after the track count
-pub entries-start : rows.count .place + rows.count .width ≡ 8
+pub entries-start : rows.count .offset + rows.count .width ≡ 8
 entries-start = refl

@@ -1,4 +1,4 @@
--- A walk whose records all have one size: x is one of its starts exactly where it is a whole number of sizes behind the first, and
+-- A walk whose records all have one size: x is one of its starts exactly where it is a whole number of sizes after the first, and
 -- before the end.
 -- Assumes nothing.
 use Prim.Native.Nat.{ℕ, suc, zero, _+_, _*_, _≤_, _<_}
@@ -13,7 +13,7 @@ use lib.Dec.{ltb}
 use Rattle.verdict.specs.Walk.{walk, startsFrom}
 use Rattle.verdict.proofs.Walk.{starts-step}
 
--- x stands j sizes behind a, and before the end
+-- x stands j sizes after a, and before the end
 abbrev pub Stands : ℕ → ℕ → ℕ → ℕ → Type 0
 Stands s end a x = (j : ℕ) × (x ≡ a + s * j) × (x < end)
 

@@ -13,7 +13,7 @@ use Rattle.graph.specs.declared.Object.{Object}
 use Rattle.walks.specs.Walks.{isRoute, routesAmong, wordsOf}
 use Rattle.walks.specs.declared.Tally.{Tally}
 use Rattle.walks.specs.Lent.{lays}
-use Rattle.walks.specs.Grown.{Sane, Counted, Grown}
+use Rattle.walks.specs.inner.Grown.{Sane, Counted, Grown}
 use Rattle.walks.proofs.Lent.{lays-append}
 
 routes-append : (v : ℕ → Object) (a b : List (List ℕ)) → routesAmong v (a ++ b) ≡ routesAmong v a ++ routesAmong v b

@@ -2,4 +2,4 @@ pub mod Legal
 pub mod Walks
 pub mod All
 pub mod Lent
-pub mod Grown
+pub mod inner

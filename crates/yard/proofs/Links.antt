@@ -11,7 +11,7 @@ use Rattle.records.specs.declared.Kind.the-variants as kind
 use Rattle.records.specs.Records.{linkPlaces}
 use Rattle.layout.specs.declared.Layout.{Layout}
 use Rattle.layout.specs.Records.{kindAt, starts}
-use Rattle.layout.specs.Regions.{Regions}
+use Rattle.layout.specs.inner.Regions.{Regions}
 use Rattle.layout.proofs.Starts.{start-least}
 use Rattle.links.specs.Obeys.{Linkable, Target, LinksTo, Distinct, TargetsObey, ReturnsObey}
 use Rattle.graph.specs.Objects.{viewAt, objectAt, linksOf, isBoundary, offsetMost, boundaryAt}

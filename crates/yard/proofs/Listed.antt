@@ -18,7 +18,7 @@ use Rattle.verdict.specs.declared.Verdict.the-variants as verdict
 use Rattle.verdict.specs.Answers.{answerNumber, afterVerdict}
 use Rattle.verdict.proofs.Questions.{no-fault}
 use Rattle.layout.specs.Layout.{layoutOf}
-use Rattle.layout.specs.Regions.{Regions}
+use Rattle.layout.specs.inner.Regions.{Regions}
 use Rattle.layout.proofs.Regions.{regions}
 use Rattle.layout.proofs.Bounds.{regions-bounded}
 use Rattle.links.specs.Obeys.{Target}

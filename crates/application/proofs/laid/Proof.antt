@@ -1,7 +1,7 @@
 -- `application::laid` meets its contract.
 -- Assumes nothing.
 use mathlib.Core.Path.{sym, ap}
-use Rattle.application.specs.Shapes.{judgedAs}
+use Rattle.application.specs.inner.Shapes.{judgedAs}
 use borrow.Author.Needs.{needs}
 use Rattle.application.proofs.laid.Statement.{statement}
 use Rattle.application.proofs.laid.Tie as tie

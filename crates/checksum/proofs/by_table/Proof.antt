@@ -5,7 +5,7 @@ use Prim.Native.Nat.{ℕ}
 use lib.ListN.{length, drop}
 use borrow.Author.Needs.{needs}
 use Rattle.checksum.specs.Checksum.{start, checksumFrom, checksumOf}
-use Rattle.checksum.specs.Table.{inTurns}
+use Rattle.checksum.specs.inner.Table.{inTurns}
 use Rattle.checksum.proofs.Walk.{from-take}
 use Rattle.checksum.proofs.by_table.Statement.{statement}
 use Rattle.checksum.proofs.by_table.Tie as tie

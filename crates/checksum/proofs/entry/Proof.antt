@@ -4,7 +4,7 @@ use Prim.Native.Nat.{ℕ, _<_}
 use native.Mathlib.Omega.{arith}
 use lib.Bits.{bitXor, xor-lt}
 use borrow.Author.Needs.{needs}
-use Rattle.checksum.specs.Table.{RightTable}
+use Rattle.checksum.specs.inner.Table.{RightTable}
 use Rattle.checksum.proofs.entry.Statement.{statement}
 use Rattle.checksum.proofs.entry.Tie as tie
 

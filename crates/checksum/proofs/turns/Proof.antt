@@ -6,7 +6,7 @@ use Prim.Native.Nat.{ℕ, _-_, _%_, _≤_}
 use native.Mathlib.Omega.{arith}
 use lib.ListN.{length, take}
 use Rattle.checksum.specs.Checksum.{checksumFrom}
-use Rattle.checksum.specs.Table.{inTurns}
+use Rattle.checksum.specs.inner.Table.{inTurns}
 use Rattle.checksum.proofs.Walk.{turn-on}
 use borrow.Author.Needs.{needs}
 use Rattle.checksum.proofs.turns.Statement.{statement}

@@ -21,20 +21,20 @@ loop-holds : tie.Need-loop-holds Inv-loop μ-loop
 unfolding codes
 loop-holds c = refl
 
-mul-byte-behind : tie.Need-mul-byte-behind Inv-loop μ-loop
-mul-byte-behind c = search needs
+mul-byte-after : tie.Need-mul-byte-after Inv-loop μ-loop
+mul-byte-after c = search needs
 
-byte-behind-requires : tie.Need-byte-behind-requires Inv-loop μ-loop
-byte-behind-requires c κs = search needs
+byte-after-requires : tie.Need-byte-after-requires Inv-loop μ-loop
+byte-after-requires c κs = search needs
 
-mul-byte-behind-2 : tie.Need-mul-byte-behind-2 Inv-loop μ-loop
-mul-byte-behind-2 c = search needs
+mul-byte-after-2 : tie.Need-mul-byte-after-2 Inv-loop μ-loop
+mul-byte-after-2 c = search needs
 
-add-byte-behind : tie.Need-add-byte-behind Inv-loop μ-loop
-add-byte-behind c = search needs
+add-byte-after : tie.Need-add-byte-after Inv-loop μ-loop
+add-byte-after c = search needs
 
-byte-behind-requires-2 : tie.Need-byte-behind-requires-2 Inv-loop μ-loop
-byte-behind-requires-2 c κs = search needs
+byte-after-requires-2 : tie.Need-byte-after-requires-2 Inv-loop μ-loop
+byte-after-requires-2 c κs = search needs
 
 is-code-requires : tie.Need-is-code-requires Inv-loop μ-loop
 is-code-requires c κs = search needs
@@ -50,7 +50,7 @@ loop-again c =
     let a = c .before .before .before .before .before .before .args in
     let h = c .before .before .before .before .loop in
     each-step (λ i. codeAt (a .f .now) (a .place) i) (a .n) (h .ok) (h .ok && c .is-code .result) (h .k)
-    (c .before .before .before .loop-test .taken) (rw (c .is-code .ensures, c .before .byte-behind2 .ensures .is, c .before .before .byte-behind .ensures .is))
+    (c .before .before .before .loop-test .taken) (rw (c .is-code .ensures, c .before .byte-after2 .ensures .is, c .before .before .byte-after .ensures .is))
     ∙ h .inv
 
 returns : tie.Need-returns Inv-loop μ-loop
@@ -66,11 +66,11 @@ codes-spec =
     Inv-loop
     μ-loop
     loop-holds
-    mul-byte-behind
-    byte-behind-requires
-    mul-byte-behind-2
-    add-byte-behind
-    byte-behind-requires-2
+    mul-byte-after
+    byte-after-requires
+    mul-byte-after-2
+    add-byte-after
+    byte-after-requires-2
     is-code-requires
     add-k
     loop-less

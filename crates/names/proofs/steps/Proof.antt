@@ -5,14 +5,14 @@ use mathlib.Core.Path.{_≡_, sym, _∙_}
 use native.Mathlib.Nat.{mul-le-mul-right}
 use native.Mathlib.Omega.{arith}
 use borrow.Author.Count.{below-more}
-use Rattle.names.specs.Names.{byteBehind}
+use Rattle.names.specs.Names.{byteAfter}
 use Rattle.names.proofs.Counts.{counted}
 use borrow.Author.Needs.{needs}
 use Rattle.names.proofs.steps.Statement.{statement}
 use Rattle.names.proofs.steps.Tie as tie
 
 abbrev Inv-loop : tie.InvT-loop
-Inv-loop f place step top n₀ n = (n ≤ top) × ((k : ℕ) → k < n → byteBehind f place (step * k) ≡ 0 → ⊥)
+Inv-loop f place step top n₀ n = (n ≤ top) × ((k : ℕ) → k < n → byteAfter f place (step * k) ≡ 0 → ⊥)
 
 abbrev μ-loop : tie.MeasureT-loop
 μ-loop f place step top n₀ n = top - n
@@ -20,17 +20,17 @@ abbrev μ-loop : tie.MeasureT-loop
 loop-holds : tie.Need-loop-holds Inv-loop μ-loop
 loop-holds c = search needs
 
-mul-byte-behind : tie.Need-mul-byte-behind Inv-loop μ-loop
-mul-byte-behind c = omega (arith, mul-le-mul-right (c .before .loop .n) (c .before .before .before .pre .0))
+mul-byte-after : tie.Need-mul-byte-after Inv-loop μ-loop
+mul-byte-after c = omega (arith, mul-le-mul-right (c .before .loop .n) (c .before .before .before .pre .0))
 
-byte-behind-requires : tie.Need-byte-behind-requires Inv-loop μ-loop
-byte-behind-requires c κs = search needs
+byte-after-requires : tie.Need-byte-after-requires Inv-loop μ-loop
+byte-after-requires c κs = search needs
 
 returns : tie.Need-returns Inv-loop μ-loop
 returns c =
     let a = c .before .before .before .before .before .args in
     let h = c .before .before .before .loop in
-    counted (λ k. byteBehind (a .f .now) (a .place) (a .step * k)) (a .top) (h .n) (h .inv .0) (h .inv .1) (λ l. sym (c .before .byte-behind .ensures .is) ∙ c .if1 .taken)
+    counted (λ k. byteAfter (a .f .now) (a .place) (a .step * k)) (a .top) (h .n) (h .inv .0) (h .inv .1) (λ l. sym (c .before .byte-after .ensures .is) ∙ c .if1 .taken)
 
 add-n : tie.Need-add-n Inv-loop μ-loop
 add-n c = search needs
@@ -41,13 +41,13 @@ loop-less c = search needs
 loop-again : tie.Need-loop-again Inv-loop μ-loop
 loop-again c =
     let h = c .before .before .before .loop in
-    (search needs, below-more _ (h .n) (h .inv .1) (λ e. c .if1 .left (c .before .byte-behind .ensures .is ∙ e)))
+    (search needs, below-more _ (h .n) (h .inv .1) (λ e. c .if1 .left (c .before .byte-after .ensures .is ∙ e)))
 
 returns-2 : tie.Need-returns-2 Inv-loop μ-loop
 returns-2 c =
     let a = c .before .before .before .args in
     let h = c .before .loop in
-    counted (λ k. byteBehind (a .f .now) (a .place) (a .step * k)) (a .top) (h .n) (h .inv .0) (h .inv .1) (λ l. absurd (omega arith))
+    counted (λ k. byteAfter (a .f .now) (a .place) (a .step * k)) (a .top) (h .n) (h .inv .0) (h .inv .1) (λ l. absurd (omega arith))
 
 pub steps-spec : {M : Type 1} → statement M
 steps-spec =
@@ -56,8 +56,8 @@ steps-spec =
     Inv-loop
     μ-loop
     loop-holds
-    mul-byte-behind
-    byte-behind-requires
+    mul-byte-after
+    byte-after-requires
     returns
     add-n
     loop-less

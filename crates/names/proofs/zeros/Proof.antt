@@ -3,14 +3,14 @@
 use Prim.Native.Nat.{ℕ, _-_, _≤_, _<_}
 use mathlib.Core.Path.{_≡_, _∙_}
 use borrow.Author.Count.{below-more}
-use Rattle.names.specs.Names.{byteBehind}
+use Rattle.names.specs.Names.{byteAfter}
 use Rattle.names.proofs.Spelling.{byte-is, zeros-stop, zeros-end}
 use borrow.Author.Needs.{needs}
 use Rattle.names.proofs.zeros.Statement.{statement}
 use Rattle.names.proofs.zeros.Tie as tie
 
 abbrev Inv-loop : tie.InvT-loop
-Inv-loop f place from until top k₀ k = (from ≤ k) × ((j : ℕ) → j < k → from ≤ j → byteBehind f place j ≡ 0)
+Inv-loop f place from until top k₀ k = (from ≤ k) × ((j : ℕ) → j < k → from ≤ j → byteAfter f place j ≡ 0)
 
 abbrev μ-loop : tie.MeasureT-loop
 μ-loop f place from until top k₀ k = top - k

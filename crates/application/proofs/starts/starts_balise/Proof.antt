@@ -5,7 +5,7 @@ use mathlib.Core.Path.{_≡_, _∙_, refl}
 use native.Mathlib.Omega.{arith}
 use borrow.Author.Needs.{needs}
 use Rattle.verdict.specs.Facts.{test}
-use Rattle.application.specs.Starts.{baliseStarts}
+use Rattle.application.specs.inner.Starts.{baliseStarts}
 use Rattle.application.proofs.Found.{seek-step, seek-stop}
 use Rattle.application.proofs.starts.starts_balise.Statement.{statement}
 use Rattle.application.proofs.starts.starts_balise.Tie as tie

@@ -5,7 +5,7 @@ use Prim.Native.Nat.{_-_, _<_}
 use mathlib.Core.Path.{_≡_, _∙_}
 use native.Mathlib.Omega.{arith}
 use Rattle.verdict.specs.Facts.{judge}
-use Rattle.layout.specs.Bounds.{sliceOver}
+use Rattle.layout.specs.inner.Bounds.{sliceOver}
 use Rattle.layout.specs.Groups.{groupsFrom, groupsOf, groupFacts}
 use Rattle.layout.proofs.Loops.{groups-step, groups-stop}
 use borrow.Author.Needs.{needs}

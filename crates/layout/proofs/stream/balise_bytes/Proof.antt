@@ -8,11 +8,11 @@ use Rattle.layout.proofs.stream.balise_bytes.Tie as tie
 
 returns : tie.Need-returns
 unfolding baliseBytes
-returns c = omega (arith, c .before .byte-behind .ensures .is, c .before .byte-behind .ensures .below)
+returns c = omega (arith, c .before .byte-after .ensures .is, c .before .byte-after .ensures .below)
 
 returns-2 : tie.Need-returns-2
 unfolding baliseBytes
-returns-2 c = omega (arith, c .before .byte-behind .ensures .is)
+returns-2 c = omega (arith, c .before .byte-after .ensures .is)
 
 pub balise-bytes-spec : {M : Type 1} → statement M
 balise-bytes-spec = tie.close

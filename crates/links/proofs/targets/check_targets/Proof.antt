@@ -3,7 +3,7 @@
 use Prim.Native.Nat.{ℕ}
 use lib.ListN.{length-replicate}
 use Rattle.layout.proofs.Bounds.{none-judged, is-bounded, all-judged}
-use Rattle.links.specs.Marks.{cells}
+use Rattle.links.specs.inner.Marks.{cells}
 use Rattle.links.proofs.Marking.{blank-zeros}
 use borrow.Author.Needs.{needs}
 use Rattle.links.proofs.targets.check_targets.Statement.{statement}

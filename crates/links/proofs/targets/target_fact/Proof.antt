@@ -3,7 +3,7 @@
 use Prim.Native.Nat.{_≤_}
 use native.Mathlib.Omega.{arith}
 use Rattle.octets.specs.Octets.{numAt}
-use Rattle.layout.specs.Bounds.{placeMost}
+use Rattle.layout.specs.inner.Bounds.{placeMost}
 use borrow.Author.Needs.{needs}
 use Rattle.links.proofs.targets.target_fact.Statement.{statement}
 use Rattle.links.proofs.targets.target_fact.Tie as tie

@@ -9,7 +9,7 @@ use lib.Dec.{eqb}
 use lib.ListN.{getD}
 use Rattle.verdict.specs.Facts.{test}
 use Rattle.layout.specs.declared.Layout.{Layout}
-use Rattle.layout.specs.Bounds.{placeMost}
+use Rattle.layout.specs.inner.Bounds.{placeMost}
 use Rattle.links.specs.Links.{isTarget}
 
 -- how many places a cell has, and how many cells hold all places of a file

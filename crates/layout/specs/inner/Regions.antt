@@ -1,4 +1,4 @@
--- INNER: what follows from a right layout (proofs/Regions) and makes records quick to find: the regions follow each other without gaps from
+-- What follows from a right layout (proofs/Regions) and makes records quick to find: the regions follow each other without gaps from
 -- the header's end to End, and each is whole records of its kind. No reviewer has to believe this.
 -- Assumes nothing.
 use Prim.Native.Nat.{ℕ, _+_, _-_, _*_, _%_, _≤_}

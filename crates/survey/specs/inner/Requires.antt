@@ -1,4 +1,4 @@
--- INNER: what the inner functions require of their callers. Each call proves it, so no promise rests on these.
+-- What the inner functions require of their callers. Each call proves it, so no promise rests on these.
 -- Assumes nothing.
 use Prim.Native.Nat.{ℕ, suc, _+_, _≤_}
 use mathlib.Core.Path.{_≡_}

@@ -1,10 +1,10 @@
--- `octets::byte_behind` meets its contract.
+-- `octets::byte_after` meets its contract.
 -- Assumes nothing.
 use native.Mathlib.Omega.{arith}
 use Rattle.octets.proofs.Reading.{past}
 use borrow.Author.Needs.{needs}
-use Rattle.octets.proofs.byte_behind.Statement.{statement}
-use Rattle.octets.proofs.byte_behind.Tie as tie
+use Rattle.octets.proofs.byte_after.Statement.{statement}
+use Rattle.octets.proofs.byte_after.Tie as tie
 
 returns : tie.Need-returns
 returns c = past 1 _ _ (omega arith) (omega arith)
@@ -24,6 +24,6 @@ byte-inside-requires c κs = search needs
 returns-3 : tie.Need-returns-3
 returns-3 c = search needs
 
-pub byte-behind-spec : {M : Type 1} → statement M
-byte-behind-spec =
+pub byte-after-spec : {M : Type 1} → statement M
+byte-after-spec =
     tie.close (tie.spec returns sub-if2 returns-2 add-byte-inside byte-inside-requires returns-3)

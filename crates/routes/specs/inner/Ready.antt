@@ -8,7 +8,7 @@ use Rattle.graph.specs.declared.TurnoutLinks.{TurnoutLinks}
 use Rattle.graph.specs.Objects.{objectAt}
 use Rattle.walks.specs.declared.Tally.{Tally}
 use Rattle.walks.specs.Walks.{walks, branches, allWalks}
-use Rattle.walks.specs.Grown.{limitLeast, limitMost, budgetLeast, budgetMost, nothing, Sane, Grown}
+use Rattle.walks.specs.inner.Grown.{limitLeast, limitMost, budgetLeast, budgetMost, nothing, Sane, Grown}
 
 -- n objects stand in the path, and there is room for as many more as are left
 pub record Ready (budget : ℕ) (path : List ℕ) (n left : ℕ) (t : Tally) : Type 0 where

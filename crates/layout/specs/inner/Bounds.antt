@@ -1,4 +1,4 @@
--- INNER: how large the numbers of a layout are, so that no place that the code reckons with overflows. No reviewer has to believe this:
+-- How large the numbers of a layout are, so that no place that the code reckons with overflows. No reviewer has to believe this:
 -- every right layout of a file of at most 65,535 bytes is bounded (proofs/Bounds), and the checks of the records ask nothing of another.
 -- Assumes nothing.
 use Prim.Native.Nat.{ℕ, _+_, _*_, _^_, _≤_, _<_}
