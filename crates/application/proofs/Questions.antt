@@ -13,7 +13,7 @@ use Rattle.verdict.specs.declared.Verdict.{Verdict}
 use Rattle.verdict.specs.declared.Verdict.the-variants as verdict
 use Rattle.verdict.specs.declared.Reason.the-variants.{Question}
 use Rattle.verdict.specs.Answers.{refusal, afterVerdict}
-use Rattle.verdict.proofs.Questions.{fault-is, no-fault, accepted-by}
+use Rattle.verdict.proofs.Questions.{fault-is, no-fault, accepted-by, shown-accepted}
 use Rattle.verdict.specs.Facts.{test}
 use Rattle.verdict.specs.Reasons.{shownOf}
 use Rattle.names.specs.Names.{byteAfter, stationNameLength}
@@ -40,13 +40,9 @@ use Rattle.application.specs.Obeys.{Obeys}
 use Rattle.application.specs.Questions.{namedHeaderIn, namedHeaderOf, recordIf, recordOf}
 use Rattle.application.proofs.Obeys.{accepted-obeys}
 
-shown-accepted : (v : Judged) → shownOf v ≡ verdict.Accepted → v ≡ judged.Accepted
-shown-accepted judged.Accepted e = refl
-shown-accepted (judged.Refused m) e = let z : _≡_ {A = ℕ} 0 1 = cc in absurd (omega arith)
-
 -- an accepted file obeys
 pub verdict-obeys : (f : List ℕ) → verdictOf f ≡ verdict.Accepted → Obeys f
-verdict-obeys f e = (accepted-obeys f) .0 (shown-accepted (judgedOf f) e)
+verdict-obeys f e = (accepted-obeys f) .0 ((shown-accepted (judgedOf f)) .0 e)
 
 -- THEOREM: each question first gives its file's own fault.
 pub file-fault : (f : List ℕ) (t : Fault) → verdictOf f ≡ verdict.Refused t → (namedHeaderOf f ≡ header.Refused t) × ((x : ℕ) → recordOf f x ≡ answer.Refused t)

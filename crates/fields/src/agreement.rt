@@ -20,7 +20,6 @@ use rules::same_as;
 use tables::number_of;
 use tables::place_of;
 use verdict::Judged;
-use verdict::Mark;
 use verdict::Reason;
 use verdict::Rule;
 use verdict::also_fact;
@@ -48,16 +47,16 @@ fn rank_in_count(v: Judged, f: &[u8], at: u32) -> Judged
 {
     let byte = number_of(f, at, Balise::GROUP);
     let ok = Balise::rank_of(byte) <= Balise::count_of(byte);
-    let reason = Reason::Agreement;
     let rule = Rule::PlaceInCount;
-    let mark = Mark {
-        reason,
-        start: at as usize,
-        place: place_of(at, Balise::GROUP),
-        width: 1,
+    also_fact(
+        v,
+        ok,
+        Reason::Agreement,
+        at as usize,
+        place_of(at, Balise::GROUP),
+        1,
         rule,
-    };
-    also_fact(v, ok, mark)
+    )
 }
 
 // A record of a kind.

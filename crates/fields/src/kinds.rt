@@ -30,7 +30,6 @@ use tables::number_of;
 use tables::part;
 use tracks::POSITION_MOST;
 use verdict::Judged;
-use verdict::Mark;
 use verdict::Reason;
 use verdict::Rule;
 use verdict::also_fact;
@@ -103,16 +102,16 @@ fn message_fields(v: Judged, f: &[u8], at: u32) -> Judged
     let place = start + Balise::MESSAGE;
     let width = size - Balise::SIZE;
     let last = byte_at(f, place + width - 1);
-    let reason = Reason::Field;
     let rule = Rule::LastByte(MESSAGE_END);
-    let mark = Mark {
-        reason,
+    also_fact(
+        v,
+        last == MESSAGE_END,
+        Reason::Field,
         start,
         place,
         width,
         rule,
-    };
-    also_fact(v, last == MESSAGE_END, mark)
+    )
 }
 
 // A balise.

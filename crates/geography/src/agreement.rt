@@ -49,17 +49,9 @@ pub fn sum_of(f: &[u8], axis: Axis, e: u32, p: u32) -> i64
 fn ask(v: Judged, ok: bool, p: u32, k: Field, rule: Rule) -> Judged
     ensures { λ r. ⌜ r ≡ also v ok (pointMark p (bytesOf (k .1)) rule) ⌝ }
 {
-    let reason = Reason::Agreement;
     let width = k.1;
     let at = p as usize;
-    let mark = Mark {
-        reason,
-        start: at,
-        place: at,
-        width: width.bytes(),
-        rule,
-    };
-    also_fact(v, ok, mark)
+    also_fact(v, ok, Reason::Agreement, at, at, width.bytes(), rule)
 }
 
 // Start plus increment is at most so far from 0.

@@ -3,12 +3,13 @@
 use Prim.Native.Nat.{ℕ, _-_, _%_, _≤_, _<_}
 use native.Mathlib.Omega.{arith}
 use mathlib.Core.Path.{_≡_, refl, sym, _∙_}
-use mathlib.Core.Bool.{Bool, true, false, cond, _&&_, true≢false}
+use mathlib.Core.Bool.{Bool, true, false, cond}
 use mathlib.Core.Logic.{_↔_}
 use mathlib.Core.List.{List, map, List·Memᴰ}
 use lib.Dec.{leb, ltb}
 use borrow.Author.Tests.{leb-true, ltb-true, ltb-false, eqb-true, le-leb, lt-ltb, eq-eqb}
 use Rattle.octets.specs.Octets.{numAt}
+use Rattle.verdict.proofs.Orders.{and-true}
 use Rattle.records.specs.declared.Kind.{Kind}
 use Rattle.records.specs.declared.Kind.the-variants as kind
 use Rattle.records.specs.Records.{linkPlaces}
@@ -33,11 +34,6 @@ view-links f kind.Siding at = refl
 pub links-are : (f : List ℕ) (l : Layout) (at : ℕ) → linksOf (objectAt f l at) ≡ map (numAt 2 f) (linkPlaces (kindAt l at) at)
 unfolding objectAt
 links-are f l at = view-links f (kindAt l at) at
-
-and-true : (a b : Bool) → (a && b) ≡ true → (a ≡ true) × (b ≡ true)
-and-true true true e = (refl, refl)
-and-true true false e = absurd (true≢false (sym e))
-and-true false b e = absurd (true≢false (sym e))
 
 pub record BoundaryAt (l : Layout) (x : ℕ) : Type 0 where
   pub small : x ≤ offsetMost

@@ -12,7 +12,6 @@ use octets::byte_at;
 use records::Balise;
 use rules::fits;
 use verdict::Judged;
-use verdict::Mark;
 use verdict::Reason;
 use verdict::Rule;
 use verdict::also_fact;
@@ -24,19 +23,15 @@ fn size_byte(v: Judged, f: &[u8], at: usize) -> Judged
 {
     let field = at + Balise::SIZE_BYTE.0 as usize;
     let n = byte_at(f, field);
-    let reason = Reason::Layout;
     let rule = Rule::SizeByte(field, SIZE_LEAST, SIZE_MOST);
-    let mark = Mark {
-        reason,
-        start: at,
-        place: at,
-        width: 1,
-        rule,
-    };
     also_fact(
         v,
         (n == Balise::SIZE) | ((SIZE_LEAST <= n) & (n <= SIZE_MOST)),
-        mark,
+        Reason::Layout,
+        at,
+        at,
+        1,
+        rule,
     )
 }
 

@@ -1,7 +1,7 @@
 // The returns of the links, and doubled links: 9 in 01's table.
 ghost use mathlib.Core.Path.{_≡_};
 ghost use mathlib.Core.List.{[], _∷_};
-ghost use Rattle.verdict.specs.Facts.{judge, test};
+ghost use Rattle.verdict.specs.Facts.{also, judge, test};
 ghost use Rattle.records.specs.Records.{placesIn};
 ghost use Rattle.layout.specs.inner.Bounds.{Bounded, ifBounded};
 ghost use Rattle.links.specs.Links.{someNames, returnMark, back, distinct, returns, recordReturns, returnFacts};
@@ -14,7 +14,6 @@ use records::Kind;
 use records::LINK_SIZE;
 use records::Links;
 use verdict::Judged;
-use verdict::Mark;
 use verdict::Reason;
 use verdict::Rule;
 use verdict::also_fact;
@@ -33,18 +32,11 @@ fn some_names(f: &[u8], links: Links, at: usize) -> bool
     }
 }
 
-// The mark of a rule of the link at p, of the record at `at`.
-fn return_mark(at: u32, p: usize, rule: Rule) -> Mark
-    ensures { λ r. ⌜ r ≡ returnMark at p rule ⌝ }
+// The verdict so far, then a rule of the link at p, of the record at `at`.
+fn return_fact(v: Judged, ok: bool, at: u32, p: usize, rule: Rule) -> Judged
+    ensures { λ r. ⌜ r ≡ also v ok (returnMark at p rule) ⌝ }
 {
-    let reason = Reason::Return;
-    Mark {
-        reason,
-        start: at as usize,
-        place: p,
-        width: LINK_SIZE,
-        rule,
-    }
+    also_fact(v, ok, Reason::Return, at as usize, p, LINK_SIZE, rule)
 }
 
 // The link at p, of the record at `at`, is returned.
@@ -54,8 +46,7 @@ fn back_fact(v: Judged, f: &[u8], l: Layout, at: u32, p: usize) -> Judged
     let x = u16_at(f, p);
     let k = kind_at(l, x);
     let returned = some_names(f, k.links(x as u32), at as usize);
-    let mark = return_mark(at, p, Rule::IsReturned);
-    also_fact(v, (x == 0) | returned, mark)
+    return_fact(v, (x == 0) | returned, at, p, Rule::IsReturned)
 }
 
 // The link at p is another one than the link at q.
@@ -64,8 +55,7 @@ fn distinct_fact(v: Judged, f: &[u8], at: u32, p: usize, q: usize) -> Judged
 {
     let x = u16_at(f, p);
     let y = u16_at(f, q);
-    let mark = return_mark(at, p, Rule::NotDoubled(q));
-    also_fact(v, (x == 0) | (y != x), mark)
+    return_fact(v, (x == 0) | (y != x), at, p, Rule::NotDoubled(q))
 }
 
 // The returns of two links, the first links of a record.

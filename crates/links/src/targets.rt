@@ -21,7 +21,6 @@ use records::Links;
 use seal::NUMBER_MOST;
 use tables::number_between;
 use verdict::Judged;
-use verdict::Mark;
 use verdict::Reason;
 use verdict::Rule;
 use verdict::also_fact;
@@ -33,16 +32,16 @@ fn target_fact(v: Judged, f: &[u8], l: Layout, marks: &[u8; CELLS], at: u32, p: 
 {
     let x = u16_at(f, p);
     let start = at as usize;
-    let reason = Reason::Target;
     let rule = Rule::NamesObject;
-    let mark = Mark {
-        reason,
+    also_fact(
+        v,
+        (x == 0) | ((x != start) & is_target(marks, x)),
+        Reason::Target,
         start,
-        place: p,
-        width: LINK_SIZE,
+        p,
+        LINK_SIZE,
         rule,
-    };
-    also_fact(v, (x == 0) | ((x != start) & is_target(marks, x)), mark)
+    )
 }
 
 // 0 means no link; in a boundary it is 8.

@@ -18,14 +18,11 @@ use Rattle.geography.specs.Obeys.{entryPlace, Obeys}
 use Rattle.geography.proofs.Obeys.{accepted-obeys}
 use Rattle.lookup.specs.Lookup.{numberAt, hasNumber, findTrack}
 use Rattle.lookup.specs.declared.Found.the-variants.{At, Absent}
+use Rattle.verdict.proofs.Questions.{shown-accepted}
 use Rattle.lookup.proofs.Search.{first-iff, no-start-iff}
 use Rattle.lookup.proofs.Rising.{rise, rise-one}
 
 -- ---- the verdict that is answered is 0 exactly where the file obeys
-
-shown-accepted : (v : Judged) → (shownOf v ≡ verdict.Accepted) ↔ (v ≡ judged.Accepted)
-shown-accepted judged.Accepted = (λ e. refl, λ e. refl)
-shown-accepted (judged.Refused m) = (λ e. let z : _≡_ {A = ℕ} 0 1 = cc in absurd (omega arith), λ e. let z : _≡_ {A = ℕ} 0 1 = cc in absurd (omega arith))
 
 pub verdict-obeys : (f : List ℕ) → (verdictOf f ≡ verdict.Accepted) ↔ Obeys f
 verdict-obeys f =

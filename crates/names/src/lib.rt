@@ -9,7 +9,6 @@ ghost use Rattle.names.specs.Names.{objectBytes, stationCodes, byteAfter
 ghost use Rattle.names.specs.inner.Letters.{Letters};
 use octets::byte_after;
 use verdict::Judged;
-use verdict::Mark;
 use verdict::Reason;
 use verdict::Rule;
 use verdict::also_fact;
@@ -155,16 +154,16 @@ pub fn object_name(v: Judged, f: &[u8], start: usize, place: usize, least: usize
 {
     let n = letters(f, place);
     let ended = zeros(f, place, n, OBJECT_BYTES);
-    let reason = Reason::Field;
     let rule = Rule::ObjectName(least);
-    let mark = Mark {
-        reason,
+    also_fact(
+        v,
+        (least <= n) & ended,
+        Reason::Field,
         start,
         place,
-        width: OBJECT_BYTES,
+        OBJECT_BYTES,
         rule,
-    };
-    also_fact(v, (least <= n) & ended, mark)
+    )
 }
 
 // The 16 bytes at a place are a station's name: one to eight codes of two bytes, then zeros.
@@ -174,14 +173,14 @@ pub fn station_name(v: Judged, f: &[u8], start: usize, place: usize) -> Judged
     let n = code_count(f, place);
     let coded = codes(f, place, n);
     let ended = zeros(f, place, CODE_BYTES * n, STATION_BYTES);
-    let reason = Reason::Field;
     let rule = Rule::StationName;
-    let mark = Mark {
-        reason,
+    also_fact(
+        v,
+        (1 <= n) & (coded & ended),
+        Reason::Field,
         start,
         place,
-        width: STATION_BYTES,
+        STATION_BYTES,
         rule,
-    };
-    also_fact(v, (1 <= n) & (coded & ended), mark)
+    )
 }

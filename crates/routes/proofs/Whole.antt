@@ -18,7 +18,7 @@ use Rattle.graph.specs.declared.Object.{Object}
 use Rattle.graph.specs.Objects.{edgeLink, offsetMost, boundaryAt}
 use Rattle.graph.proofs.Places.{boundary-facts}
 use Rattle.walks.specs.Walks.{walks, allWalks, isRoute, allRoutes, wordsOf}
-use Rattle.walks.proofs.Paths.{and-true}
+use Rattle.verdict.proofs.Orders.{and-true}
 use Rattle.walks.specs.declared.Tally.{Tally}
 use Rattle.walks.specs.Lent.{roomOf, lays}
 use Rattle.walks.proofs.Lent.{lays-front}

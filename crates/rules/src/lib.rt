@@ -8,7 +8,6 @@ ghost use Rattle.rules.specs.Rules.{lengthBetween, isNumber, between, fi
 use octets::Width;
 use octets::num_at;
 use verdict::Judged;
-use verdict::Mark;
 use verdict::Reason;
 use verdict::Rule;
 use verdict::also_fact;
@@ -18,16 +17,8 @@ pub fn length_between(v: Judged, f: &[u8], low: usize, high: usize) -> Judged
     ensures { λ r. ⌜ r ≡ judge v (lengthBetween (now (f .entry)) low high ∷ []) ⌝ }
 {
     let n = f.len();
-    let reason = Reason::Length;
     let rule = Rule::LengthBetween(low, high);
-    let mark = Mark {
-        reason,
-        start: 0,
-        place: 0,
-        width: 0,
-        rule,
-    };
-    also_fact(v, (low <= n) & (n <= high), mark)
+    also_fact(v, (low <= n) & (n <= high), Reason::Length, 0, 0, 0, rule)
 }
 
 // The number at a place is this one.
@@ -45,14 +36,7 @@ pub fn is_number(
     let n = num_at(f, place, w);
     let width = w.bytes();
     let rule = Rule::Is(x);
-    let mark = Mark {
-        reason,
-        start,
-        place,
-        width,
-        rule,
-    };
-    also_fact(v, n == x, mark)
+    also_fact(v, n == x, reason, start, place, width, rule)
 }
 
 // The number at a place lies between two numbers.
@@ -71,14 +55,15 @@ pub fn between(
     let n = num_at(f, place, w);
     let width = w.bytes();
     let rule = Rule::Between(low, high);
-    let mark = Mark {
+    also_fact(
+        v,
+        (low <= n) & (n <= high),
         reason,
         start,
         place,
         width,
         rule,
-    };
-    also_fact(v, (low <= n) & (n <= high), mark)
+    )
 }
 
 // x divided by d, and by 0 it is 0.
@@ -106,16 +91,8 @@ pub fn fits(
 ) -> Judged
     ensures { λ r. ⌜ r ≡ judge v (fits start place width reach room ∷ []) ⌝ }
 {
-    let reason = Reason::Layout;
     let rule = Rule::Fits(reach, room);
-    let mark = Mark {
-        reason,
-        start,
-        place,
-        width,
-        rule,
-    };
-    also_fact(v, reach <= room, mark)
+    also_fact(v, reach <= room, Reason::Layout, start, place, width, rule)
 }
 
 // So many bytes are whole records of a size.
@@ -130,32 +107,16 @@ pub fn whole(
     ensures { λ r. ⌜ r ≡ judge v (whole start place width bytes size ∷ []) ⌝ }
 {
     let left = rest(bytes, size);
-    let reason = Reason::Layout;
     let rule = Rule::Whole(bytes, size);
-    let mark = Mark {
-        reason,
-        start,
-        place,
-        width,
-        rule,
-    };
-    also_fact(v, left == 0, mark)
+    also_fact(v, left == 0, Reason::Layout, start, place, width, rule)
 }
 
 // What stops at a place stops at the end that is due.
 pub fn ends_at(v: Judged, start: usize, place: usize, end: usize) -> Judged
     ensures { λ r. ⌜ r ≡ judge v (endsAt start place end ∷ []) ⌝ }
 {
-    let reason = Reason::Layout;
     let rule = Rule::EndsAt(end);
-    let mark = Mark {
-        reason,
-        start,
-        place,
-        width: 0,
-        rule,
-    };
-    also_fact(v, place == end, mark)
+    also_fact(v, place == end, Reason::Layout, start, place, 0, rule)
 }
 
 // The number of a field is 0.
@@ -164,16 +125,8 @@ pub fn zero_at(v: Judged, f: &[u8], start: usize, place: usize, w: Width, field:
 {
     let n = num_at(f, field, w);
     let width = w.bytes();
-    let reason = Reason::Agreement;
     let rule = Rule::Zero(field);
-    let mark = Mark {
-        reason,
-        start,
-        place,
-        width,
-        rule,
-    };
-    also_fact(v, n == 0, mark)
+    also_fact(v, n == 0, Reason::Agreement, start, place, width, rule)
 }
 
 // The number of a field is that of another field.
@@ -191,16 +144,8 @@ pub fn same_as(
     let n = num_at(f, field, w);
     let m = num_at(f, other, w);
     let width = w.bytes();
-    let reason = Reason::Agreement;
     let rule = Rule::SameAs(field, other);
-    let mark = Mark {
-        reason,
-        start,
-        place,
-        width,
-        rule,
-    };
-    also_fact(v, n == m, mark)
+    also_fact(v, n == m, Reason::Agreement, start, place, width, rule)
 }
 
 // The number of a field is above that of another field.
@@ -218,14 +163,6 @@ pub fn above(
     let n = num_at(f, field, w);
     let m = num_at(f, other, w);
     let width = w.bytes();
-    let reason = Reason::Agreement;
     let rule = Rule::Above(field, other);
-    let mark = Mark {
-        reason,
-        start,
-        place,
-        width,
-        rule,
-    };
-    also_fact(v, m < n, mark)
+    also_fact(v, m < n, Reason::Agreement, start, place, width, rule)
 }

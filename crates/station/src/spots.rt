@@ -25,7 +25,6 @@ use tables::number_of;
 use tables::place_of;
 use tracks::Track;
 use verdict::Judged;
-use verdict::Mark;
 use verdict::Reason;
 use verdict::Rule;
 use verdict::also_fact;
@@ -60,16 +59,16 @@ fn in_first(v: Judged, f: &[u8], g: &[u8], at: u32, t: usize) -> Judged
     ensures { λ r. ⌜ r ≡ judge v (inFirst (now (f .entry)) (now (g .entry)) at t ∷ []) ⌝ }
 {
     let found = present_in(f, byte_at(g, t));
-    let reason = Reason::Track;
     let rule = Rule::InFirst;
-    let mark = Mark {
-        reason,
-        start: at as usize,
-        place: t,
-        width: TRACK_SIZE,
+    also_fact(
+        v,
+        found == 1,
+        Reason::Track,
+        at as usize,
+        t,
+        TRACK_SIZE,
         rule,
-    };
-    also_fact(v, found == 1, mark)
+    )
 }
 
 // The position at p is at most the end of the track at t.
@@ -78,16 +77,16 @@ fn within_track(v: Judged, f: &[u8], g: &[u8], at: u32, t: usize, p: usize) -> J
 {
     let end = reach_of(f, byte_at(g, t));
     let x = u32_at(g, p);
-    let reason = Reason::Position;
     let rule = Rule::WithinTrack;
-    let mark = Mark {
-        reason,
-        start: at as usize,
-        place: p,
-        width: POSITION_SIZE,
+    also_fact(
+        v,
+        x <= end,
+        Reason::Position,
+        at as usize,
+        p,
+        POSITION_SIZE,
         rule,
-    };
-    also_fact(v, x <= end, mark)
+    )
 }
 
 // A track with a position on it.

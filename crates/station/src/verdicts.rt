@@ -14,7 +14,6 @@ use tables::place_of;
 use verdict::Fault;
 use verdict::File;
 use verdict::Judged;
-use verdict::Mark;
 use verdict::PairVerdict;
 use verdict::Reason;
 use verdict::Rule;
@@ -30,16 +29,16 @@ fn same_station(v: Judged, f: &[u8], g: &[u8]) -> Judged
 {
     let first = number_of(f, HEADER, STATION);
     let second = number_of(g, HEADER, STATION);
-    let reason = Reason::Station;
     let rule = Rule::SameStation;
-    let mark = Mark {
-        reason,
-        start: HEADER as usize,
-        place: place_of(HEADER, STATION),
-        width: STATION_SIZE,
+    also_fact(
+        v,
+        second == first,
+        Reason::Station,
+        HEADER as usize,
+        place_of(HEADER, STATION),
+        STATION_SIZE,
         rule,
-    };
-    also_fact(v, second == first, mark)
+    )
 }
 
 // The facts of a pair of files that are each accepted.

@@ -3,7 +3,7 @@
 -- Assumes nothing.
 use Prim.Native.Nat.{ℕ, _+_, _≤_, _<_}
 use mathlib.Core.Path.{_≡_, refl, ap, sym, subst, _∙_}
-use mathlib.Core.Bool.{Bool, true, false, cond, _&&_, true≢false}
+use mathlib.Core.Bool.{Bool, true, false, cond}
 use mathlib.Core.List.{List, [], _∷_, _++_, List·Memᴰ, List·Memᴰ·head, List·Memᴰ·tail, List·Memᴰ·not-nil, List·Memᴰ·cases-cons}
 use mathlib.Core.Logic.{_⊎_, inl, inr, ⊎-elim, _↔_}
 use native.Mathlib.Omega.{arith}
@@ -20,7 +20,7 @@ use Rattle.verdict.specs.declared.Reason.the-variants as reason
 use Rattle.verdict.specs.declared.Rule.the-variants as rule
 use Rattle.rules.specs.Rules.{says}
 use Rattle.names.specs.Names.{objectName}
-use Rattle.verdict.proofs.Orders.{le-or-lt}
+use Rattle.verdict.proofs.Orders.{le-or-lt, and-true}
 use Rattle.tables.specs.Table.{Part, bits, Values, any, link, exactly, between, within, amongFour, amongFive, named, parts, Row, tiles}
 use Rattle.names.proofs.Names.{object-name-iff}
 use Rattle.tables.specs.Rows.{partFacts, valueFacts, rowFacts, tableFacts, HasParts, Allowed, RowObeys, TableObeys, RowAtFault, LowestAtFault, Tiled, done, next, InRow}
@@ -133,18 +133,10 @@ lowest-at-fault f at from end (r ∷ rs) m (next p d) e =
 
 -- ---- the test `tiles`, and what it means
 
-and-left : (a b : Bool) → (a && b) ≡ true → a ≡ true
-and-left true b e = refl
-and-left false b e = absurd (true≢false (sym e))
-
-and-right : (a b : Bool) → (a && b) ≡ true → b ≡ true
-and-right true b e = e
-and-right false b e = absurd (true≢false (sym e))
-
 pub tiled : (from : ℕ) (t : List Row) (end : ℕ) → tiles from t end ≡ true → Tiled from t end
 tiled from [] end e = subst (λ (x : ℕ). Tiled from [] x) (eqb-true from end e) done
 tiled from (r ∷ rs) end e =
-    next (eqb-true from (r .offset) (and-left (eqb from (r .offset)) (tiles (from + r .width) rs end) e)) (tiled (from + r .width) rs end (and-right (eqb from (r .offset)) (tiles (from + r .width) rs end) e))
+    next (eqb-true from (r .offset) ((and-true (eqb from (r .offset)) (tiles (from + r .width) rs end) e) .0)) (tiled (from + r .width) rs end ((and-true (eqb from (r .offset)) (tiles (from + r .width) rs end) e) .1))
 
 -- LAW: each byte of the record lies in some field
 pub covered : {from end : ℕ} {t : List Row} → Tiled from t end → (k : ℕ) → from ≤ k → k < end → InRow t k

@@ -103,16 +103,16 @@ pub fn number_between(
 fn ask(v: Judged, ok: bool, at: u32, k: Field, rule: Rule) -> Judged
     ensures { λ r. ⌜ r ≡ also v ok (fieldMark at (k .0) (bytesOf (k .1)) rule) ⌝ }
 {
-    let reason = Reason::Field;
     let width = k.1;
-    let mark = Mark {
-        reason,
-        start: at as usize,
-        place: place_of(at, k),
-        width: width.bytes(),
+    also_fact(
+        v,
+        ok,
+        Reason::Field,
+        at as usize,
+        place_of(at, k),
+        width.bytes(),
         rule,
-    };
-    also_fact(v, ok, mark)
+    )
 }
 
 // The field is this number.

@@ -17,6 +17,14 @@ use Rattle.verdict.specs.Facts.{Claim, always, same, atMost, both, eithe
 
 -- ---- one fact
 
+pub also-stays : (v : Judged) (ok : Bool) (m n : Mark) → v ≡ Refused n → v ≡ also v ok m
+unfolding also
+also-stays v ok m n e = rw e
+
+pub also-holds : (v : Judged) (ok : Bool) (m : Mark) → v ≡ Accepted → ok ≡ true → Accepted ≡ also v ok m
+unfolding also
+also-holds v ok m e h = rw (e, h)
+
 pub also-fails : (v : Judged) (ok : Bool) (m : Mark) → v ≡ Accepted → ok ≡ false → Refused m ≡ also v ok m
 unfolding also
 also-fails v ok m e h = rw (e, h)

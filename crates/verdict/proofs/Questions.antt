@@ -1,10 +1,21 @@
--- A question on a file whose verdict is w: the file's own fault, or none. `say` makes an answer of a fault.
+-- What is answered of a file: its verdict is accepted where no fact fails, and a question first gives the file's own fault. `say` makes an
+-- answer of a fault, and w is the file's verdict.
 -- Assumes nothing.
+use Prim.Native.Nat.{ℕ}
 use mathlib.Core.Path.{_≡_, refl, sym, ap, _∙_}
+use mathlib.Core.Logic.{_↔_}
+use native.Mathlib.Omega.{arith}
 use Rattle.verdict.specs.declared.Fault.{Fault}
+use Rattle.verdict.specs.declared.Judged.{Judged}
+use Rattle.verdict.specs.declared.Judged.the-variants as judged
 use Rattle.verdict.specs.declared.Verdict.{Verdict}
 use Rattle.verdict.specs.declared.Verdict.the-variants.{Accepted, Refused}
+use Rattle.verdict.specs.Reasons.{shownOf}
 use Rattle.verdict.specs.Answers.{afterVerdict, faultIn}
+
+pub shown-accepted : (v : Judged) → (shownOf v ≡ Accepted) ↔ (v ≡ judged.Accepted)
+shown-accepted judged.Accepted = (λ e. refl, λ e. refl)
+shown-accepted (judged.Refused m) = (λ e. let z : _≡_ {A = ℕ} 0 1 = cc in absurd (omega arith), λ e. let z : _≡_ {A = ℕ} 0 1 = cc in absurd (omega arith))
 
 module _ {A : Type 0} (say : Fault → A) (w : Verdict) where
   pub fault-is : (t : Fault) (a : A) → w ≡ Refused t → afterVerdict say w a ≡ say t

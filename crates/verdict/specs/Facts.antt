@@ -8,6 +8,8 @@ use mathlib.Core.Bool.{Bool, true, false, cond, not, _&&_, _||_}
 use mathlib.Core.List.{List, [], _∷_, _++_, List·Memᴰ}
 use mathlib.Core.Logic.{_⊎_}
 use lib.Dec.{eqb, leb}
+use Rattle.verdict.specs.declared.Reason.{Reason}
+use Rattle.verdict.specs.declared.Rule.{Rule}
 use Rattle.verdict.specs.declared.Mark.{Mark}
 use Rattle.verdict.specs.declared.Judged.{Judged}
 use Rattle.verdict.specs.declared.Judged.the-variants.{Accepted, Refused}
@@ -54,6 +56,10 @@ Holds (either c d) = Holds c ⊎ Holds d
 Holds (denied c) = Holds c → ⊥
 Holds (some xs c) = (x : ℕ) × List·Memᴰ x xs × Holds (c x)
 Holds (every xs c) = (x : ℕ) → List·Memᴰ x xs → Holds (c x)
+
+-- what a fact is about: the reason, the start of its record, the place that is reported, how many bytes stand there, and the rule
+abbrev pub mark : Reason → ℕ → ℕ → ℕ → Rule → Mark
+mark reason start place width rule = record { reason = reason; start = start; place = place; width = width; rule = rule }
 
 -- a claim, with the mark of the refusal where it is the first that fails
 pub data Fact : Type 0 where

@@ -2,7 +2,7 @@
 ghost use mathlib.Core.Path.{_≡_};
 ghost use Rattle.verdict.specs.Reasons.{numberOf, fileOf, shownOf, numberIn, placeIn, pairNumberIn, pairPlaceIn, pairFileIn};
 ghost use Rattle.verdict.specs.Answers.{refusal, faultIn};
-ghost use Rattle.verdict.specs.Facts.{also};
+ghost use Rattle.verdict.specs.Facts.{mark, also};
 
 // Why an answer is refused, in the order of 01's table: 6 comes before 5.
 pub enum Reason {
@@ -252,9 +252,17 @@ pub fn refusal(reason: Reason) -> Fault
     Fault { reason, place: 0 }
 }
 
-// The verdict so far, then one fact more.
-pub fn also_fact(v: Judged, ok: bool, mark: Mark) -> Judged
-    ensures { λ r. ⌜ r ≡ also v ok mark ⌝ }
+// The verdict so far, then one fact more, with its mark.
+pub fn also_fact(
+    v: Judged,
+    ok: bool,
+    reason: Reason,
+    start: usize,
+    place: usize,
+    width: usize,
+    rule: Rule,
+) -> Judged
+    ensures { λ r. ⌜ r ≡ also v ok (mark reason start place width rule) ⌝ }
 {
     match v {
         Judged::Refused(_) => v,
@@ -262,6 +270,13 @@ pub fn also_fact(v: Judged, ok: bool, mark: Mark) -> Judged
             if ok {
                 Judged::Accepted
             } else {
+                let mark = Mark {
+                    reason,
+                    start,
+                    place,
+                    width,
+                    rule,
+                };
                 Judged::Refused(mark)
             }
         }

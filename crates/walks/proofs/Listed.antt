@@ -13,7 +13,8 @@ use borrow.Author.Tests.{ne-eqb, eqb-false}
 use Rattle.graph.specs.declared.Object.{Object}
 use Rattle.graph.specs.Ways.{exitsOf}
 use Rattle.walks.specs.Walks.{has, each, walks}
-use Rattle.walks.proofs.Paths.{or-false, Fresh}
+use Rattle.verdict.proofs.Orders.{neither}
+use Rattle.walks.proofs.Paths.{Fresh}
 
 pub each-cases : (f : ℕ → List (List ℕ)) (xs w : List ℕ) → List·Memᴰ w (each f xs) → (x : ℕ) × List·Memᴰ x xs × List·Memᴰ w (f x)
 unfolding each
@@ -54,7 +55,7 @@ module _ (v : ℕ → Object) where
           → ((x : ℕ) → List·Memᴰ w (walks v k (p ++ (to ∷ [])) to x) → Found v k (p ++ (to ∷ [])) to x w) → Found v (suc k) p from to w
       go true e h rec = absurd (List·Memᴰ·not-nil h)
       go false e h rec =
-          let o = or-false (eqb to 0) (has p to) e in
+          let o = neither (eqb to 0) (has p to) e in
           let n = eqb-false to 0 (o .0) in
           ⊎-elim (λ q. record { after = []; is = q; goes = record { some = n; traced = tt; fresh = (o .1, tt); short = omega arith } })
           (λ q.

@@ -7,17 +7,9 @@ use mathlib.Core.Logic.{⊎-elim}
 use mathlib.Core.List.{List, [], _∷_, _++_, List·Memᴰ, List·Memᴰ·head, List·Memᴰ·tail, List·Memᴰ·not-nil, List·Memᴰ·cases-cons, Memᴰ·cast}
 use lib.Dec.{eqb}
 use borrow.Author.Tests.{ne-eqb, eqb-false}
+use Rattle.verdict.proofs.Orders.{neither}
 use Rattle.walks.specs.Legal.{NoneTwice}
 use Rattle.walks.specs.Walks.{has}
-
-pub or-false : (a b : Bool) → (a || b) ≡ false → (a ≡ false) × (b ≡ false)
-or-false true b e = absurd (true≢false e)
-or-false false b e = (refl, e)
-
-pub and-true : (a b : Bool) → (a && b) ≡ true → (a ≡ true) × (b ≡ true)
-and-true true true e = (refl, refl)
-and-true true false e = absurd (true≢false (sym e))
-and-true false b e = absurd (true≢false (sym e))
 
 -- x stands in a list with one element more where it stands in the list or is that element
 pub has-more : (l : List ℕ) (y x : ℕ) → has (l ++ (y ∷ [])) x ≡ (has l x || eqb y x)
@@ -37,13 +29,13 @@ has-more (a ∷ l) y x = ap (λ (b : Bool). eqb a x || b) (has-more l y x) ∙ o
 pub has-snoc : (l : List ℕ) (y x : ℕ) → has l x ≡ false → (y ≡ x → ⊥) → has (l ++ (y ∷ [])) x ≡ false
 unfolding has
 has-snoc [] y x h n = rw (ne-eqb y x n) refl
-has-snoc (a ∷ l) y x h n = let o = or-false (eqb a x) (has l x) h in rw (o .0) (has-snoc l y x (o .1) n)
+has-snoc (a ∷ l) y x h n = let o = neither (eqb a x) (has l x) h in rw (o .0) (has-snoc l y x (o .1) n)
 
 snoc-has : (l : List ℕ) (y x : ℕ) → has (l ++ (y ∷ [])) x ≡ false → (has l x ≡ false) × (¬ (y ≡ x))
 unfolding has
-snoc-has [] y x e = (refl, eqb-false y x (or-false (eqb y x) false e .0))
+snoc-has [] y x e = (refl, eqb-false y x (neither (eqb y x) false e .0))
 snoc-has (a ∷ l) y x e =
-    let o = or-false (eqb a x) (has (l ++ (y ∷ [])) x) e in
+    let o = neither (eqb a x) (has (l ++ (y ∷ [])) x) e in
     let r = snoc-has l y x (o .1) in
     (rw (o .0) (r .0), r .1)
 

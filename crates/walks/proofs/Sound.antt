@@ -15,7 +15,8 @@ use Rattle.graph.specs.Objects.{edgeLink, isBoundary}
 use Rattle.graph.specs.Links.{Joined}
 use Rattle.walks.specs.Legal.{FromStart, NoneTwice, lastOf, Walk, Route}
 use Rattle.walks.specs.Walks.{has, walks, allWalks, isRoute, routesAmong, allRoutes}
-use Rattle.walks.proofs.Paths.{or-false, and-true, fresh-distinct, distinct-fresh}
+use Rattle.verdict.proofs.Orders.{and-true, neither}
+use Rattle.walks.proofs.Paths.{fresh-distinct, distinct-fresh}
 use Rattle.walks.proofs.Listed.{Goes, found, listed}
 use Rattle.walks.proofs.Legal.{enters-first, traced-steps, steps-traced}
 
@@ -26,7 +27,7 @@ alone start y n = rw (ne-eqb start y n) refl
 
 not-there : (start : ℕ) → has (start ∷ []) start ≡ false → ⊥
 unfolding has
-not-there start e = eqb-false start start (or-false (eqb start start) false e .0) refl
+not-there start e = eqb-false start start (neither (eqb start start) false e .0) refl
 
 module _ (v : ℕ → Object) where
   pub route-cases : (ws : List (List ℕ)) (w : List ℕ) → List·Memᴰ w (routesAmong v ws) → List·Memᴰ w ws × (isRoute v w ≡ true)

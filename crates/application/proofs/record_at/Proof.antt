@@ -27,7 +27,7 @@ cast-read c =
     let e = c .before .before .before .before .enum-told .given .1 in
     let i = c .before .before .before .layout-of .ensures .0 in
     let b = accepted-bounded (a .f .now) 0 _ v e _ i in
-    let h = start-small (a .f .now) (a .offset) _ v e _ i _ (c .before .before .starts-record .ensures) (not-false _ (c .before .if1 .left)) (accepted-regions (a .f .now) 0 _ v e _ i) (b .stop) in
+    let h = start-small (a .f .now) (a .offset) _ v e _ i _ (c .before .before .starts-record .ensures) (not-false _ (c .before .if1 .left)) (accepted-regions (a .f .now) 0 _ v e _ i) (b .end) in
     omega arith
 
 returns-3 : tie.Need-returns-3

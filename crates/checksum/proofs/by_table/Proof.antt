@@ -10,15 +10,6 @@ use Rattle.checksum.proofs.Walk.{from-take}
 use Rattle.checksum.proofs.by_table.Statement.{statement}
 use Rattle.checksum.proofs.by_table.Tie as tie
 
-turns-requires : tie.Need-turns-requires
-turns-requires c κs = search needs
-
-sub-rest : tie.Need-sub-rest
-sub-rest c = search needs
-
-rest-requires : tie.Need-rest-requires
-rest-requires c κs = search needs
-
 returns : tie.Need-returns
 unfolding checksumOf
 returns c =
@@ -26,4 +17,9 @@ returns c =
     c .rest .ensures ∙ ap (λ (r : ℕ). checksumFrom r (drop (inTurns (length s)) s)) (c .before .turns .ensures) ∙ from-take (inTurns (length s)) s start
 
 pub by-table-spec : {M : Type 1} → statement M
-by-table-spec = tie.close (tie.spec turns-requires sub-rest rest-requires returns)
+by-table-spec = tie.close
+    (tie.spec
+    (λ c κs. search needs)
+    (λ c. search needs)
+    (λ c κs. search needs)
+    returns)

@@ -6,16 +6,14 @@ use Rattle.checksum.proofs.ByTable.{by-table}
 use Rattle.checksum.proofs.byte_step.Statement.{statement}
 use Rattle.checksum.proofs.byte_step.Tie as tie
 
-cast-entry : tie.Need-cast-entry
-cast-entry c = search needs
-
-entry-requires : tie.Need-entry-requires
-entry-requires c κs = search needs
-
 returns : tie.Need-returns
 returns c =
     let a = c .before .args in
     by-table (c .entry .result) (a .register) (a .byte) (omega arith) (omega arith) (c .entry .ensures)
 
 pub byte-step-spec : {M : Type 1} → statement M
-byte-step-spec = tie.close (tie.spec cast-entry entry-requires returns)
+byte-step-spec = tie.close
+    (tie.spec
+    (λ c. search needs)
+    (λ c κs. search needs)
+    returns)

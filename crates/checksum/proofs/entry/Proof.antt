@@ -11,9 +11,6 @@ use Rattle.checksum.proofs.entry.Tie as tie
 met-lt : (b p : ℕ) → b < 256 → p < 256 → bitXor b p < 256
 met-lt b p h l = xor-lt 8 b p h l
 
-mul-result : tie.Need-mul-result
-mul-result c = search needs
-
 add-result : tie.Need-add-result
 add-result c = let h = met-lt (c .args .byte) (c .args .part) (omega arith) (omega arith) in omega arith
 
@@ -31,4 +28,10 @@ returns c =
 
 pub entry-spec : {M : Type 1} → statement M
 entry-spec =
-    tie.close (tie.spec mul-result add-result mul-result-2 element-copy-out-result returns)
+    tie.close
+    (tie.spec
+    (λ c. search needs)
+    add-result
+    mul-result-2
+    element-copy-out-result
+    returns)

@@ -11,11 +11,9 @@ by-table-requires : tie.Need-by-table-requires
 unfolding byteStep bitSteps bitStep step
 by-table-requires c κs = right-table _ refl tt tt
 
-cast-result : tie.Need-cast-result
-cast-result c = search needs
-
-returns : tie.Need-returns
-returns c = search needs
-
 pub of-spec : {M : Type 1} → statement M
-of-spec = tie.close (tie.spec by-table-requires cast-result returns)
+of-spec = tie.close
+    (tie.spec
+    by-table-requires
+    (λ c. search needs)
+    (λ c. search needs))

@@ -10,17 +10,14 @@ use Rattle.checksum.proofs.of_first.Tie as tie
 slice-aggregate-of : tie.Need-slice-aggregate-of
 slice-aggregate-of c = sym (length-take-le _ _ (omega arith))
 
-of-requires : tie.Need-of-requires
-of-requires c κs = search needs
-
-returns : tie.Need-returns
-returns c = search needs
-
-of-requires-2 : tie.Need-of-requires-2
-of-requires-2 c κs = search needs
-
 returns-2 : tie.Need-returns-2
 returns-2 c = rw (take-all _ _ (c .before .if1 .left)) (c .of2 .ensures)
 
 pub of-first-spec : {M : Type 1} → statement M
-of-first-spec = tie.close (tie.spec slice-aggregate-of of-requires returns of-requires-2 returns-2)
+of-first-spec = tie.close
+    (tie.spec
+    slice-aggregate-of
+    (λ c κs. search needs)
+    (λ c. search needs)
+    (λ c κs. search needs)
+    returns-2)

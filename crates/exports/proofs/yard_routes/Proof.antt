@@ -11,18 +11,6 @@ use borrow.Author.Needs.{needs}
 use Rattle.exports.proofs.yard_routes.Statement.{statement}
 use Rattle.exports.proofs.yard_routes.Tie as tie
 
-slice-aggregate-routes : tie.Need-slice-aggregate-routes
-slice-aggregate-routes c = search needs
-
-routes-requires : tie.Need-routes-requires
-routes-requires c κs = search needs
-
-show-counts-requires : tie.Need-show-counts-requires
-show-counts-requires c κs = search needs
-
-same-length : tie.Need-same-length
-same-length c = search needs
-
 returns : tie.Need-returns
 returns c =
     let a = c .before .before .before .before .before .before .before .before .before .before .before .args in
@@ -32,18 +20,6 @@ returns c =
     let s = c .before .before .show-counts .ensures in
     let counts = a .counts .now in
     (s .0 ∙ ap (λ (x : RoutesAnswer). shown (routesAnswer x) counts) e ∙ scrap-shown counts h _ _ _ _ _ _, (s .1 ∙ scrap-leaves counts h (c .before .before .before .before .before .routes .result) due, scrap-words counts h _ _))
-
-routes-requires-2 : tie.Need-routes-requires-2
-routes-requires-2 c κs = search needs
-
-show-counts-requires-2 : tie.Need-show-counts-requires-2
-show-counts-requires-2 c κs = search needs
-
-same-length-2 : tie.Need-same-length-2
-same-length-2 c = search needs
-
-same-length-3 : tie.Need-same-length-3
-same-length-3 c = search needs
 
 returns-2 : tie.Need-returns-2
 returns-2 c =
@@ -57,13 +33,13 @@ pub yard-routes-spec : {M : Type 1} → statement M
 yard-routes-spec =
     tie.close
     (tie.spec
-    slice-aggregate-routes
-    routes-requires
-    show-counts-requires
-    same-length
+    (λ c. search needs)
+    (λ c κs. search needs)
+    (λ c κs. search needs)
+    (λ c. search needs)
     returns
-    routes-requires-2
-    show-counts-requires-2
-    same-length-2
-    same-length-3
+    (λ c κs. search needs)
+    (λ c κs. search needs)
+    (λ c. search needs)
+    (λ c. search needs)
     returns-2)

@@ -22,4 +22,9 @@ unfolding boundaryAt
 returns-4 c = simp (le-leb _ _ (c .before .before .before .if1 .left), le-leb _ _ (c .before .before .if2 .left), lt-ltb _ _ (c .if3 .left))
 
 pub boundary-at-spec : {M : Type 1} → statement M
-boundary-at-spec = tie.close (tie.spec returns returns-2 returns-3 returns-4)
+boundary-at-spec = tie.close
+    (tie.spec
+    returns
+    returns-2
+    returns-3
+    returns-4)

@@ -21,20 +21,8 @@ numbered f start limit budget n m e same = e ∙ ap (λ x. answerNumber (routesA
 halved : (n k m : ℕ) → wordSize * k ≡ n → k ≡ m → n / wordSize ≡ m
 halved n k m e same = omega arith
 
-least-requires : tie.Need-least-requires
-least-requires c κs = search needs
-
-mul-lent : tie.Need-mul-lent
-mul-lent c = search needs
-
-array-borrow-prefix-bytes : tie.Need-array-borrow-prefix-bytes
-array-borrow-prefix-bytes c = search needs
-
 slice-aggregate-answer-lines : tie.Need-slice-aggregate-answer-lines
 slice-aggregate-answer-lines c = sym (length-take-le _ _ (omega arith))
-
-answer-lines-requires : tie.Need-answer-lines-requires
-answer-lines-requires c κs = search needs
 
 returns : tie.Need-returns
 returns c = numbered _ _ _ _ _ _ (c .before .answer-lines .ensures) (halved _ _ _ (slice-aggregate-answer-lines (c .before .before)) (c .before .before .before .least .ensures))
@@ -43,9 +31,9 @@ pub routes-spec : {M : Type 1} → statement M
 routes-spec =
     tie.close
     (tie.spec
-    least-requires
-    mul-lent
-    array-borrow-prefix-bytes
+    (λ c κs. search needs)
+    (λ c. search needs)
+    (λ c. search needs)
     slice-aggregate-answer-lines
-    answer-lines-requires
+    (λ c κs. search needs)
     returns)

@@ -5,12 +5,12 @@ use borrow.Author.Needs.{needs}
 use Rattle.names.proofs.code_count.Statement.{statement}
 use Rattle.names.proofs.code_count.Tie as tie
 
-steps-requires : tie.Need-steps-requires
-steps-requires c κs = search needs
-
 returns : tie.Need-returns
 unfolding codeCount
 returns c = c .steps .ensures
 
 pub code-count-spec : {M : Type 1} → statement M
-code-count-spec = tie.close (tie.spec steps-requires returns)
+code-count-spec = tie.close
+    (tie.spec
+    (λ c κs. search needs)
+    returns)

@@ -21,30 +21,6 @@ loop-holds : tie.Need-loop-holds Inv-loop μ-loop
 unfolding codes
 loop-holds c = refl
 
-mul-byte-after : tie.Need-mul-byte-after Inv-loop μ-loop
-mul-byte-after c = search needs
-
-byte-after-requires : tie.Need-byte-after-requires Inv-loop μ-loop
-byte-after-requires c κs = search needs
-
-mul-byte-after-2 : tie.Need-mul-byte-after-2 Inv-loop μ-loop
-mul-byte-after-2 c = search needs
-
-add-byte-after : tie.Need-add-byte-after Inv-loop μ-loop
-add-byte-after c = search needs
-
-byte-after-requires-2 : tie.Need-byte-after-requires-2 Inv-loop μ-loop
-byte-after-requires-2 c κs = search needs
-
-is-code-requires : tie.Need-is-code-requires Inv-loop μ-loop
-is-code-requires c κs = search needs
-
-add-k : tie.Need-add-k Inv-loop μ-loop
-add-k c = search needs
-
-loop-less : tie.Need-loop-less Inv-loop μ-loop
-loop-less c = search needs
-
 loop-again : tie.Need-loop-again Inv-loop μ-loop
 loop-again c =
     let a = c .before .before .before .before .before .before .args in
@@ -66,13 +42,13 @@ codes-spec =
     Inv-loop
     μ-loop
     loop-holds
-    mul-byte-after
-    byte-after-requires
-    mul-byte-after-2
-    add-byte-after
-    byte-after-requires-2
-    is-code-requires
-    add-k
-    loop-less
+    (λ c. search needs)
+    (λ c κs. search needs)
+    (λ c. search needs)
+    (λ c. search needs)
+    (λ c κs. search needs)
+    (λ c κs. search needs)
+    (λ c. search needs)
+    (λ c. search needs)
     loop-again
     returns)

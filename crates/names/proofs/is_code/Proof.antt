@@ -8,4 +8,6 @@ returns : tie.Need-returns
 returns c = refl
 
 pub is-code-spec : {M : Type 1} → statement M
-is-code-spec = tie.close (tie.spec returns)
+is-code-spec = tie.close
+    (tie.spec
+    returns)

@@ -14,18 +14,6 @@ Inv-loop f place top n₀ n = (n ≤ top) × Passed f place n
 abbrev μ-loop : tie.MeasureT-loop
 μ-loop f place top n₀ n = top - n
 
-inside-requires : tie.Need-inside-requires Inv-loop μ-loop
-inside-requires c κs = search needs
-
-loop-holds : tie.Need-loop-holds Inv-loop μ-loop
-loop-holds c = search needs
-
-add-b : tie.Need-add-b Inv-loop μ-loop
-add-b c = search needs
-
-shared-slice-read-b : tie.Need-shared-slice-read-b Inv-loop μ-loop
-shared-slice-read-b c = search needs
-
 returns : tie.Need-returns Inv-loop μ-loop
 returns c =
     let l = c .before .before .before .loop in
@@ -35,12 +23,6 @@ returns-2 : tie.Need-returns-2 Inv-loop μ-loop
 returns-2 c =
     let l = c .before .before .before .before .loop in
     letters-stop _ _ _ (l .n) (c .before .before .before .before .before .inside .ensures) (c .before .before .before .loop-test .taken) (l .inv .1) (λ g m. omega (arith, c .if2 .taken))
-
-add-n : tie.Need-add-n Inv-loop μ-loop
-add-n c = search needs
-
-loop-less : tie.Need-loop-less Inv-loop μ-loop
-loop-less c = search needs
 
 loop-again : tie.Need-loop-again Inv-loop μ-loop
 loop-again c =
@@ -60,13 +42,13 @@ letters-spec =
     (tie.spec
     Inv-loop
     μ-loop
-    inside-requires
-    loop-holds
-    add-b
-    shared-slice-read-b
+    (λ c κs. search needs)
+    (λ c. search needs)
+    (λ c. search needs)
+    (λ c. search needs)
     returns
     returns-2
-    add-n
-    loop-less
+    (λ c. search needs)
+    (λ c. search needs)
     loop-again
     returns-3)

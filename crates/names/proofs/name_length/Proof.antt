@@ -5,11 +5,11 @@ use borrow.Author.Needs.{needs}
 use Rattle.names.proofs.name_length.Statement.{statement}
 use Rattle.names.proofs.name_length.Tie as tie
 
-steps-requires : tie.Need-steps-requires
-steps-requires c κs = search needs
-
 returns : tie.Need-returns
 returns c = name-counted _ _ _ (c .steps .ensures)
 
 pub name-length-spec : {M : Type 1} → statement M
-name-length-spec = tie.close (tie.spec steps-requires returns)
+name-length-spec = tie.close
+    (tie.spec
+    (λ c κs. search needs)
+    returns)

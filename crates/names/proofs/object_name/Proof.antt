@@ -6,15 +6,6 @@ use borrow.Author.Needs.{needs}
 use Rattle.names.proofs.object_name.Statement.{statement}
 use Rattle.names.proofs.object_name.Tie as tie
 
-letters-requires : tie.Need-letters-requires
-letters-requires c κs = search needs
-
-zeros-requires : tie.Need-zeros-requires
-zeros-requires c κs = search needs
-
-also-fact-requires : tie.Need-also-fact-requires
-also-fact-requires c κs = search needs
-
 returns : tie.Need-returns
 returns c =
     let a = c .before .before .before .before .args in
@@ -22,4 +13,9 @@ returns c =
     simp (c .also-fact .ensures, c .before .zeros .ensures, test-is) refl
 
 pub object-name-spec : {M : Type 1} → statement M
-object-name-spec = tie.close (tie.spec letters-requires zeros-requires also-fact-requires returns)
+object-name-spec = tie.close
+    (tie.spec
+    (λ c κs. search needs)
+    (λ c κs. search needs)
+    (λ c κs. search needs)
+    returns)

@@ -17,26 +17,14 @@ Inv-loop f place step top n₀ n = (n ≤ top) × ((k : ℕ) → k < n → byteA
 abbrev μ-loop : tie.MeasureT-loop
 μ-loop f place step top n₀ n = top - n
 
-loop-holds : tie.Need-loop-holds Inv-loop μ-loop
-loop-holds c = search needs
-
 mul-byte-after : tie.Need-mul-byte-after Inv-loop μ-loop
 mul-byte-after c = omega (arith, mul-le-mul-right (c .before .loop .n) (c .before .before .before .pre .0))
-
-byte-after-requires : tie.Need-byte-after-requires Inv-loop μ-loop
-byte-after-requires c κs = search needs
 
 returns : tie.Need-returns Inv-loop μ-loop
 returns c =
     let a = c .before .before .before .before .before .args in
     let h = c .before .before .before .loop in
     counted (λ k. byteAfter (a .f .now) (a .place) (a .step * k)) (a .top) (h .n) (h .inv .0) (h .inv .1) (λ l. sym (c .before .byte-after .ensures .is) ∙ c .if1 .taken)
-
-add-n : tie.Need-add-n Inv-loop μ-loop
-add-n c = search needs
-
-loop-less : tie.Need-loop-less Inv-loop μ-loop
-loop-less c = search needs
 
 loop-again : tie.Need-loop-again Inv-loop μ-loop
 loop-again c =
@@ -55,11 +43,11 @@ steps-spec =
     (tie.spec
     Inv-loop
     μ-loop
-    loop-holds
+    (λ c. search needs)
     mul-byte-after
-    byte-after-requires
+    (λ c κs. search needs)
     returns
-    add-n
-    loop-less
+    (λ c. search needs)
+    (λ c. search needs)
     loop-again
     returns-2)

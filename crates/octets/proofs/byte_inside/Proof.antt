@@ -16,4 +16,8 @@ returns : tie.Need-returns
 returns c = one _ _ (c .shared-slice-known .given (c .before .args .at) .fits)
 
 pub byte-inside-spec : {M : Type 1} → statement M
-byte-inside-spec = tie.close (tie.spec shared-slice-read-result cast-result returns)
+byte-inside-spec = tie.close
+    (tie.spec
+    shared-slice-read-result
+    cast-result
+    returns)

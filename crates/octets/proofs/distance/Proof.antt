@@ -45,4 +45,11 @@ returns-2 c =
 
 pub distance-spec : {M : Type 1} → statement M
 distance-spec =
-    tie.close (tie.spec cast-result sub-result cast-result-2 add-result returns returns-2)
+    tie.close
+    (tie.spec
+    cast-result
+    sub-result
+    cast-result-2
+    add-result
+    returns
+    returns-2)

@@ -6,12 +6,6 @@ use borrow.Author.Needs.{needs}
 use Rattle.octets.proofs.distance_at.Statement.{statement}
 use Rattle.octets.proofs.distance_at.Tie as tie
 
-num-at-requires : tie.Need-num-at-requires
-num-at-requires c κs = search needs
-
-half-requires : tie.Need-half-requires
-half-requires c κs = search needs
-
 distance-of-requires : tie.Need-distance-of-requires
 distance-of-requires c κs = (omega (arith, c .before .num-at .ensures .below, halves (c .before .before .before .args .w)), omega (arith, half-most (c .before .before .before .args .w)))
 
@@ -19,4 +13,9 @@ returns : tie.Need-returns
 returns c = distance-of-number (c .before .before .before .before .args .w) _ _ _ _ _ (c .before .before .num-at .ensures) (c .before .half .ensures) (c .distance-of .ensures)
 
 pub distance-at-spec : {M : Type 1} → statement M
-distance-at-spec = tie.close (tie.spec num-at-requires half-requires distance-of-requires returns)
+distance-at-spec = tie.close
+    (tie.spec
+    (λ c κs. search needs)
+    (λ c κs. search needs)
+    distance-of-requires
+    returns)

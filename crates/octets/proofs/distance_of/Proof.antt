@@ -5,12 +5,6 @@ use borrow.Author.Needs.{needs}
 use Rattle.octets.proofs.distance_of.Statement.{statement}
 use Rattle.octets.proofs.distance_of.Tie as tie
 
-add-result : tie.Need-add-result
-add-result c = search needs
-
-sub-result : tie.Need-sub-result
-sub-result c = search needs
-
 returns : tie.Need-returns
 returns c = low-distance _ _ (c .if1 .taken)
 
@@ -18,4 +12,9 @@ returns-2 : tie.Need-returns-2
 returns-2 c = high-distance _ _ (c .if1 .left) (search needs)
 
 pub distance-of-spec : {M : Type 1} → statement M
-distance-of-spec = tie.close (tie.spec add-result sub-result returns returns-2)
+distance-of-spec = tie.close
+    (tie.spec
+    (λ c. search needs)
+    (λ c. search needs)
+    returns
+    returns-2)

@@ -6,30 +6,6 @@ use borrow.Author.Needs.{needs}
 use Rattle.octets.proofs.num_at.Statement.{statement}
 use Rattle.octets.proofs.num_at.Tie as tie
 
-enum-told : tie.Need-enum-told
-enum-told c = search needs
-
-byte-at-requires : tie.Need-byte-at-requires
-byte-at-requires c κs = search needs
-
-enum-told-2 : tie.Need-enum-told-2
-enum-told-2 c = search needs
-
-u16-at-requires : tie.Need-u16-at-requires
-u16-at-requires c κs = search needs
-
-enum-told-3 : tie.Need-enum-told-3
-enum-told-3 c = search needs
-
-u24-at-requires : tie.Need-u24-at-requires
-u24-at-requires c κs = search needs
-
-enum-told-4 : tie.Need-enum-told-4
-enum-told-4 c = search needs
-
-u32-at-requires : tie.Need-u32-at-requires
-u32-at-requires c κs = search needs
-
 returns : tie.Need-returns
 returns c = of-width _ One _ _ _ (c .before .enum-told .given .1) (c .byte-at .ensures)
 
@@ -46,14 +22,14 @@ pub num-at-spec : {M : Type 1} → statement M
 num-at-spec =
     tie.close
     (tie.spec
-    enum-told
-    byte-at-requires
-    enum-told-2
-    u16-at-requires
-    enum-told-3
-    u24-at-requires
-    enum-told-4
-    u32-at-requires
+    (λ c. search needs)
+    (λ c κs. search needs)
+    (λ c. search needs)
+    (λ c κs. search needs)
+    (λ c. search needs)
+    (λ c κs. search needs)
+    (λ c. search needs)
+    (λ c κs. search needs)
     returns
     returns-2
     returns-3

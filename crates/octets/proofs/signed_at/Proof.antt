@@ -7,12 +7,6 @@ use borrow.Author.Needs.{needs}
 use Rattle.octets.proofs.signed_at.Statement.{statement}
 use Rattle.octets.proofs.signed_at.Tie as tie
 
-num-at-requires : tie.Need-num-at-requires
-num-at-requires c κs = search needs
-
-half-requires : tie.Need-half-requires
-half-requires c κs = search needs
-
 signed-of-requires : tie.Need-signed-of-requires
 signed-of-requires c κs = (omega (arith, c .before .num-at .ensures .below, halves (c .before .before .before .args .w)), omega (arith, half-most (c .before .before .before .args .w)))
 
@@ -20,4 +14,9 @@ returns : tie.Need-returns
 returns c = of-number (c .before .before .before .before .args .w) _ _ _ _ _ (c .before .before .num-at .ensures) (c .before .half .ensures) (kept _ (c .signed-of .ok) ∙ c .signed-of .ensures)
 
 pub signed-at-spec : {M : Type 1} → statement M
-signed-at-spec = tie.close (tie.spec num-at-requires half-requires signed-of-requires returns)
+signed-at-spec = tie.close
+    (tie.spec
+    (λ c κs. search needs)
+    (λ c κs. search needs)
+    signed-of-requires
+    returns)

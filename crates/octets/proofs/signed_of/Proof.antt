@@ -12,21 +12,6 @@ use borrow.Author.Needs.{needs}
 use Rattle.octets.proofs.signed_of.Statement.{statement}
 use Rattle.octets.proofs.signed_of.Tie as tie
 
-cast-result : tie.Need-cast-result
-cast-result c = search needs
-
-add-result : tie.Need-add-result
-add-result c = search needs
-
-sub-result : tie.Need-sub-result
-sub-result c = search needs
-
-sub-result-2 : tie.Need-sub-result-2
-sub-result-2 c = search needs
-
-cast-result-2 : tie.Need-cast-result-2
-cast-result-2 c = search needs
-
 sub-result-3 : tie.Need-sub-result-3
 sub-result-3 c =
     let a = c .before .args in
@@ -50,11 +35,11 @@ pub signed-of-spec : {M : Type 1} → statement M
 signed-of-spec =
     tie.close
     (tie.spec
-    cast-result
-    add-result
-    sub-result
-    sub-result-2
-    cast-result-2
+    (λ c. search needs)
+    (λ c. search needs)
+    (λ c. search needs)
+    (λ c. search needs)
+    (λ c. search needs)
     sub-result-3
     returns
     returns-2)

@@ -12,9 +12,6 @@ use Rattle.rounding.proofs.Answers.{limits, found, outside}
 use Rattle.rounding.proofs.coordinate.Statement.{statement}
 use Rattle.rounding.proofs.coordinate.Tie as tie
 
-inside-requires : tie.Need-inside-requires
-inside-requires c κs = search needs
-
 exact-requires : tie.Need-exact-requires
 exact-requires c κs =
     let a = c .before .before .args in
@@ -49,4 +46,10 @@ returns-2 c =
 
 pub coordinate-spec : {M : Type 1} → statement M
 coordinate-spec =
-    tie.close (tie.spec inside-requires exact-requires nearest-requires returns returns-2)
+    tie.close
+    (tie.spec
+    (λ c κs. search needs)
+    exact-requires
+    nearest-requires
+    returns
+    returns-2)

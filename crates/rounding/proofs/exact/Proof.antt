@@ -5,17 +5,11 @@ use Rattle.rounding.proofs.Steps.{fit, reads, start, rise, part, exact}
 use Rattle.rounding.proofs.exact.Statement.{statement}
 use Rattle.rounding.proofs.exact.Tie as tie
 
-cast-result : tie.Need-cast-result
-cast-result c = search needs
-
 mul-result : tie.Need-mul-result
 mul-result c = fit (start (c .pre))
 
 sub-result : tie.Need-sub-result
 sub-result c = fit (rise (c .pre))
-
-cast-result-2 : tie.Need-cast-result-2
-cast-result-2 c = search needs
 
 mul-result-2 : tie.Need-mul-result-2
 mul-result-2 c = fit (part (c .pre))
@@ -29,4 +23,11 @@ returns c = reads (exact (c .pre))
 pub exact-spec : {M : Type 1} → statement M
 exact-spec =
     tie.close
-    (tie.spec cast-result mul-result sub-result cast-result-2 mul-result-2 add-result returns)
+    (tie.spec
+    (λ c. search needs)
+    mul-result
+    sub-result
+    (λ c. search needs)
+    mul-result-2
+    add-result
+    returns)

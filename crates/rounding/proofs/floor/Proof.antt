@@ -6,9 +6,6 @@ use Rattle.rounding.proofs.Steps.{fit, reads, up-quotient, below, below
 use Rattle.rounding.proofs.floor.Statement.{statement}
 use Rattle.rounding.proofs.floor.Tie as tie
 
-cast-result : tie.Need-cast-result
-cast-result c = search needs
-
 div-result : tie.Need-div-result
 div-result c =
     let a = c .before .args in
@@ -20,9 +17,6 @@ sub-result c =
     let a = c .before .args in
     let f = c .before .fits .z in
     fit (below (a .z) (a .d) f (c .before .pre .1) (c .if1 .left))
-
-cast-result-2 : tie.Need-cast-result-2
-cast-result-2 c = search needs
 
 div-result-2 : tie.Need-div-result-2
 div-result-2 c =
@@ -52,10 +46,10 @@ pub floor-spec : {M : Type 1} → statement M
 floor-spec =
     tie.close
     (tie.spec
-    cast-result
+    (λ c. search needs)
     div-result
     sub-result
-    cast-result-2
+    (λ c. search needs)
     div-result-2
     sub-result-2
     returns

@@ -8,12 +8,6 @@ use Rattle.rounding.proofs.Answers.{tested}
 use Rattle.rounding.proofs.inside.Statement.{statement}
 use Rattle.rounding.proofs.inside.Tie as tie
 
-distance-requires : tie.Need-distance-requires
-distance-requires c κs = search needs
-
-distance-requires-2 : tie.Need-distance-requires-2
-distance-requires-2 c κs = search needs
-
 returns : tie.Need-returns
 returns c =
     let s = c .before .before in
@@ -23,4 +17,8 @@ returns c =
     (c .distance2 .ensures ∙ ap natAbs (kept (a .y1) (s .fits .y1 .sfits)))
 
 pub inside-spec : {M : Type 1} → statement M
-inside-spec = tie.close (tie.spec distance-requires distance-requires-2 returns)
+inside-spec = tie.close
+    (tie.spec
+    (λ c κs. search needs)
+    (λ c κs. search needs)
+    returns)

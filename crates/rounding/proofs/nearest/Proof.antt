@@ -14,17 +14,8 @@ use Rattle.rounding.proofs.nearest.Tie as tie
 mul-floor : tie.Need-mul-floor
 mul-floor c = let a = c .args in let p = c .pre in fit (double (a .num) (a .den) (p .2) (p .1))
 
-cast-floor : tie.Need-cast-floor
-cast-floor c = search needs
-
 add-floor : tie.Need-add-floor
 add-floor c = let a = c .args in let p = c .pre in fit (raised (a .num) (a .den) (p .2) (p .1))
-
-mul-floor-2 : tie.Need-mul-floor-2
-mul-floor-2 c = search needs
-
-floor-requires : tie.Need-floor-requires
-floor-requires c κs = search needs
 
 returns : tie.Need-returns
 unfolding nearestOf
@@ -37,4 +28,11 @@ returns c =
 
 pub nearest-spec : {M : Type 1} → statement M
 nearest-spec =
-    tie.close (tie.spec mul-floor cast-floor add-floor mul-floor-2 floor-requires returns)
+    tie.close
+    (tie.spec
+    mul-floor
+    (λ c. search needs)
+    add-floor
+    (λ c. search needs)
+    (λ c κs. search needs)
+    returns)

@@ -10,25 +10,10 @@ use Rattle.verdict.proofs.PairVerdict.number.Reads as number-reads
 use Rattle.verdict.proofs.PairVerdict.place.Reads as place-reads
 
 -- src/pair_answers.rt:23:9
-pair-verdict-requires : tie.Need-pair-verdict-requires
-pair-verdict-requires c κs = search needs
-
 -- src/pair_answers.rt:24:9
-number-requires : tie.Need-number-requires
-number-requires c κs = search needs
-
 -- src/pair_answers.rt:25:18
-place-requires : tie.Need-place-requires
-place-requires c κs = search needs
-
 -- src/pair_answers.rt:25:29
-file-requires : tie.Need-file-requires
-file-requires c κs = search needs
-
 -- src/pair_answers.rt:25:5
-pair-head-requires : tie.Need-pair-head-requires
-pair-head-requires c κs = search needs
-
 -- src/pair_answers.rt:20:1
 returns : tie.Need-returns
 returns c = simp (c .before .before .before .number .ensures, c .before .before .before .before .pair-verdict .ensures)
@@ -37,9 +22,9 @@ pub pair-spec : {M : Type 1} → statement M
 pair-spec =
     tie.close
     (tie.spec
-    pair-verdict-requires
-    number-requires
-    place-requires
-    file-requires
-    pair-head-requires
+    (λ c κs. search needs)
+    (λ c κs. search needs)
+    (λ c κs. search needs)
+    (λ c κs. search needs)
+    (λ c κs. search needs)
     returns)

@@ -5,12 +5,6 @@ use borrow.Author.Needs.{needs}
 use Rattle.exports.proofs.values.coordinate_words.Statement.{statement}
 use Rattle.exports.proofs.values.coordinate_words.Tie as tie
 
-signed-word-requires : tie.Need-signed-word-requires
-signed-word-requires c κs = search needs
-
-signed-word-requires-2 : tie.Need-signed-word-requires-2
-signed-word-requires-2 c κs = search needs
-
 returns : tie.Need-returns
 returns c =
     let v = c .before .before .before .before .args .c in
@@ -20,4 +14,8 @@ returns c =
     )
 
 pub coordinate-words-spec : {M : Type 1} → statement M
-coordinate-words-spec = tie.close (tie.spec signed-word-requires signed-word-requires-2 returns)
+coordinate-words-spec = tie.close
+    (tie.spec
+    (λ c κs. search needs)
+    (λ c κs. search needs)
+    returns)

@@ -5,21 +5,6 @@ use borrow.Author.Needs.{needs}
 use Rattle.exports.proofs.values.point_words.Statement.{statement}
 use Rattle.exports.proofs.values.point_words.Tie as tie
 
-word-requires : tie.Need-word-requires
-word-requires c κs = search needs
-
-signed-word-requires : tie.Need-signed-word-requires
-signed-word-requires c κs = search needs
-
-signed-word-requires-2 : tie.Need-signed-word-requires-2
-signed-word-requires-2 c κs = search needs
-
-signed-word-requires-3 : tie.Need-signed-word-requires-3
-signed-word-requires-3 c κs = search needs
-
-word-requires-2 : tie.Need-word-requires-2
-word-requires-2 c κs = search needs
-
 returns : tie.Need-returns
 returns c =
     let v = c .before .before .before .before .before .before .before .before .args .p in
@@ -35,9 +20,9 @@ pub point-words-spec : {M : Type 1} → statement M
 point-words-spec =
     tie.close
     (tie.spec
-    word-requires
-    signed-word-requires
-    signed-word-requires-2
-    signed-word-requires-3
-    word-requires-2
+    (λ c κs. search needs)
+    (λ c κs. search needs)
+    (λ c κs. search needs)
+    (λ c κs. search needs)
+    (λ c κs. search needs)
     returns)

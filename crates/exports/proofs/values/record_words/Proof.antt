@@ -4,48 +4,6 @@ use borrow.Author.Needs.{needs}
 use Rattle.exports.proofs.values.record_words.Statement.{statement}
 use Rattle.exports.proofs.values.record_words.Tie as tie
 
-enum-known-record : tie.Need-enum-known-record
-enum-known-record c = search needs
-
-boundary-words-requires : tie.Need-boundary-words-requires
-boundary-words-requires c κs = search needs
-
-enum-known-record-2 : tie.Need-enum-known-record-2
-enum-known-record-2 c = search needs
-
-boundary-words-requires-2 : tie.Need-boundary-words-requires-2
-boundary-words-requires-2 c κs = search needs
-
-enum-known-record-3 : tie.Need-enum-known-record-3
-enum-known-record-3 c = search needs
-
-turnout-words-requires : tie.Need-turnout-words-requires
-turnout-words-requires c κs = search needs
-
-enum-known-record-4 : tie.Need-enum-known-record-4
-enum-known-record-4 c = search needs
-
-balise-words-requires : tie.Need-balise-words-requires
-balise-words-requires c κs = search needs
-
-enum-known-record-5 : tie.Need-enum-known-record-5
-enum-known-record-5 c = search needs
-
-signal-words-requires : tie.Need-signal-words-requires
-signal-words-requires c κs = search needs
-
-enum-known-record-6 : tie.Need-enum-known-record-6
-enum-known-record-6 c = search needs
-
-joint-words-requires : tie.Need-joint-words-requires
-joint-words-requires c κs = search needs
-
-enum-known-record-7 : tie.Need-enum-known-record-7
-enum-known-record-7 c = search needs
-
-siding-words-requires : tie.Need-siding-words-requires
-siding-words-requires c κs = search needs
-
 returns : tie.Need-returns
 returns c = simp (c .boundary-words .ensures, c .before .before .«record» .given .1)
 
@@ -71,20 +29,20 @@ pub record-words-spec : {M : Type 1} → statement M
 record-words-spec =
     tie.close
     (tie.spec
-    enum-known-record
-    boundary-words-requires
-    enum-known-record-2
-    boundary-words-requires-2
-    enum-known-record-3
-    turnout-words-requires
-    enum-known-record-4
-    balise-words-requires
-    enum-known-record-5
-    signal-words-requires
-    enum-known-record-6
-    joint-words-requires
-    enum-known-record-7
-    siding-words-requires
+    (λ c. search needs)
+    (λ c κs. search needs)
+    (λ c. search needs)
+    (λ c κs. search needs)
+    (λ c. search needs)
+    (λ c κs. search needs)
+    (λ c. search needs)
+    (λ c κs. search needs)
+    (λ c. search needs)
+    (λ c κs. search needs)
+    (λ c. search needs)
+    (λ c κs. search needs)
+    (λ c. search needs)
+    (λ c κs. search needs)
     returns
     returns-2
     returns-3

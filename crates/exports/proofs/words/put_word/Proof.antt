@@ -9,41 +9,14 @@ use borrow.Author.Needs.{needs}
 use Rattle.exports.proofs.words.put_word.Statement.{statement}
 use Rattle.exports.proofs.words.put_word.Tie as tie
 
-cast-first : tie.Need-cast-first
-cast-first c = search needs
-
-cast-second : tie.Need-cast-second
-cast-second c = search needs
-
-cast-third : tie.Need-cast-third
-cast-third c = search needs
-
-cast-fourth : tie.Need-cast-fourth
-cast-fourth c = search needs
-
-slice-write-out : tie.Need-slice-write-out
-slice-write-out c = search needs
-
-add-out : tie.Need-add-out
-add-out c = search needs
-
 slice-write-out-2 : tie.Need-slice-write-out-2
 slice-write-out-2 c = rw length-set (omega arith)
-
-add-out-2 : tie.Need-add-out-2
-add-out-2 c = search needs
 
 slice-write-out-3 : tie.Need-slice-write-out-3
 slice-write-out-3 c = rw (length-set, length-set) (omega arith)
 
-add-out-3 : tie.Need-add-out-3
-add-out-3 c = search needs
-
 slice-write-out-4 : tie.Need-slice-write-out-4
 slice-write-out-4 c = rw (length-set, length-set, length-set) (omega arith)
-
-same-length : tie.Need-same-length
-same-length c = search needs
 
 returns : tie.Need-returns
 unfolding wordBytes
@@ -53,16 +26,16 @@ pub put-word-spec : {M : Type 1} → statement M
 put-word-spec =
     tie.close
     (tie.spec
-    cast-first
-    cast-second
-    cast-third
-    cast-fourth
-    slice-write-out
-    add-out
+    (λ c. search needs)
+    (λ c. search needs)
+    (λ c. search needs)
+    (λ c. search needs)
+    (λ c. search needs)
+    (λ c. search needs)
     slice-write-out-2
-    add-out-2
+    (λ c. search needs)
     slice-write-out-3
-    add-out-3
+    (λ c. search needs)
     slice-write-out-4
-    same-length
+    (λ c. search needs)
     returns)

@@ -9,26 +9,11 @@ use borrow.Author.Needs.{needs}
 use Rattle.exports.proofs.words.show.Statement.{statement}
 use Rattle.exports.proofs.words.show.Tie as tie
 
-number-requires : tie.Need-number-requires
-number-requires c κs = search needs
-
-answer-requires : tie.Need-answer-requires
-answer-requires c κs = search needs
-
 returns : tie.Need-returns
 returns c =
     let a = c .before .before .before .before .before .args in
     let h : length (a .out .now) < valueSize * length (a .words .now) = omega (arith, c .before .before .if1 .taken) in
     (short-shown (a .words .now) (a .out .now) h _ (c .before .number .ensures) _ (c .answer .ensures), short-leaves (a .words .now) (a .out .now) h)
-
-lay-requires : tie.Need-lay-requires
-lay-requires c κs = search needs
-
-answer-requires-2 : tie.Need-answer-requires-2
-answer-requires-2 c κs = search needs
-
-same-length : tie.Need-same-length
-same-length c = search needs
 
 returns-2 : tie.Need-returns-2
 returns-2 c =
@@ -40,10 +25,10 @@ pub show-spec : {M : Type 1} → statement M
 show-spec =
     tie.close
     (tie.spec
-    number-requires
-    answer-requires
+    (λ c κs. search needs)
+    (λ c κs. search needs)
     returns
-    lay-requires
-    answer-requires-2
-    same-length
+    (λ c κs. search needs)
+    (λ c κs. search needs)
+    (λ c. search needs)
     returns-2)

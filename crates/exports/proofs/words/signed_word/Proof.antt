@@ -11,12 +11,6 @@ use borrow.Author.Needs.{needs}
 use Rattle.exports.proofs.words.signed_word.Statement.{statement}
 use Rattle.exports.proofs.words.signed_word.Tie as tie
 
-distance-requires : tie.Need-distance-requires
-distance-requires c κs = search needs
-
-word-requires : tie.Need-word-requires
-word-requires c κs = search needs
-
 returns : tie.Need-returns
 returns c =
     let z = c .before .before .before .args .z in
@@ -28,15 +22,6 @@ sub-below c =
     let far = down-far (read (c .before .before .args .z)) (c .if1 .left) in
     omega (arith, far, c .before .distance .ensures)
 
-sub-result : tie.Need-sub-result
-sub-result c = search needs
-
-sub-result-2 : tie.Need-sub-result-2
-sub-result-2 c = search needs
-
-cast-result : tie.Need-cast-result
-cast-result c = search needs
-
 returns-2 : tie.Need-returns-2
 returns-2 c =
     let z = c .before .before .args .z in
@@ -47,11 +32,11 @@ pub signed-word-spec : {M : Type 1} → statement M
 signed-word-spec =
     tie.close
     (tie.spec
-    distance-requires
-    word-requires
+    (λ c κs. search needs)
+    (λ c κs. search needs)
     returns
     sub-below
-    sub-result
-    sub-result-2
-    cast-result
+    (λ c. search needs)
+    (λ c. search needs)
+    (λ c. search needs)
     returns-2)

@@ -5,12 +5,12 @@ use borrow.Author.Needs.{needs}
 use Rattle.exports.proofs.words.word.Statement.{statement}
 use Rattle.exports.proofs.words.word.Tie as tie
 
-cast-result : tie.Need-cast-result
-cast-result c = search needs
-
 returns : tie.Need-returns
 unfolding wordOf
 returns c = search needs
 
 pub word-spec : {M : Type 1} → statement M
-word-spec = tie.close (tie.spec cast-result returns)
+word-spec = tie.close
+    (tie.spec
+    (λ c. search needs)
+    returns)

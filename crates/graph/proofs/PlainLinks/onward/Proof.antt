@@ -14,4 +14,7 @@ unfolding onwardOf
 returns-2 c = simp (ne-eqb _ _ (c .if1 .left))
 
 pub onward-spec : {M : Type 1} → statement M
-onward-spec = tie.close (tie.spec returns returns-2)
+onward-spec = tie.close
+    (tie.spec
+    returns
+    returns-2)

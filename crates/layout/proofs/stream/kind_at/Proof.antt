@@ -60,4 +60,12 @@ returns-7 c =
     simp (le-ltb _ _ (t1 .if1 .left), le-ltb _ _ (t2 .if2 .left), le-ltb _ _ (t3 .if3 .left), le-ltb _ _ (t4 .if4 .left), le-ltb _ _ (t5 .if5 .left), le-ltb _ _ (c .if6 .left))
 
 pub kind-at-spec : {M : Type 1} → statement M
-kind-at-spec = tie.close (tie.spec returns returns-2 returns-3 returns-4 returns-5 returns-6 returns-7)
+kind-at-spec = tie.close
+    (tie.spec
+    returns
+    returns-2
+    returns-3
+    returns-4
+    returns-5
+    returns-6
+    returns-7)

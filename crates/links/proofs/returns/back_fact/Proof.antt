@@ -12,11 +12,11 @@ use Rattle.links.proofs.returns.back_fact.Tie as tie
 
 returns : tie.Need-returns
 returns c =
-    let a = c .before .before .before .before .before .before .before .args in
-    let named = by-links (λ (ps : List ℕ). test (someNames (a .f .now) ps (a .at))) (c .before .before .before .before .kind-at .result) (c .before .before .before .before .before .u16-at .result) _ _ (c .before .before .before .links .ensures) (c .before .before .some-names .ensures) in
-    let x = c .before .before .before .before .before .u16-at .ensures .is in
-    let returned = returned-is (a .f .now) (a .l) (a .at) (a .p) _ _ _ x (c .before .before .before .before .kind-at .ensures) named in
-    simp (c .also-fact .ensures, c .before .return-mark .ensures, returned, x)
+    let a = c .before .before .before .before .before .before .args in
+    let named = by-links (λ (ps : List ℕ). test (someNames (a .f .now) ps (a .at))) (c .before .before .before .kind-at .result) (c .before .before .before .before .u16-at .result) _ _ (c .before .before .links .ensures) (c .before .some-names .ensures) in
+    let x = c .before .before .before .before .u16-at .ensures .is in
+    let returned = returned-is (a .f .now) (a .l) (a .at) (a .p) _ _ _ x (c .before .before .before .kind-at .ensures) named in
+    simp (c .return-fact .ensures, returned, x)
 
 pub back-fact-spec : {M : Type 1} → statement M
 back-fact-spec =
@@ -25,7 +25,6 @@ back-fact-spec =
     (λ c κs. search needs)
     (λ c κs. search needs)
     (λ c. search needs)
-    (λ c κs. search needs)
     (λ c κs. search needs)
     (λ c κs. search needs)
     (λ c κs. search needs)

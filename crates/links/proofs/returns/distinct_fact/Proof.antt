@@ -5,13 +5,12 @@ use Rattle.links.proofs.returns.distinct_fact.Statement.{statement}
 use Rattle.links.proofs.returns.distinct_fact.Tie as tie
 
 returns : tie.Need-returns
-returns c = simp (c .also-fact .ensures, c .before .return-mark .ensures, c .before .before .u16-at2 .ensures .is, c .before .before .before .u16-at .ensures .is)
+returns c = simp (c .return-fact .ensures, c .before .u16-at2 .ensures .is, c .before .before .u16-at .ensures .is)
 
 pub distinct-fact-spec : {M : Type 1} → statement M
 distinct-fact-spec =
     tie.close
     (tie.spec
-    (λ c κs. search needs)
     (λ c κs. search needs)
     (λ c κs. search needs)
     (λ c κs. search needs)

@@ -14,4 +14,7 @@ unfolding limitOf
 returns-2 c = simp (ne-eqb _ _ (c .if1 .left))
 
 pub limit-of-spec : {M : Type 1} → statement M
-limit-of-spec = tie.close (tie.spec returns returns-2)
+limit-of-spec = tie.close
+    (tie.spec
+    returns
+    returns-2)

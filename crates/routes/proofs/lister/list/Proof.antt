@@ -8,18 +8,6 @@ use borrow.Author.Needs.{needs}
 use Rattle.routes.proofs.lister.list.Statement.{statement}
 use Rattle.routes.proofs.lister.list.Tie as tie
 
-limit-of-requires : tie.Need-limit-of-requires
-limit-of-requires c κs = search needs
-
-boundary-at-requires : tie.Need-boundary-at-requires
-boundary-at-requires c κs = search needs
-
-in-range-requires : tie.Need-in-range-requires
-in-range-requires c κs = search needs
-
-refused-requires : tie.Need-refused-requires
-refused-requires c κs = search needs
-
 returns : tie.Need-returns
 returns c =
     let q = c .before .before in
@@ -34,29 +22,11 @@ cast-at c =
     let h = start-fits (s .args .l) (s .args .start) (q .before .before .limit-of .result) (s .args .budget) (q .before .boundary-at .result) _ (q .before .boundary-at .ensures) (q .in-range .ensures) (c .if1 .left) in
     search needs
 
-object-at-requires : tie.Need-object-at-requires
-object-at-requires c κs = search needs
-
-edge-link-requires : tie.Need-edge-link-requires
-edge-link-requires c κs = search needs
-
-slice-relend-prefix-pass : tie.Need-slice-relend-prefix-pass
-slice-relend-prefix-pass c = search needs
-
-slice-aggregate-pass : tie.Need-slice-aggregate-pass
-slice-aggregate-pass c = search needs
-
 pass-requires : tie.Need-pass-requires
 pass-requires c κs =
     let q = c .before .before .before .before in
     let s = q .before .before .before .before .before in
     (within (q .before .boundary-at .result) _ (q .before .before .limit-of .result) (s .args .budget) (q .in-range .ensures) (c .before .before .before .if1 .left) .bounds, (c .before .edge-link .ensures ∙ ap edgeLink (c .before .before .object-at .ensures)))
-
-refused-requires-2 : tie.Need-refused-requires-2
-refused-requires-2 c κs = search needs
-
-same-length : tie.Need-same-length
-same-length c = search needs
 
 returns-2 : tie.Need-returns-2
 returns-2 c =
@@ -66,12 +36,6 @@ returns-2 c =
     let e = lent-none (k .last .1 .1 .1 .1 .1 .1 .0) (s .args .out .now) (k .kept .1 .1 .1 .1 .1 .1 .0) in
     let h = settled _ _ _ _ _ _ _ _ _ _ (q .before .boundary-at .ensures) (q .before .before .limit-of .ensures) (too-many _ (q .before .boundary-at .result) _ (s .args .start) (q .before .before .limit-of .result) (s .args .budget) _ (q .in-range .ensures) (c .before .before .before .before .before .before .before .before .before .if1 .left) _ _ _ (k .ensures) (c .before .if2 .taken)) in
     (c .refused2 .ensures ∙ h .0, e ∙ h .1)
-
-refused-requires-3 : tie.Need-refused-requires-3
-refused-requires-3 c κs = search needs
-
-same-length-2 : tie.Need-same-length-2
-same-length-2 c = search needs
 
 returns-3 : tie.Need-returns-3
 returns-3 c =
@@ -88,9 +52,6 @@ pass-requires-2 c κs =
     let s = q .before .before .before .before .before in
     (within (q .before .boundary-at .result) _ (q .before .before .limit-of .result) (s .args .budget) (q .in-range .ensures) (c .before .before .before .before .before .before .before .before .before .before .before .if1 .left) .bounds, (c .before .before .before .before .before .before .before .before .before .edge-link .ensures ∙ ap edgeLink (c .before .before .before .before .before .before .before .before .before .before .object-at .ensures)))
 
-same-length-3 : tie.Need-same-length-3
-same-length-3 c = search needs
-
 returns-4 : tie.Need-returns-4
 returns-4 c =
     let q = c .before .before .before .before .before .before .before .before .before .before .before .before .before .before .before in
@@ -103,23 +64,23 @@ pub list-spec : {M : Type 1} → statement M
 list-spec =
     tie.close
     (tie.spec
-    limit-of-requires
-    boundary-at-requires
-    in-range-requires
-    refused-requires
+    (λ c κs. search needs)
+    (λ c κs. search needs)
+    (λ c κs. search needs)
+    (λ c κs. search needs)
     returns
     cast-at
-    object-at-requires
-    edge-link-requires
-    slice-relend-prefix-pass
-    slice-aggregate-pass
+    (λ c κs. search needs)
+    (λ c κs. search needs)
+    (λ c. search needs)
+    (λ c. search needs)
     pass-requires
-    refused-requires-2
-    same-length
+    (λ c κs. search needs)
+    (λ c. search needs)
     returns-2
-    refused-requires-3
-    same-length-2
+    (λ c κs. search needs)
+    (λ c. search needs)
     returns-3
     pass-requires-2
-    same-length-3
+    (λ c. search needs)
     returns-4)

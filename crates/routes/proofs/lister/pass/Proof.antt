@@ -6,21 +6,6 @@ use borrow.Author.Needs.{needs}
 use Rattle.routes.proofs.lister.pass.Statement.{statement}
 use Rattle.routes.proofs.lister.pass.Tie as tie
 
-array-write-path : tie.Need-array-write-path
-array-write-path c = search needs
-
-slice-aggregate-follow : tie.Need-slice-aggregate-follow
-slice-aggregate-follow c = search needs
-
-sub-follow : tie.Need-sub-follow
-sub-follow c = search needs
-
-follow-requires : tie.Need-follow-requires
-follow-requires c κs = search needs
-
-same-length : tie.Need-same-length
-same-length c = search needs
-
 returns : tie.Need-returns
 returns c =
     let s = c .before .before .before .before .before .before .before .before in
@@ -30,9 +15,9 @@ pub pass-spec : {M : Type 1} → statement M
 pass-spec =
     tie.close
     (tie.spec
-    array-write-path
-    slice-aggregate-follow
-    sub-follow
-    follow-requires
-    same-length
+    (λ c. search needs)
+    (λ c. search needs)
+    (λ c. search needs)
+    (λ c κs. search needs)
+    (λ c. search needs)
     returns)

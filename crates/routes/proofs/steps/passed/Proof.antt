@@ -20,18 +20,6 @@ loop-holds : tie.Need-loop-holds Inv-loop μ-loop
 unfolding has
 loop-holds c = (search needs, refl)
 
-mul-found : tie.Need-mul-found Inv-loop μ-loop
-mul-found c = search needs
-
-shared-slice-read-found : tie.Need-shared-slice-read-found Inv-loop μ-loop
-shared-slice-read-found c = search needs
-
-add-i : tie.Need-add-i Inv-loop μ-loop
-add-i c = search needs
-
-loop-less : tie.Need-loop-less Inv-loop μ-loop
-loop-less c = search needs
-
 loop-again : tie.Need-loop-again Inv-loop μ-loop
 loop-again c =
     let s = c .before .before in
@@ -50,9 +38,9 @@ passed-spec =
     Inv-loop
     μ-loop
     loop-holds
-    mul-found
-    shared-slice-read-found
-    add-i
-    loop-less
+    (λ c. search needs)
+    (λ c. search needs)
+    (λ c. search needs)
+    (λ c. search needs)
     loop-again
     returns)

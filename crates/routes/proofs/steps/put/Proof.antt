@@ -17,36 +17,9 @@ Inv-loop path n out₀ at i₀ out i = (i ≤ n) × (out ≡ lays out₀ (suc at
 abbrev μ-loop : tie.MeasureT-loop
 μ-loop path n out₀ at i₀ out i = n - i
 
-cast-store : tie.Need-cast-store Inv-loop μ-loop
-cast-store c = search needs
-
-store-requires : tie.Need-store-requires Inv-loop μ-loop
-store-requires c κs = search needs
-
 loop-holds : tie.Need-loop-holds Inv-loop μ-loop
 unfolding lays
 loop-holds c = (search needs, refl)
-
-add-store : tie.Need-add-store Inv-loop μ-loop
-add-store c = search needs
-
-add-store-2 : tie.Need-add-store-2 Inv-loop μ-loop
-add-store-2 c = search needs
-
-mul-store : tie.Need-mul-store Inv-loop μ-loop
-mul-store c = search needs
-
-shared-slice-read-store : tie.Need-shared-slice-read-store Inv-loop μ-loop
-shared-slice-read-store c = search needs
-
-store-requires-2 : tie.Need-store-requires-2 Inv-loop μ-loop
-store-requires-2 c κs = search needs
-
-add-i : tie.Need-add-i Inv-loop μ-loop
-add-i c = search needs
-
-loop-less : tie.Need-loop-less Inv-loop μ-loop
-loop-less c = search needs
 
 loop-again : tie.Need-loop-again Inv-loop μ-loop
 loop-again c =
@@ -73,16 +46,16 @@ put-spec =
     (tie.spec
     Inv-loop
     μ-loop
-    cast-store
-    store-requires
+    (λ c. search needs)
+    (λ c κs. search needs)
     loop-holds
-    add-store
-    add-store-2
-    mul-store
-    shared-slice-read-store
-    store-requires-2
-    add-i
-    loop-less
+    (λ c. search needs)
+    (λ c. search needs)
+    (λ c. search needs)
+    (λ c. search needs)
+    (λ c κs. search needs)
+    (λ c. search needs)
+    (λ c. search needs)
     loop-again
     same-length
     returns)

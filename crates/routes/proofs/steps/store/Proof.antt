@@ -8,29 +8,8 @@ use Rattle.walks.proofs.Lent.{lay-in, lay-out}
 use Rattle.routes.proofs.steps.store.Statement.{statement}
 use Rattle.routes.proofs.steps.store.Tie as tie
 
-cast-out : tie.Need-cast-out
-cast-out c = search needs
-
-mul-out : tie.Need-mul-out
-mul-out c = search needs
-
-slice-write-out : tie.Need-slice-write-out
-slice-write-out c = search needs
-
-cast-out-2 : tie.Need-cast-out-2
-cast-out-2 c = search needs
-
-mul-out-2 : tie.Need-mul-out-2
-mul-out-2 c = search needs
-
-add-out : tie.Need-add-out
-add-out c = search needs
-
 slice-write-out-2 : tie.Need-slice-write-out-2
 slice-write-out-2 c = simp length-set (omega arith)
-
-same-length : tie.Need-same-length
-same-length c = search needs
 
 returns : tie.Need-returns
 returns c = sym (lay-in _ _ _ (c .if1 .taken))
@@ -42,13 +21,13 @@ pub store-spec : {M : Type 1} → statement M
 store-spec =
     tie.close
     (tie.spec
-    cast-out
-    mul-out
-    slice-write-out
-    cast-out-2
-    mul-out-2
-    add-out
+    (λ c. search needs)
+    (λ c. search needs)
+    (λ c. search needs)
+    (λ c. search needs)
+    (λ c. search needs)
+    (λ c. search needs)
     slice-write-out-2
-    same-length
+    (λ c. search needs)
     returns
     returns-2)

@@ -13,17 +13,13 @@ use Rattle.verdict.proofs.Judged.shown.Tie as tie
 refused : (v : Judged) (m : Mark) → v ≡ judged.Refused m → verdict.Refused (faultOf m) ≡ shownOf v
 refused v m e = rw e
 
-enum-told : tie.Need-enum-told
-enum-told c = search needs
-
-enum-known-self : tie.Need-enum-known-self
-enum-known-self c = search needs
-
-returns : tie.Need-returns
-returns c = search needs
-
 returns-2 : tie.Need-returns-2
 returns-2 c = refused _ _ (c .before .self .given .1)
 
 pub shown-spec : {M : Type 1} → statement M
-shown-spec = tie.close (tie.spec enum-told enum-known-self returns returns-2)
+shown-spec = tie.close
+    (tie.spec
+    (λ c. search needs)
+    (λ c. search needs)
+    (λ c. search needs)
+    returns-2)
