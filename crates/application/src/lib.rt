@@ -1,4 +1,4 @@
-// X.2, fixed application: the verdict of a file, the checks in 01's order, and the questions 'header' and 'record at an offset'.
+// X.2, fixed application (01, 'X.2, fixed application' and 'Verdicts and their order'): the verdict of a file, the checks in 01's order, and the questions 'header' and 'record at an offset'.
 ghost use mathlib.Core.Path.{_≡_};
 ghost use Rattle.verdict.specs.Facts.{firstFault};
 ghost use Rattle.layout.specs.inner.Bounds.{Bounded};

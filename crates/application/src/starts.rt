@@ -1,7 +1,8 @@
 // Where a record starts, in a file whose layout is right: in a region of one size by arithmetic, among the balises by their walk.
 ghost use mathlib.Core.Path.{_≡_};
-ghost use Prim.Native.Nat.{_^_, _<_};
+ghost use Prim.Native.Nat.{_<_};
 ghost use Rattle.verdict.specs.Facts.{test};
+ghost use Rattle.layout.specs.inner.Bounds.{sliceOver};
 ghost use Rattle.layout.specs.Records.{isStart};
 ghost use Rattle.layout.specs.inner.Regions.{Regions};
 ghost use Rattle.application.specs.inner.Starts.{baliseStarts};
@@ -16,7 +17,7 @@ use records::Turnout;
 
 // Whether a balise starts at x, of those that stand without gaps from a place on: by the walk up to x.
 fn starts_balise(f: &[u8], from: usize, x: usize) -> bool
-    requires { ⌜ x < 2 ^ 63 ⌝ }
+    requires { ⌜ x < sliceOver ⌝ }
     ensures { λ r. ⌜ r ≡ test (baliseStarts (now (f .entry)) from x) ⌝ }
 {
     let mut at = from;

@@ -42,7 +42,7 @@ groupByteOf f at = valueOf f at row.baliseGroup
 abbrev pub rankInCount : List ℕ → ℕ → Fact
 rankInCount f at =
     fact (atMost (rankOf (groupByteOf f at)) (countOf (groupByteOf f at)))
-    (record { reason = reason.Agreement; start = at; place = placeIn at row.baliseGroup; width = 1; rule = rule.PlaceInCount })
+    (record { reason = reason.Agreement; start = at; place = placeIn at row.baliseGroup; width = 1; rule = rule.RankInCount })
 
 -- only a balise has such a rule
 unfoldable pub kindAgrees : List ℕ → Kind → ℕ → List Fact

@@ -47,7 +47,7 @@ fn rank_in_count(v: Judged, f: &[u8], at: u32) -> Judged
 {
     let byte = number_of(f, at, Balise::GROUP);
     let ok = Balise::rank_of(byte) <= Balise::count_of(byte);
-    let rule = Rule::PlaceInCount;
+    let rule = Rule::RankInCount;
     also_fact(
         v,
         ok,

@@ -1,4 +1,4 @@
-// What both files have alike: how long they are at most, End, the first fields of the header, and the checks of the checksum, the file type
+// What both files have alike (01, 'Bytes and checksum' and 'Verdicts and their order'): how long they are at most, End, the first fields of the header, and the checks of the checksum, the file type
 // and the structure version, 2 to 4 in 01's table.
 ghost use mathlib.Core.Path.{_≡_};
 ghost use Rattle.verdict.specs.Facts.{judge};

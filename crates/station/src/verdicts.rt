@@ -50,7 +50,7 @@ fn check_pair(f: &[u8], g: &[u8], l: Layout) -> Judged
     records_pair(v, f, g, l)
 }
 
-// X.1's own fault.
+// X.1's own fault. The arm of an accepted file is never reached; it stands because an `else` cannot bind the fault.
 fn first_refused(v: Verdict) -> PairVerdict
     ensures { λ r. ⌜ r ≡ ofFirst v PairVerdict.Accepted ⌝ }
 {

@@ -113,6 +113,7 @@ fn coordinate_at(f: &[u8], size: u8, e: u32, x: usize) -> CoordinateAnswer
     if number_of(f, e, Track::END_POSITION) < x {
         return CoordinateAnswer::Refused(refusal(Reason::Position));
     }
+    // Some stretch reaches every position up to the end, so the `else` is never reached; the language has it stand.
     let stretch = find_stretch(f, size, e, x);
     let Found::At(p) = stretch else {
         return CoordinateAnswer::Refused(refusal(Reason::Position));

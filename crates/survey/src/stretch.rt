@@ -42,6 +42,7 @@ fn along(f: &[u8], axis: Axis, e: u32, p: u32, next: u32, t: usize, den: usize) 
 {
     let y0 = sum_of(f, axis, e, p);
     let y1 = sum_of(f, axis, e, next);
+    // The numbers are inside rounding's limits, so the `else` is never reached; the language has it stand.
     let way = rounding::coordinate(y0, y1, t, den);
     let Way::At(y) = way else {
         return 0;

@@ -88,8 +88,8 @@ pub enum Rule {
     SumWithin(usize, usize, usize),
     // the signed number at the first field, added to the one at the second, is the one at the third
     SumIs(usize, usize, usize),
-    // a balise's place is at most its group's count
-    PlaceInCount,
+    // a balise's rank in its group, which 01 calls its place, is at most the group's count
+    RankInCount,
     // a link is 0 or names the start of another object
     NamesObject,
     // a link is 0 or is returned by a link of its target
@@ -181,7 +181,8 @@ impl Verdict {
         }
     }
 
-    // The fault of a file that is refused, which each question on it answers. An accepted file has none.
+    // The fault of a file that is refused, which each question on it answers. An accepted file has none: that arm is never reached, and stands
+    // because an `else` cannot bind the fault.
     pub fn fault(self) -> Fault
         ensures { λ r. ⌜ r ≡ faultIn self ⌝ }
     {

@@ -115,11 +115,8 @@ fn answer_routes(head: &[u8], f: &[u8]) {
     listings::routes(f, start, limit, budget, words_lent(head));
 }
 
-// Answers the question of a case. It answers whether there is such a question.
-fn answered(head: &[u8], first: &[u8], second: &[u8]) -> bool {
-    let question = byte_at(head, 0);
-    let a = u32_at(head, NUMBERS);
-    let b = u32_at(head, NUMBERS + NUMBER);
+// Answers a question about a whole file or a pair, and says whether it is one.
+fn file_answered(question: usize, first: &[u8], second: &[u8]) -> bool {
     if question == X1 {
         answers::x1(first);
         return true;
@@ -132,6 +129,21 @@ fn answered(head: &[u8], first: &[u8], second: &[u8]) -> bool {
         answers::pair(first, second);
         return true;
     }
+    if question == HEADER1 {
+        answers::header1(first);
+        return true;
+    }
+    if question == HEADER2 {
+        answers::header2(first);
+        return true;
+    }
+    false
+}
+
+// Answers a question about what a file holds, by its numbers, and says whether it is one.
+fn part_answered(question: usize, head: &[u8], first: &[u8]) -> bool {
+    let a = u32_at(head, NUMBERS);
+    let b = u32_at(head, NUMBERS + NUMBER);
     if question == TRACK {
         answers::track(first, a);
         return true;
@@ -152,15 +164,16 @@ fn answered(head: &[u8], first: &[u8], second: &[u8]) -> bool {
         answer_routes(head, first);
         return true;
     }
-    if question == HEADER1 {
-        answers::header1(first);
-        return true;
-    }
-    if question == HEADER2 {
-        answers::header2(first);
-        return true;
-    }
     false
+}
+
+// Answers the question of a case. It answers whether there is such a question.
+fn answered(head: &[u8], first: &[u8], second: &[u8]) -> bool {
+    let question = byte_at(head, 0);
+    if file_answered(question, first, second) {
+        return true;
+    }
+    part_answered(question, head, first)
 }
 
 // Reads the files of a case, of n and m bytes, and answers it. It answers whether there may be a next case.
