@@ -30,7 +30,7 @@ use Rattle.application.specs.Answers.{namedHeaderAnswer, valueCount, fieldsOf, 
 use Rattle.routes.specs.declared.RoutesAnswer.{RoutesAnswer}
 use Rattle.routes.specs.declared.RoutesAnswer.the-variants as listed
 use Rattle.routes.specs.Answered.{routesAnswer}
-use Rattle.exports.specs.Words.{overByte, overTwo, overThree, overWord, valueSize, wordOf, valueWords, wordBytes, bytesOf}
+use Rattle.exports.specs.Words.{overByte, overTwo, overThree, overWord, valueSize, wordOf, valueWords, wordBytes, laidBytes}
 use Rattle.exports.specs.Shown.{countsSize}
 use Rattle.exports.proofs.Laid.{bytes-length}
 
@@ -59,13 +59,13 @@ after (suc k) front rest i =
 
 -- ---- the values
 
-pub value-at : (values : List ℤ) (rest : List ℕ) (i : ℕ) → i < length values → numAt valueSize (bytesOf (valueWords values) ++ rest) (valueSize * i) ≡ wordOf (getD values i (pos 0))
-unfolding bytesOf wordBytes
+pub value-at : (values : List ℤ) (rest : List ℕ) (i : ℕ) → i < length values → numAt valueSize (laidBytes (valueWords values) ++ rest) (valueSize * i) ≡ wordOf (getD values i (pos 0))
+unfolding laidBytes wordBytes
 value-at [] rest i h = absurd (omega arith)
-value-at (z ∷ zs) rest zero h = four-back (wordOf z) (bytesOf (valueWords zs) ++ rest) (word-small z)
+value-at (z ∷ zs) rest zero h = four-back (wordOf z) (laidBytes (valueWords zs) ++ rest) (word-small z)
 value-at (z ∷ zs) rest (suc j) h =
     let k : valueSize * suc j ≡ valueSize + valueSize * j = omega arith in
-    rw k (after valueSize (wordBytes (wordOf z)) (bytesOf (valueWords zs) ++ rest) (valueSize * j) ∙ value-at zs rest j (omega arith))
+    rw k (after valueSize (wordBytes (wordOf z)) (laidBytes (valueWords zs) ++ rest) (valueSize * j) ∙ value-at zs rest j (omega arith))
 
 -- a number that fits in four bytes, and a signed one
 pub number-word : (n : ℕ) → n < overWord → wordOf (pos n) ≡ n
@@ -82,41 +82,41 @@ signed-word (negsuc n) h =
 
 -- ---- how many bytes each kind of answer takes: as many values as the header says, of four bytes each, refused or not
 
-answer-size : (a : Answer) (n : ℕ) → length (answerValues a) ≡ n → length (bytesOf (valueWords (answerValues a))) ≡ valueSize * n
+answer-size : (a : Answer) (n : ℕ) → length (answerValues a) ≡ n → length (laidBytes (valueWords (answerValues a))) ≡ valueSize * n
 answer-size a n e =
     let b = bytes-length (valueWords (answerValues a)) in
     let m = length-map (answerValues a) wordOf in
     omega arith
 
-pub header1-size : (a : HeaderAnswer) → length (bytesOf (valueWords (answerValues (headerAnswer a)))) ≡ 12
+pub header1-size : (a : HeaderAnswer) → length (laidBytes (valueWords (answerValues (headerAnswer a)))) ≡ 12
 header1-size a = answer-size (headerAnswer a) 3 (count a)
   where
     count : (a : HeaderAnswer) → length (answerValues (headerAnswer a)) ≡ 3
     count (header.Header h) = refl
     count (header.Refused t) = refl
 
-pub header2-size : (a : NamedHeaderAnswer) → length (bytesOf (valueWords (answerValues (namedHeaderAnswer a)))) ≡ 20
+pub header2-size : (a : NamedHeaderAnswer) → length (laidBytes (valueWords (answerValues (namedHeaderAnswer a)))) ≡ 20
 header2-size a = answer-size (namedHeaderAnswer a) 5 (count a)
   where
     count : (a : NamedHeaderAnswer) → length (answerValues (namedHeaderAnswer a)) ≡ 5
     count (named.Header h) = refl
     count (named.Refused t) = refl
 
-pub track-size : (a : TrackAnswer) → length (bytesOf (valueWords (answerValues (trackAnswer a)))) ≡ 44
+pub track-size : (a : TrackAnswer) → length (laidBytes (valueWords (answerValues (trackAnswer a)))) ≡ 44
 track-size a = answer-size (trackAnswer a) 11 (count a)
   where
     count : (a : TrackAnswer) → length (answerValues (trackAnswer a)) ≡ 11
     count (track.Track t) = refl
     count (track.Refused t) = refl
 
-pub point-size : (a : PointAnswer) → length (bytesOf (valueWords (answerValues (pointAnswer a)))) ≡ 20
+pub point-size : (a : PointAnswer) → length (laidBytes (valueWords (answerValues (pointAnswer a)))) ≡ 20
 point-size a = answer-size (pointAnswer a) 5 (count a)
   where
     count : (a : PointAnswer) → length (answerValues (pointAnswer a)) ≡ 5
     count (point.Point p) = refl
     count (point.Refused t) = refl
 
-pub coordinate-size : (a : CoordinateAnswer) → length (bytesOf (valueWords (answerValues (coordinateAnswer a)))) ≡ 8
+pub coordinate-size : (a : CoordinateAnswer) → length (laidBytes (valueWords (answerValues (coordinateAnswer a)))) ≡ 8
 coordinate-size a = answer-size (coordinateAnswer a) 2 (count a)
   where
     count : (a : CoordinateAnswer) → length (answerValues (coordinateAnswer a)) ≡ 2
@@ -128,14 +128,14 @@ filled-length zero l = refl
 filled-length (suc n) [] = ap suc (filled-length n [])
 filled-length (suc n) (x ∷ l) = ap suc (filled-length n l)
 
-pub record-size : (a : RecordAnswer) → length (bytesOf (valueWords (answerValues (recordAnswer a)))) ≡ 48
+pub record-size : (a : RecordAnswer) → length (laidBytes (valueWords (answerValues (recordAnswer a)))) ≡ 48
 record-size a = answer-size (recordAnswer a) valueCount (count a)
   where
     count : (a : RecordAnswer) → length (answerValues (recordAnswer a)) ≡ valueCount
     count (answer.Record r) = filled-length valueCount (fieldsOf r)
     count (answer.Refused t) = refl
 
-pub routes-size : (a : RoutesAnswer) → length (bytesOf (valueWords (answerValues (routesAnswer a)))) ≡ countsSize
+pub routes-size : (a : RoutesAnswer) → length (laidBytes (valueWords (answerValues (routesAnswer a)))) ≡ countsSize
 routes-size a = answer-size (routesAnswer a) 3 (count a)
   where
     count : (a : RoutesAnswer) → length (answerValues (routesAnswer a)) ≡ 3

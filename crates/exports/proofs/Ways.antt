@@ -20,7 +20,7 @@ use Rattle.routes.specs.declared.RoutesAnswer.{RoutesAnswer}
 use Rattle.routes.specs.declared.RoutesAnswer.the-variants.{Listed, Refused}
 use Rattle.routes.specs.Answered.{refusedFor, judged, answerAt, routesAnswer}
 use Rattle.yard.specs.Routes.{routesAsked}
-use Rattle.exports.specs.Words.{answerWord, valueSize, valueWords, bytesOf}
+use Rattle.exports.specs.Words.{answerWord, valueSize, valueWords, laidBytes}
 use Rattle.exports.specs.Shown.{wordsShown, wordsLeave, shown, leaves, countsSize, wordsLeft}
 use Rattle.exports.proofs.Laid.{laid}
 
@@ -41,7 +41,7 @@ module _ (words out : List ℕ) where
     unfolding wordsShown
     room-shown r e = e ∙ sym (rw (le-ltb _ _ h) refl)
 
-    pub room-leaves : (out′ : List ℕ) → out′ ≡ sets out 0 (bytesOf words) → out′ ≡ wordsLeave words out
+    pub room-leaves : (out′ : List ℕ) → out′ ≡ sets out 0 (laidBytes words) → out′ ≡ wordsLeave words out
     unfolding wordsLeave
     room-leaves out′ e = e ∙ laid words out h ∙ sym (rw (le-ltb _ _ h) refl)
 

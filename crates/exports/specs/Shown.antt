@@ -12,7 +12,7 @@ use Rattle.verdict.specs.declared.Verdict.{Verdict}
 use Rattle.verdict.specs.declared.PairVerdict.{PairVerdict}
 use Rattle.verdict.specs.Reasons.{numberOf, numberIn, placeIn, pairNumberIn, pairPlaceIn, pairFileIn}
 use Rattle.verdict.specs.Answers.{Answer, answered, refused}
-use Rattle.exports.specs.Words.{answerWord, valueSize, valueWords, bytesOf}
+use Rattle.exports.specs.Words.{answerWord, valueSize, valueWords, laidBytes}
 
 -- ---- the verdicts
 
@@ -34,7 +34,7 @@ wordsShown words out = cond (short words out) (answerWord (numberOf Room) 0 0) (
 
 -- the output after it
 unfoldable pub wordsLeave : List ℕ → List ℕ → List ℕ
-wordsLeave words out = cond (short words out) out (bytesOf words ++ drop (length (bytesOf words)) out)
+wordsLeave words out = cond (short words out) out (laidBytes words ++ drop (length (laidBytes words)) out)
 
 -- ---- every question
 

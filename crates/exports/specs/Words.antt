@@ -52,6 +52,6 @@ unfoldable pub wordBytes : ℕ → List ℕ
 wordBytes w = w % overByte ∷ w / overByte % overByte ∷ w / overTwo % overByte ∷ w / overThree % overByte ∷ []
 
 -- the bytes of some values, one after the other
-unfoldable pub bytesOf : List ℕ → List ℕ
-bytesOf [] = []
-bytesOf (w ∷ ws) = wordBytes w ++ bytesOf ws
+unfoldable pub laidBytes : List ℕ → List ℕ
+laidBytes [] = []
+laidBytes (w ∷ ws) = wordBytes w ++ laidBytes ws

@@ -5,7 +5,7 @@ ghost use lib.IntN.{pos};
 ghost use lib.ListN.{length};
 ghost use lib.Seq.{sets};
 ghost use Rattle.verdict.specs.Reasons.{numberOf};
-ghost use Rattle.exports.specs.Words.{answerWord, valueSize, wordOf, wordBytes, bytesOf};
+ghost use Rattle.exports.specs.Words.{answerWord, valueSize, wordOf, wordBytes, laidBytes};
 ghost use Rattle.exports.specs.Shown.{wordsShown, wordsLeave};
 use octets::distance;
 use verdict::Fault;
@@ -82,7 +82,7 @@ fn put_word(out: &mut [u8], at: usize, word: u32)
 // Puts the values at the start of the output.
 fn lay(words: &[u32], out: &mut [u8])
     requires { ⌜ valueSize * length (now words) ≤ length (now out) ⌝ }
-    ensures { λ _. ⌜ now (out .exit) ≡ sets (now (out .entry)) 0 (bytesOf (now (words .entry))) ⌝ }
+    ensures { λ _. ⌜ now (out .exit) ≡ sets (now (out .entry)) 0 (laidBytes (now (words .entry))) ⌝ }
 {
     let mut i = 0;
     while i < words.len() {

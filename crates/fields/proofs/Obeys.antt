@@ -24,7 +24,7 @@ use Rattle.records.specs.Tables.{rankOf}
 use Rattle.layout.specs.declared.Layout.{Layout}
 use Rattle.layout.specs.Places.{nameAt, startEntriesAt, endEntriesAt}
 use Rattle.layout.specs.Records.{kindAt, starts}
-use Rattle.fields.specs.Fields.{headerFields, trackAt, entryFields, entriesFields, sizeByteOf, messageFields, kindFields, recordFields, fieldFacts}
+use Rattle.fields.specs.Fields.{headerFields, headerTrackAt, entryFields, entriesFields, sizeByteOf, messageFields, kindFields, recordFields, fieldFacts}
 use Rattle.fields.specs.Agreement.{entryAgrees, entriesAgree, groupByteOf, kindAgrees, recordAgrees, agreementFacts}
 use Rattle.fields.specs.Obeys.{MessageEnds, RecordObeys, FieldsObey, AgreementObeys}
 use Rattle.fields.proofs.Values.{low-bits, indexes-iff}
@@ -76,13 +76,13 @@ module _ (f : List ℕ) (at : ℕ) where
 -- ---- the fields of a file
 
 -- where the tracks of the header stand
-start-track : (i : ℕ) → trackAt startEntriesAt i ≡ 24 + 3 * i
+start-track : (i : ℕ) → headerTrackAt startEntriesAt i ≡ 24 + 3 * i
 start-track i = omega arith
 
-end-track : (n j : ℕ) → trackAt (endEntriesAt n) j ≡ 25 + 3 * n + 3 * j
+end-track : (n j : ℕ) → headerTrackAt (endEntriesAt n) j ≡ 25 + 3 * n + 3 * j
 end-track n j = omega arith
 
-entries-iff : (f : List ℕ) (entries count : ℕ) (at : ℕ → ℕ) → ((i : ℕ) → trackAt entries i ≡ at i)
+entries-iff : (f : List ℕ) (entries count : ℕ) (at : ℕ → ℕ) → ((i : ℕ) → headerTrackAt entries i ≡ at i)
     → AllHold (entriesFields f entries count) ↔ ((i : ℕ) → i < count → Between 1 255 (numAt 1 f (at i)))
 unfolding entriesFields AllHold
 entries-iff f entries count at same =
@@ -146,7 +146,7 @@ rank-iff f at kind.Signal = nothing-asked (λ e. let z : _≡_ {A = ℕ} 0 1 = c
 rank-iff f at kind.Joint = nothing-asked (λ e. let z : _≡_ {A = ℕ} 0 1 = cc in omega arith)
 rank-iff f at kind.Siding = nothing-asked (λ e. let z : _≡_ {A = ℕ} 0 1 = cc in omega arith)
 
-agree-iff : (f : List ℕ) (entries from count : ℕ) (at : ℕ → ℕ) → ((i : ℕ) → trackAt entries i ≡ at i)
+agree-iff : (f : List ℕ) (entries from count : ℕ) (at : ℕ → ℕ) → ((i : ℕ) → headerTrackAt entries i ≡ at i)
     → AllHold (entriesAgree f entries from count) ↔ ((i : ℕ) → i < count → numAt 1 f (at i) ≡ numAt 1 f (from + 12 * i + 11))
 unfolding entriesAgree AllHold
 agree-iff f entries from count at same =

@@ -10,15 +10,15 @@ use Rattle.verdict.specs.declared.Rule.the-variants as rule
 use Rattle.rules.specs.Rules.{sameAs}
 use Rattle.records.specs.declared.Kind.{Kind}
 use Rattle.records.specs.declared.Kind.the-variants as kind
-use Rattle.tables.specs.Table.{valueOf, placeIn}
+use Rattle.tables.specs.Table.{valueOf, fieldPlace}
 use Rattle.records.specs.Places as place
 use Rattle.records.specs.Rows as row
-use Rattle.records.specs.Tables.{rankOf, countOf}
+use Rattle.records.specs.Tables.{rankOf, groupCountOf}
 use Rattle.layout.specs.declared.Layout.{Layout}
 use Rattle.layout.specs.Places.{startEntriesAt, endEntriesAt}
 use Rattle.layout.specs.Facts.{indexes}
 use Rattle.layout.specs.Records.{kindAt, starts}
-use Rattle.fields.specs.Fields.{trackAt}
+use Rattle.fields.specs.Fields.{headerTrackAt}
 
 -- ---- the boundaries
 
@@ -27,7 +27,7 @@ abbrev pub ownTrackAt : ℕ → ℕ → ℕ
 ownTrackAt from i = from + place.boundarySize * i + row.boundaryTrack .offset
 
 abbrev pub entryAgrees : List ℕ → ℕ → ℕ → ℕ → List Fact
-entryAgrees f entries from i = sameAs f 0 (trackAt entries i) One (trackAt entries i) (ownTrackAt from i) ∷ []
+entryAgrees f entries from i = sameAs f 0 (headerTrackAt entries i) One (headerTrackAt entries i) (ownTrackAt from i) ∷ []
 
 unfoldable pub entriesAgree : List ℕ → ℕ → ℕ → ℕ → List Fact
 entriesAgree f entries from count = flatMap (entryAgrees f entries from) (indexes count)
@@ -41,8 +41,8 @@ groupByteOf f at = valueOf f at row.baliseGroup
 -- a balise's rank, which 01 calls its place, is at most its count
 abbrev pub rankInCount : List ℕ → ℕ → Fact
 rankInCount f at =
-    fact (atMost (rankOf (groupByteOf f at)) (countOf (groupByteOf f at)))
-    (record { reason = reason.Agreement; start = at; place = placeIn at row.baliseGroup; width = 1; rule = rule.RankInCount })
+    fact (atMost (rankOf (groupByteOf f at)) (groupCountOf (groupByteOf f at)))
+    (record { reason = reason.Agreement; start = at; place = fieldPlace at row.baliseGroup; width = 1; rule = rule.RankInCount })
 
 -- only a balise has such a rule
 unfoldable pub kindAgrees : List ℕ → Kind → ℕ → List Fact

@@ -20,7 +20,7 @@ use Rattle.records.specs.Places as place
 use Rattle.records.specs.Rows.{baliseSizeByte, tableOf}
 use Rattle.seal.specs.Seal.{dataAt, stationAt}
 use Rattle.layout.specs.declared.Layout.{Layout}
-use Rattle.layout.specs.Places.{nameAt, entryTrack, entrySize, startEntriesAt, endEntriesAt}
+use Rattle.layout.specs.Places.{nameAt, entryTrack, headerEntrySize, startEntriesAt, endEntriesAt}
 use Rattle.layout.specs.Facts.{indexes}
 use Rattle.layout.specs.Records.{kindAt, starts}
 
@@ -34,12 +34,12 @@ headerFields f =
     ∷ []
 
 -- where the track stands in the entry with the index i, of those from `entries` on
-abbrev pub trackAt : ℕ → ℕ → ℕ
-trackAt entries i = entries + entrySize * i + entryTrack
+abbrev pub headerTrackAt : ℕ → ℕ → ℕ
+headerTrackAt entries i = entries + headerEntrySize * i + entryTrack
 
 -- every header track is 1 to 255
 abbrev pub entryFields : List ℕ → ℕ → ℕ → List Fact
-entryFields f entries i = between reason.Field f 0 (trackAt entries i) One 1 255 ∷ []
+entryFields f entries i = between reason.Field f 0 (headerTrackAt entries i) One 1 255 ∷ []
 
 unfoldable pub entriesFields : List ℕ → ℕ → ℕ → List Fact
 entriesFields f entries count = flatMap (entryFields f entries) (indexes count)

@@ -19,7 +19,7 @@ use Rattle.verdict.specs.Facts.{Fact, AllHold, Holds, firstFault}
 use Rattle.verdict.specs.declared.Judged.the-variants.{Accepted}
 use Rattle.verdict.proofs.Facts.{accepted-iff, all-append, all-each}
 use Rattle.verdict.proofs.Steps.{Stands, fixed-iff}
-use Rattle.tables.specs.Table.{placeIn, valueOf, signedOf}
+use Rattle.tables.specs.Table.{fieldPlace, valueOf, signedOf}
 use Rattle.tables.specs.Rows.{TableObeys}
 use Rattle.tables.proofs.Rows.{table-iff}
 use Rattle.tracks.specs.Places as place
@@ -268,7 +268,7 @@ module _ (f : List ℕ) (size e k : ℕ) (positive : 0 < size) (spread : lastOf 
   first-in : pointPlace f size e 0 ≤ lastOf f e
   first-in = let z = mul-zero size in omega arith
 
-  next-near : placeIn (pointPlace f size e 0 + size) rows.near ≡ placeIn (pointPlace f size e 1) rows.near
+  next-near : fieldPlace (pointPlace f size e 0 + size) rows.near ≡ fieldPlace (pointPlace f size e 1) rows.near
   next-near = let z = mul-zero size in let s = mul-suc size 0 in omega arith
 
   track-iff : ((j : ℕ) → pointPlace f size e j ≤ lastOf f e → AllHold (pointAgrees f size e (pointPlace f size e j))) ↔ TrackAgrees f size e

@@ -17,7 +17,7 @@ use Rattle.verdict.specs.declared.Rule.{Rule}
 use Rattle.verdict.specs.declared.Reason.the-variants as reason
 use Rattle.verdict.specs.declared.Rule.the-variants as rule
 use Rattle.rules.specs.Rules.{zeroAt, sameAs, above}
-use Rattle.tables.specs.Table.{any, Row, signedRow, placeIn, signedOf}
+use Rattle.tables.specs.Table.{any, Row, signedRow, fieldPlace, signedOf}
 use Rattle.tables.specs.declared.Field.{Field}
 use Rattle.tracks.specs.declared.Axis.{Axis}
 use Rattle.tracks.specs.Places.{entrySize, latitudeMost, longitudeMost}
@@ -50,31 +50,31 @@ pointMark p w r = record { reason = reason.Agreement; start = p; place = p; widt
 -- start plus increment is at most so far from 0
 abbrev pub sumWithin : List ℕ → ℕ → Row → ℕ → Row → ℕ → Fact
 sumWithin f e start p increment limit =
-    fact (atMost (natAbs (sumOf f e start p increment)) limit) (pointMark p (increment .width) (rule.SumWithin (placeIn p increment) (placeIn e start) limit))
+    fact (atMost (natAbs (sumOf f e start p increment)) limit) (pointMark p (increment .width) (rule.SumWithin (fieldPlace p increment) (fieldPlace e start) limit))
 
 -- start plus increment is the end: they are 0 apart
 abbrev pub sumIs : List ℕ → ℕ → Row → Row → ℕ → Row → Fact
 sumIs f e start end p increment =
-    fact (same (natAbs (sumOf f e start p increment -ℤ signedOf f e end)) 0) (pointMark p (increment .width) (rule.SumIs (placeIn p increment) (placeIn e start) (placeIn e end)))
+    fact (same (natAbs (sumOf f e start p increment -ℤ signedOf f e end)) 0) (pointMark p (increment .width) (rule.SumIs (fieldPlace p increment) (fieldPlace e start) (fieldPlace e end)))
 
 -- ---- the facts
 
 -- track numbers strictly rise
 abbrev pub numberAgrees : List ℕ → ℕ → List Fact
-numberAgrees f e = cond (isFirst e) [] (above f e (placeIn e rows.number) One (placeIn e rows.number) (placeIn (e - entrySize) rows.number) ∷ [])
+numberAgrees f e = cond (isFirst e) [] (above f e (fieldPlace e rows.number) One (fieldPlace e rows.number) (fieldPlace (e - entrySize) rows.number) ∷ [])
 
 -- the first point has position and both increments 0, and its near flag equals the second's
 abbrev pub opens : List ℕ → ℕ → ℕ → List Fact
 opens f size p =
-    zeroAt f p p Four (placeIn p rows.position)
-    ∷ zeroAt f p p Three (placeIn p rows.latitudeIncrement)
-    ∷ zeroAt f p p Three (placeIn p rows.longitudeIncrement)
-    ∷ sameAs f p p One (placeIn p rows.near) (placeIn (p + size) rows.near)
+    zeroAt f p p Four (fieldPlace p rows.position)
+    ∷ zeroAt f p p Three (fieldPlace p rows.latitudeIncrement)
+    ∷ zeroAt f p p Three (fieldPlace p rows.longitudeIncrement)
+    ∷ sameAs f p p One (fieldPlace p rows.near) (fieldPlace (p + size) rows.near)
     ∷ []
 
 -- positions strictly rise
 abbrev pub rises : List ℕ → ℕ → ℕ → List Fact
-rises f size p = above f p p Four (placeIn p rows.position) (placeIn (p - size) rows.position) ∷ []
+rises f size p = above f p p Four (fieldPlace p rows.position) (fieldPlace (p - size) rows.position) ∷ []
 
 -- start plus increment stays in the coordinate's range
 abbrev pub stays : List ℕ → ℕ → ℕ → List Fact
@@ -86,7 +86,7 @@ stays f e p =
 -- the last point equals the track's end position, latitude and longitude
 abbrev pub closes : List ℕ → ℕ → ℕ → List Fact
 closes f e p =
-    sameAs f p p Four (placeIn p rows.position) (placeIn e rows.endPosition)
+    sameAs f p p Four (fieldPlace p rows.position) (fieldPlace e rows.endPosition)
     ∷ sumIs f e rows.startLatitude rows.endLatitude p rows.latitudeIncrement
     ∷ sumIs f e rows.startLongitude rows.endLongitude p rows.longitudeIncrement
     ∷ []

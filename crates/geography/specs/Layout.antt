@@ -9,7 +9,7 @@ use Rattle.verdict.specs.Facts.{Fact}
 use Rattle.verdict.specs.Walk.{startsFrom}
 use Rattle.verdict.specs.declared.Reason.the-variants as reason
 use Rattle.rules.specs.Rules.{isNumber, between, fits, whole, endsAt}
-use Rattle.tables.specs.Table.{placeIn, valueOf}
+use Rattle.tables.specs.Table.{fieldPlace, valueOf}
 pub use Rattle.seal.specs.Seal.{endOf}
 use Rattle.tracks.specs.Places.{entriesAt, entrySize}
 use Rattle.tracks.specs.Rows as rows
@@ -52,17 +52,17 @@ dueAt f size e = cond (isFirst e) (pointsAt f) (stopBefore f size e)
 -- by track: the first offset is where due; the last offset is the first plus a positive multiple of the size, and its point fits
 abbrev pub entryLayout : List ℕ → ℕ → ℕ → List Fact
 entryLayout f size e =
-    isNumber reason.Layout f e (placeIn e rows.first) Two (dueAt f size e)
-    ∷ fits e (placeIn e rows.last) (rows.last .width) (firstOf f e + size) (lastOf f e)
-    ∷ whole e (placeIn e rows.last) (rows.last .width) (lastOf f e - firstOf f e) size
-    ∷ fits e (placeIn e rows.last) (rows.last .width) (lastOf f e + size) (endOf f)
+    isNumber reason.Layout f e (fieldPlace e rows.first) Two (dueAt f size e)
+    ∷ fits e (fieldPlace e rows.last) (rows.last .width) (firstOf f e + size) (lastOf f e)
+    ∷ whole e (fieldPlace e rows.last) (rows.last .width) (lastOf f e - firstOf f e) size
+    ∷ fits e (fieldPlace e rows.last) (rows.last .width) (lastOf f e + size) (endOf f)
     ∷ []
 
 -- n is not 0, and the entries fit
 abbrev pub countLayout : List ℕ → List Fact
 countLayout f =
-    between reason.Layout f 0 (placeIn 0 rows.count) One 1 255
-    ∷ fits 0 (placeIn 0 rows.count) (rows.count .width) (pointsAt f) (endOf f)
+    between reason.Layout f 0 (fieldPlace 0 rows.count) One 1 255
+    ∷ fits 0 (fieldPlace 0 rows.count) (rows.count .width) (pointsAt f) (endOf f)
     ∷ []
 
 -- at last, the points do not stop short of End

@@ -1,4 +1,4 @@
--- What stands at a place has the links that stand at the link places of its kind, and `boundaryAt` tells where a boundary's record starts.
+-- What stands at a place has the links that stand at the link places of its kind, and `boundaryStarts` tells where a boundary's record starts.
 -- Assumes nothing.
 use Prim.Native.Nat.{ℕ, _-_, _%_, _≤_, _<_}
 use native.Mathlib.Omega.{arith}
@@ -18,7 +18,7 @@ use Rattle.layout.specs.declared.Layout.{Layout}
 use Rattle.layout.specs.Records.{kindAt, starts}
 use Rattle.layout.specs.inner.Regions.{Regions}
 use Rattle.layout.proofs.Starts.{start-tested, found-boundary, start-least, start-below}
-use Rattle.graph.specs.Objects.{viewAt, objectAt, linksOf, isBoundary, offsetMost, boundaryAt}
+use Rattle.graph.specs.Objects.{viewAt, objectAt, linksOf, isBoundary, offsetMost, boundaryStarts}
 
 view-links : (f : List ℕ) (k : Kind) (at : ℕ) → linksOf (viewAt f k at) ≡ map (numAt 2 f) (linkPlaces k at)
 unfolding viewAt
@@ -41,9 +41,9 @@ pub record BoundaryAt (l : Layout) (x : ℕ) : Type 0 where
   pub before-end : x < l .turnouts
   pub whole : (x - l .starts) % boundarySize ≡ 0
 
--- what `boundaryAt` tests
-pub boundary-facts : (l : Layout) (x : ℕ) → boundaryAt l x ≡ true → BoundaryAt l x
-unfolding boundaryAt
+-- what `boundaryStarts` tests
+pub boundary-facts : (l : Layout) (x : ℕ) → boundaryStarts l x ≡ true → BoundaryAt l x
+unfolding boundaryStarts
 boundary-facts l x e =
     let a = and-true (leb x offsetMost) _ e in
     let b = and-true (leb (l .starts) x) _ (a .1) in
@@ -51,10 +51,10 @@ boundary-facts l x e =
     record { small = leb-true x offsetMost (a .0); after-header = leb-true (l .starts) x (b .0); before-end = ltb-true x (l .turnouts) (c .0); whole = eqb-true ((x - l .starts) % boundarySize) 0 (c .1) }
 
 -- the facts pass the test
-pub boundary-tested : (l : Layout) (x : ℕ) → BoundaryAt l x → boundaryAt l x ≡ true
-unfolding boundaryAt
+pub boundary-tested : (l : Layout) (x : ℕ) → BoundaryAt l x → boundaryStarts l x ≡ true
+unfolding boundaryStarts
 boundary-tested l x b =
-    rw (le-leb x offsetMost (b .small), le-leb (l .starts) x (b .after-header), lt-ltb x (l .turnouts) (b .before-end), eq-eqb ((x - l .starts) % boundarySize) 0 (b .whole), boundaryAt) refl
+    rw (le-leb x offsetMost (b .small), le-leb (l .starts) x (b .after-header), lt-ltb x (l .turnouts) (b .before-end), eq-eqb ((x - l .starts) % boundarySize) 0 (b .whole), boundaryStarts) refl
 
 -- the kinds by region, as far as the boundaries go
 kind-boundary : (f : List ℕ) (l : Layout) (x : ℕ) → l .ends ≤ l .turnouts → isBoundary (objectAt f l x) ≡ ltb x (l .turnouts)
@@ -78,18 +78,18 @@ kind-boundary f l x h = go (ltb x (l .ends)) (ltb x (l .turnouts)) refl refl
     go false true p q = refl
     go false false p q = beyond (ltb x (l .balises)) (ltb x (l .signals)) (ltb x (l .joints)) (ltb x (l .sidings))
 
--- THEOREM: of a file whose layout is right, `boundaryAt` tells where a boundary's record starts
+-- THEOREM: of a file whose layout is right, `boundaryStarts` tells where a boundary's record starts
 pub boundary-iff : (f : List ℕ) (l : Layout) (x : ℕ) → Regions f l → l .end ≤ offsetMost
-    → (boundaryAt l x ≡ true) ↔ (List·Memᴰ x (starts f l) × (isBoundary (objectAt f l x) ≡ true))
+    → (boundaryStarts l x ≡ true) ↔ (List·Memᴰ x (starts f l) × (isBoundary (objectAt f l x) ≡ true))
 boundary-iff f l x r small = (there, back)
   where
-    there : boundaryAt l x ≡ true → List·Memᴰ x (starts f l) × (isBoundary (objectAt f l x) ≡ true)
+    there : boundaryStarts l x ≡ true → List·Memᴰ x (starts f l) × (isBoundary (objectAt f l x) ≡ true)
     there e =
         let b = boundary-facts l x e in
         let t = sym (found-boundary f l r x (b .after-header) (b .before-end)) ∙ eq-eqb ((x - l .starts) % boundarySize) 0 (b .whole) in
         (start-tested f l x .0 t, kind-boundary f l x (omega (arith, r .end-boundaries)) ∙ lt-ltb x (l .turnouts) (b .before-end))
 
-    back : List·Memᴰ x (starts f l) × (isBoundary (objectAt f l x) ≡ true) → boundaryAt l x ≡ true
+    back : List·Memᴰ x (starts f l) × (isBoundary (objectAt f l x) ≡ true) → boundaryStarts l x ≡ true
     back h =
         let below = ltb-true x (l .turnouts) (sym (kind-boundary f l x (omega (arith, r .end-boundaries))) ∙ h .1) in
         let least = start-least f l r x (h .0) in

@@ -60,5 +60,5 @@ abbrev pub offsetMost : ℕ
 offsetMost = 65535
 
 -- a boundary starts at x: whole boundaries stand between the header's end and x
-unfoldable pub boundaryAt : Layout → ℕ → Bool
-boundaryAt l x = leb x offsetMost && (leb (l .starts) x && (ltb x (l .turnouts) && eqb ((x - l .starts) % place.boundarySize) 0))
+unfoldable pub boundaryStarts : Layout → ℕ → Bool
+boundaryStarts l x = leb x offsetMost && (leb (l .starts) x && (ltb x (l .turnouts) && eqb ((x - l .starts) % place.boundarySize) 0))

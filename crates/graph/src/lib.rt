@@ -2,7 +2,7 @@
 // graph. The kind follows from the region that the place lies in, and a number past the end of the file counts as 0, so everything here
 // answers for every file, every layout and every place.
 ghost use mathlib.Core.Path.{_≡_};
-ghost use Rattle.graph.specs.Objects.{linkAt, viewOf, objectAt, boundaryAt, edgeLink};
+ghost use Rattle.graph.specs.Objects.{linkAt, viewOf, objectAt, boundaryStarts, edgeLink};
 ghost use Rattle.graph.specs.Ways.{onwardOf};
 use layout::Layout;
 use layout::kind_at;
@@ -100,7 +100,7 @@ pub fn object_at(f: &[u8], l: Layout, at: u16) -> Object
 
 // Whether a boundary starts at a place.
 pub fn boundary_at(l: Layout, at: usize) -> bool
-    ensures { λ r. ⌜ r ≡ boundaryAt l at ⌝ }
+    ensures { λ r. ⌜ r ≡ boundaryStarts l at ⌝ }
 {
     let header = l.starts;
     if OFFSET_MOST < at {

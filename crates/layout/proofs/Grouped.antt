@@ -16,7 +16,7 @@ use Rattle.verdict.proofs.Facts.{all-append, all-each}
 use Rattle.layout.specs.declared.Made.{Made}
 use Rattle.layout.specs.declared.Made.the-variants.{Fixed, Balises}
 use Rattle.layout.specs.Groups.{Group, groupStart, nextStart, groupEnd, groupLayout, baliseBytes, baliseLayout, walkLayout, madeFacts, oneGroup, groupFacts}
-use Rattle.layout.specs.Obeys.{BaliseObeys, MadeOf, Grouped, none, empty, there}
+use Rattle.layout.specs.Obeys.{BaliseFits, MadeOf, Grouped, none, empty, there}
 
 module _ (off due next : ℕ) where
   pub end-empty : off ≡ 0 → groupEnd off due next ≡ due
@@ -58,7 +58,7 @@ unless-zero x fs A i = by-test (eqb x 0) refl
     by-test true e = (λ h n. absurd (n (eqb-true x 0 e)), λ h. tt)
     by-test false e = (λ h n. i .0 h, λ h. i .1 (h (eqb-false x 0 e)))
 
-balise-iff : (f : List ℕ) (until at : ℕ) → AllHold (baliseLayout f until at) ↔ BaliseObeys f until at
+balise-iff : (f : List ℕ) (until at : ℕ) → AllHold (baliseLayout f until at) ↔ BaliseFits f until at
 unfolding AllHold
 balise-iff f until at = (λ h. record { left = h .0; size = h .1 .0; rest = h .1 .1 .0 }, λ h. (h .left, (h .size, (h .rest, tt))))
 

@@ -10,7 +10,7 @@ use Rattle.records.specs.Places.{boundarySize}
 use Rattle.verdict.specs.Facts.{AllHold}
 use Rattle.verdict.proofs.Facts.{all-append, all-each}
 use Rattle.layout.specs.declared.Layout.{Layout}
-use Rattle.layout.specs.Places.{entryOffset, entrySize, startEntriesAt, endEntriesAt}
+use Rattle.layout.specs.Places.{entryOffset, headerEntrySize, startEntriesAt, endEntriesAt}
 use Rattle.layout.specs.Groups.{groupFacts}
 use Rattle.layout.specs.Facts.{countLayout, indexes, offsetLayout, offsetsLayout, groupsIn, layoutFacts}
 use Rattle.layout.specs.Obeys.{LayoutObeys}
@@ -20,7 +20,7 @@ use Rattle.layout.proofs.Grouped.{groups-iff}
 module _ (f : List ℕ) where
   offsets-iff :
       (entries due count : ℕ)
-      → AllHold (offsetsLayout f entries due count) ↔ ((i : ℕ) → i < count → numAt 2 f (entries + entrySize * i + entryOffset) ≡ due + boundarySize * i)
+      → AllHold (offsetsLayout f entries due count) ↔ ((i : ℕ) → i < count → numAt 2 f (entries + headerEntrySize * i + entryOffset) ≡ due + boundarySize * i)
   unfolding offsetsLayout AllHold
   offsets-iff entries due count =
       let each = all-each (offsetLayout f entries due) (indexes count) in

@@ -12,7 +12,7 @@ use Rattle.layout.specs.declared.Made.{Made}
 use Rattle.layout.specs.declared.Made.the-variants.{Fixed, Balises}
 use Rattle.layout.specs.Layout.{endOf, layoutOf}
 use Rattle.layout.specs.Groups.{madeOf, Group, groupsFrom, groupStart, nextStart, groupEnd, groupEnds, baliseBytes}
-use Rattle.layout.specs.Obeys.{BaliseObeys, MadeOf, Grouped, none, empty, there, LayoutObeys}
+use Rattle.layout.specs.Obeys.{BaliseFits, MadeOf, Grouped, none, empty, there, LayoutObeys}
 use Rattle.layout.specs.inner.Regions.{Whole, Regions}
 use Rattle.layout.proofs.Walks.{starts-between}
 use Rattle.layout.proofs.Grouped.{end-empty, end-there, grouped-next}
@@ -50,7 +50,7 @@ module _ (f : List ℕ) where
 
 module _ (f : List ℕ) (o : LayoutObeys f (layoutOf f)) where
   -- each balise of the walk is a right one
-  pub balise-obeys : (x : ℕ) → List·Memᴰ x (startsFrom (baliseBytes f) (layoutOf f .signals) (layoutOf f .balises)) → BaliseObeys f (layoutOf f .signals) x
+  pub balise-obeys : (x : ℕ) → List·Memᴰ x (startsFrom (baliseBytes f) (layoutOf f .signals) (layoutOf f .balises)) → BaliseFits f (layoutOf f .signals) x
   unfolding layoutOf groupEnds groupsFrom nextStart madeOf MadeOf
   balise-obeys = (head f (endOf f) ((head f (endOf f) (o .groups)) .rest)) .made
 

@@ -13,7 +13,7 @@ use Rattle.records.specs.Places.{boundarySize}
 use Rattle.layout.specs.declared.Layout.{Layout}
 use Rattle.layout.specs.declared.Shape.{Shape}
 use Rattle.layout.specs.declared.Shape.the-variants.{Found, Faulty}
-use Rattle.layout.specs.Places.{startCountAt, entryOffset, entrySize, startEntriesAt, endCountAt, endEntriesAt, groupsAt}
+use Rattle.layout.specs.Places.{startCountAt, entryOffset, headerEntrySize, startEntriesAt, endCountAt, endEntriesAt, groupsAt}
 use Rattle.layout.specs.Layout.{yardOffsets, layoutOf}
 unfoldable pub use Rattle.layout.specs.Groups.{baliseBytes}
 use Rattle.layout.specs.Groups.{Group, groupsOf, groupFacts}
@@ -36,7 +36,7 @@ indexes n = startsFrom (λ _. 1) n 0
 
 -- the offset in the entry with the index i, of those from `entries` on, whose boundaries are due from `due` on
 abbrev pub offsetLayout : List ℕ → ℕ → ℕ → ℕ → List Fact
-offsetLayout f entries due i = isNumber reason.Layout f 0 (entries + entrySize * i + entryOffset) Two (due + boundarySize * i) ∷ []
+offsetLayout f entries due i = isNumber reason.Layout f 0 (entries + headerEntrySize * i + entryOffset) Two (due + boundarySize * i) ∷ []
 
 unfoldable pub offsetsLayout : List ℕ → ℕ → ℕ → ℕ → List Fact
 offsetsLayout f entries due count = flatMap (offsetLayout f entries due) (indexes count)

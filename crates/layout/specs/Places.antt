@@ -19,8 +19,8 @@ entryTrack = 0
 abbrev pub entryOffset : ℕ
 entryOffset = 1
 
-abbrev pub entrySize : ℕ
-entrySize = 3
+abbrev pub headerEntrySize : ℕ
+headerEntrySize = 3
 
 -- ---- the start boundaries' entries, k, and the end boundaries' entries
 
@@ -28,7 +28,7 @@ abbrev pub startEntriesAt : ℕ
 startEntriesAt = 24
 
 abbrev pub endCountAt : ℕ → ℕ
-endCountAt n = startEntriesAt + entrySize * n
+endCountAt n = startEntriesAt + headerEntrySize * n
 
 abbrev pub endEntriesAt : ℕ → ℕ
 endEntriesAt n = endCountAt n + 1
@@ -42,7 +42,7 @@ abbrev pub yardCount : ℕ
 yardCount = 5
 
 abbrev pub groupsAt : ℕ → ℕ → ℕ
-groupsAt n k = endEntriesAt n + entrySize * k
+groupsAt n k = endEntriesAt n + headerEntrySize * k
 
 -- the header's length, where the records start: 35 + 3 n + 3 k
 abbrev pub headerLength : ℕ → ℕ → ℕ

@@ -14,7 +14,7 @@ use Rattle.verdict.specs.declared.Rule.the-variants as rule
 use Rattle.rules.specs.Rules.{between}
 use Rattle.records.specs.declared.Kind.{Kind}
 use Rattle.records.specs.declared.Kind.the-variants as kind
-use Rattle.tables.specs.Table.{bitsOf, valueOf, placeIn}
+use Rattle.tables.specs.Table.{bitsOf, valueOf, fieldPlace}
 use Rattle.seal.specs.Seal.{numberMost}
 use Rattle.records.specs.Rows as row
 use Rattle.records.specs.Records.{linkSize, linkPlaces}
@@ -57,8 +57,8 @@ targets f l at (p ∷ ps) = target f l at p ∷ targets f l at ps
 
 -- 0 means no link; in a boundary it is 8
 abbrev pub linked : List ℕ → Kind → ℕ → List Fact
-linked f kind.StartBoundary at = between reason.Target f at (placeIn at row.boundaryLink) Two 1 numberMost ∷ []
-linked f kind.EndBoundary at = between reason.Target f at (placeIn at row.boundaryLink) Two 1 numberMost ∷ []
+linked f kind.StartBoundary at = between reason.Target f at (fieldPlace at row.boundaryLink) Two 1 numberMost ∷ []
+linked f kind.EndBoundary at = between reason.Target f at (fieldPlace at row.boundaryLink) Two 1 numberMost ∷ []
 linked f kind.Turnout at = []
 linked f kind.Balise at = []
 linked f kind.Signal at = []

@@ -24,7 +24,7 @@ use Rattle.records.specs.declared.signals.Duty.the-variants.{Entry, Exit
 use Rattle.records.specs.declared.signals.Signal.{Signal}
 use Rattle.records.specs.declared.joints.Joint.{Joint}
 use Rattle.records.specs.declared.sidings.Siding.{Siding}
-use Rattle.tables.specs.Table.{bitsOf, valueOf, placeIn}
+use Rattle.tables.specs.Table.{bitsOf, valueOf, fieldPlace}
 use Rattle.records.specs.Places as place
 use Rattle.records.specs.Rows as row
 
@@ -95,8 +95,8 @@ abbrev pub rankOf : ℕ → ℕ
 rankOf b = bitsOf row.baliseRank b + 1
 
 -- the top three bits of the group byte: how many balises the group has, from 1 on
-abbrev pub countOf : ℕ → ℕ
-countOf b = bitsOf row.baliseCount b + 1
+abbrev pub groupCountOf : ℕ → ℕ
+groupCountOf b = bitsOf row.baliseCount b + 1
 
 unfoldable pub baliseAt : List ℕ → ℕ → Balise
 baliseAt f at = record {
@@ -109,7 +109,7 @@ baliseAt f at = record {
   position = valueOf f at row.balisePosition;
   track = valueOf f at row.baliseTrack;
   rank = rankOf (valueOf f at row.baliseGroup);
-  count = countOf (valueOf f at row.baliseGroup);
+  count = groupCountOf (valueOf f at row.baliseGroup);
   message = at + place.baliseMessage;
 }
 
@@ -149,7 +149,7 @@ unfoldable pub signalAt : List ℕ → ℕ → Signal
 signalAt f at = record {
   previous = valueOf f at row.signalPrevious;
   next = valueOf f at row.signalNext;
-  name = placeIn at row.signalName;
+  name = fieldPlace at row.signalName;
   position = valueOf f at row.signalPosition;
   track = valueOf f at row.signalTrack;
   direction = facingOf (valueOf f at row.signalByte);
@@ -162,7 +162,7 @@ unfoldable pub jointAt : List ℕ → ℕ → Joint
 jointAt f at = record {
   previous = valueOf f at row.jointPrevious;
   next = valueOf f at row.jointNext;
-  name = placeIn at row.jointName;
+  name = fieldPlace at row.jointName;
   position = valueOf f at row.jointPosition;
   track = valueOf f at row.jointTrack;
 }
@@ -171,10 +171,10 @@ jointAt f at = record {
 
 unfoldable pub sidingAt : List ℕ → ℕ → Siding
 sidingAt f at = record {
-  name = placeIn at row.sidingName;
+  name = fieldPlace at row.sidingName;
   track = valueOf f at row.sidingTrack;
   «up_balise» = valueOf f at row.sidingUpBalise;
-  «up_signal» = placeIn at row.sidingUpSignal;
+  «up_signal» = fieldPlace at row.sidingUpSignal;
   «down_balise» = valueOf f at row.sidingDownBalise;
-  «down_signal» = placeIn at row.sidingDownSignal;
+  «down_signal» = fieldPlace at row.sidingDownSignal;
 }

@@ -1,6 +1,6 @@
 // Balises (应答器): table 9. Two of its bytes have parts.
 ghost use mathlib.Core.Path.{_≡_};
-ghost use Rattle.records.specs.Tables.{natureOf, natureNumber, groupDirectionOf, groupDirectionNumber, rankOf, countOf, baliseAt};
+ghost use Rattle.records.specs.Tables.{natureOf, natureNumber, groupDirectionOf, groupDirectionNumber, rankOf, groupCountOf, baliseAt};
 use octets::Width;
 use tables::Bits;
 use tables::Field;
@@ -145,7 +145,7 @@ impl Balise {
 
     // The count that a group byte gives, 1 to 8.
     pub fn count_of(b: usize) -> usize
-        ensures { λ r. ⌜ r ≡ countOf b ⌝ }
+        ensures { λ r. ⌜ r ≡ groupCountOf b ⌝ }
     {
         bits_of(b, Self::COUNT) + 1
     }

@@ -15,7 +15,7 @@ use Rattle.verdict.specs.declared.Reason.the-variants.{Question, Steps, Room}
 use Rattle.verdict.proofs.Orders.{le-or-lt}
 use Rattle.layout.specs.declared.Layout.{Layout}
 use Rattle.graph.specs.declared.Object.{Object}
-use Rattle.graph.specs.Objects.{edgeLink, offsetMost, boundaryAt}
+use Rattle.graph.specs.Objects.{edgeLink, offsetMost, boundaryStarts}
 use Rattle.graph.proofs.Places.{boundary-facts}
 use Rattle.walks.specs.Walks.{walks, allWalks, isRoute, allRoutes, wordsOf}
 use Rattle.verdict.proofs.Orders.{and-true}
@@ -139,5 +139,5 @@ pub settled : (v : ℕ → Object) (asked asked′ : Bool) (start limit limit′
 settled v asked asked′ start limit limit′ budget out r out′ a m h = (rw (a, m) at (h .answer), rw (a, m) at (h .bytes))
 
 -- 'in range' is told of the start
-pub start-fits : (l : Layout) (start limit budget : ℕ) (asked ok : Bool) → asked ≡ boundaryAt l start → ok ≡ inRange asked limit budget → not ok ≡ false → start ≤ offsetMost
+pub start-fits : (l : Layout) (start limit budget : ℕ) (asked ok : Bool) → asked ≡ boundaryStarts l start → ok ≡ inRange asked limit budget → not ok ≡ false → start ≤ offsetMost
 start-fits l start limit budget asked ok a o e = boundary-facts l start (sym a ∙ within asked ok limit budget o e .boundary) .small

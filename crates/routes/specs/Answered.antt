@@ -12,7 +12,7 @@ use Rattle.verdict.specs.declared.Reason.the-variants.{Question, Steps, Room}
 use Rattle.verdict.specs.Answers.{Answer, answered, refused, refusal}
 use Rattle.layout.specs.declared.Layout.{Layout}
 use Rattle.graph.specs.declared.Object.{Object}
-use Rattle.graph.specs.Objects.{objectAt, boundaryAt}
+use Rattle.graph.specs.Objects.{objectAt, boundaryStarts}
 use Rattle.walks.specs.declared.Tally.{Tally}
 use Rattle.walks.specs.Walks.{allWalks, allRoutes, wordsOf}
 use Rattle.walks.specs.Lent.{wordSize, roomOf, octetsOf}
@@ -76,10 +76,10 @@ leftOf v asked start limit budget out = leaves (answerOf v asked start limit bud
 -- ---- the same of a file and its layout
 
 abbrev pub answerIn : List ℕ → Layout → ℕ → ℕ → ℕ → ℕ → RoutesAnswer
-answerIn f l start limit budget room = answerOf (objectAt f l) (boundaryAt l start) start limit budget room
+answerIn f l start limit budget room = answerOf (objectAt f l) (boundaryStarts l start) start limit budget room
 
 abbrev pub leftIn : List ℕ → Layout → ℕ → ℕ → ℕ → List ℕ → List ℕ
-leftIn f l start limit budget out = leftOf (objectAt f l) (boundaryAt l start) start limit budget out
+leftIn f l start limit budget out = leftOf (objectAt f l) (boundaryStarts l start) start limit budget out
 
 -- ---- the answer as the one shape of answers (crate verdict)
 

@@ -16,7 +16,7 @@ use Rattle.verdict.specs.declared.Verdict.the-variants as verdict
 use Rattle.verdict.specs.declared.PairVerdict.{PairVerdict}
 use Rattle.verdict.specs.declared.PairVerdict.the-variants as pair
 use Rattle.seal.specs.Seal.{stationAt}
-use Rattle.tables.specs.Table.{valueOf, placeIn}
+use Rattle.tables.specs.Table.{valueOf, fieldPlace}
 use Rattle.tracks.specs.Rows as track
 use Rattle.geography.specs.Facts as geography
 use Rattle.lookup.specs.declared.Found.{Found}
@@ -39,17 +39,17 @@ pub data Spot : Type 0 where
 
 -- a turnout's tip, normal and reverse positions go with its front, normal and reverse tracks; a siding has a track alone
 abbrev pub spots : Kind → ℕ → List Spot
-spots kind.StartBoundary at = lies (placeIn at row.boundaryTrack) (placeIn at row.boundaryPosition) ∷ []
-spots kind.EndBoundary at = lies (placeIn at row.boundaryTrack) (placeIn at row.boundaryPosition) ∷ []
+spots kind.StartBoundary at = lies (fieldPlace at row.boundaryTrack) (fieldPlace at row.boundaryPosition) ∷ []
+spots kind.EndBoundary at = lies (fieldPlace at row.boundaryTrack) (fieldPlace at row.boundaryPosition) ∷ []
 spots kind.Turnout at =
-    lies (placeIn at row.turnoutFrontTrack) (placeIn at row.turnoutTipPosition)
-    ∷ lies (placeIn at row.turnoutNormalTrack) (placeIn at row.turnoutNormalPosition)
-    ∷ lies (placeIn at row.turnoutReverseTrack) (placeIn at row.turnoutReversePosition)
+    lies (fieldPlace at row.turnoutFrontTrack) (fieldPlace at row.turnoutTipPosition)
+    ∷ lies (fieldPlace at row.turnoutNormalTrack) (fieldPlace at row.turnoutNormalPosition)
+    ∷ lies (fieldPlace at row.turnoutReverseTrack) (fieldPlace at row.turnoutReversePosition)
     ∷ []
-spots kind.Balise at = lies (placeIn at row.baliseTrack) (placeIn at row.balisePosition) ∷ []
-spots kind.Signal at = lies (placeIn at row.signalTrack) (placeIn at row.signalPosition) ∷ []
-spots kind.Joint at = lies (placeIn at row.jointTrack) (placeIn at row.jointPosition) ∷ []
-spots kind.Siding at = stands (placeIn at row.sidingTrack) ∷ []
+spots kind.Balise at = lies (fieldPlace at row.baliseTrack) (fieldPlace at row.balisePosition) ∷ []
+spots kind.Signal at = lies (fieldPlace at row.signalTrack) (fieldPlace at row.signalPosition) ∷ []
+spots kind.Joint at = lies (fieldPlace at row.jointTrack) (fieldPlace at row.jointPosition) ∷ []
+spots kind.Siding at = stands (fieldPlace at row.sidingTrack) ∷ []
 
 -- ---- the facts
 

@@ -57,8 +57,8 @@ signedRow name offset width values = record { name = name; offset = offset; widt
 -- ---- what its bytes mean, in the record that starts at `at`
 
 -- where a row's field stands
-abbrev pub placeIn : ℕ → Row → ℕ
-placeIn at r = at + r .offset
+abbrev pub fieldPlace : ℕ → Row → ℕ
+fieldPlace at r = at + r .offset
 
 -- the number that stands there
 abbrev pub valueOf : List ℕ → ℕ → Row → ℕ

@@ -15,7 +15,7 @@ use Rattle.graph.specs.Objects.{linksOf, edgeLink, isBoundary}
 use Rattle.graph.specs.Ways.{onwardOf, legsOf, exitsOf}
 use Rattle.graph.specs.Links.{Single, Joined}
 use Rattle.graph.proofs.Ways.{not-left}
-use Rattle.walks.specs.Legal.{Follows, FromStart, NoneTwice, lastOf, Walk, Route, PartAtTurnout}
+use Rattle.walks.specs.Legal.{Follows, FromStart, NoneTwice, lastObject, Walk, Route, PartAtTurnout}
 use Rattle.walks.specs.Walks.{has, each, walks, allWalks, isRoute, routesAmong, allRoutes}
 use Rattle.walks.specs.All.{Ordered, Exactly, Number, AllRoutes}
 use Rattle.walks.proofs.Listed.{each-cases, Found, found}
@@ -108,8 +108,8 @@ module _ (v : ℕ → Object) where
     walks-ordered k (start ∷ []) start (edgeLink (v start)),
   )
 
-  no-step : (from z : ℕ) (r : List ℕ) (x : ℕ) (w : List ℕ) → Follows v from ((z ∷ r) ++ (x ∷ w)) → isBoundary (v (lastOf (z ∷ r))) ≡ true → ⊥
-  unfolding Follows lastOf
+  no-step : (from z : ℕ) (r : List ℕ) (x : ℕ) (w : List ℕ) → Follows v from ((z ∷ r) ++ (x ∷ w)) → isBoundary (v (lastObject (z ∷ r))) ≡ true → ⊥
+  unfolding Follows lastObject
   no-step from z [] x w s e = not-left (v z) from x e (s .0)
   no-step from z (y ∷ r) x w s e = no-step z y r x w (s .2) e
 
@@ -124,7 +124,7 @@ module _ (v : ℕ → Object) where
 
   -- a route is no beginning of a walk
   no-extension : (start limit : ℕ) (a b : List ℕ) → Route v start limit a → Walk v start limit b → Extends a b → ⊥
-  unfolding lastOf FromStart
+  unfolding lastObject FromStart
   no-extension start limit a b h w e = go (h .walk .rest) (h .walk .is) (w .rest) (w .is) (w .led)
     where
       go : (ra : List ℕ) → a ≡ start ∷ ra → (rb : List ℕ) → b ≡ start ∷ rb → FromStart v start rb → ⊥
@@ -132,7 +132,7 @@ module _ (v : ℕ → Object) where
       go (y ∷ ra) p rb q f =
           let same : rb ≡ (y ∷ ra) ++ (e .x ∷ e .after) = tail-eq-of-cons-eq (sym q ∙ e .is ∙ ap (λ (l : List ℕ). l ++ (e .x ∷ e .after)) p) in
           let fs = subst (λ (l : List ℕ). FromStart v start l) same f in
-          no-step start y ra (e .x) (e .after) (fs .2) (ap (λ (l : List ℕ). isBoundary (v (lastOf l))) (sym p) ∙ h .ends)
+          no-step start y ra (e .x) (e .after) (fs .2) (ap (λ (l : List ℕ). isBoundary (v (lastObject l))) (sym p) ∙ h .ends)
 
 module _ (v : ℕ → Object) (Good : ℕ → Type 0) (joined : Joined v Good) (start limit : ℕ) (good : Good start) where
   good-end : (a : List ℕ) → Walk v start limit a → (front end : List ℕ) → a ≡ front ++ end → (x : ℕ) → List·Memᴰ x end → Good x

@@ -13,7 +13,7 @@ use borrow.Author.Tests.{ne-eqb, eqb-false, ltb-true, lt-ltb}
 use Rattle.graph.specs.declared.Object.{Object}
 use Rattle.graph.specs.Objects.{edgeLink, isBoundary}
 use Rattle.graph.specs.Links.{Joined}
-use Rattle.walks.specs.Legal.{FromStart, NoneTwice, lastOf, Walk, Route}
+use Rattle.walks.specs.Legal.{FromStart, NoneTwice, lastObject, Walk, Route}
 use Rattle.walks.specs.Walks.{has, walks, allWalks, isRoute, routesAmong, allRoutes}
 use Rattle.verdict.proofs.Orders.{and-true, neither}
 use Rattle.walks.proofs.Paths.{fresh-distinct, distinct-fresh}
@@ -96,7 +96,7 @@ module _ (v : ℕ → Object) (Good : ℕ → Type 0) (joined : Joined v Good) (
   unfolding isRoute
   routes-sound w m =
       let r = route-cases v (allWalks v start limit) w m in
-      let a = and-true (ltb 1 (length w)) (isBoundary (v (lastOf w))) (r .1) in
+      let a = and-true (ltb 1 (length w)) (isBoundary (v (lastObject w))) (r .1) in
       record { walk = walks-sound w (r .0); two = ltb-true 1 (length w) (a .0); ends = a .1 }
 
   -- THEOREM: a route is listed

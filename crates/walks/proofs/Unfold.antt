@@ -15,7 +15,7 @@ use Rattle.graph.specs.declared.Object.{Object}
 use Rattle.graph.specs.declared.Object.the-variants.{Boundary, Plain, Turnout, Nothing}
 use Rattle.graph.specs.Objects.{isBoundary}
 use Rattle.graph.specs.Ways.{onwardOf, legsOf, exitsOf}
-use Rattle.walks.specs.Legal.{lastOf}
+use Rattle.walks.specs.Legal.{lastObject}
 use Rattle.walks.specs.Walks.{has, each, walks, branches, isRoute}
 
 module _ (v : ℕ → Object) (p : List ℕ) (from to : ℕ) where
@@ -68,8 +68,8 @@ module _ (v : ℕ → Object) (p : List ℕ) (k from at : ℕ) (t : TurnoutLinks
   unfolding each legsOf branches
   turnout-front e = rw (ne-eqb (t .front) from e, branches, each, legsOf) (append-nil (walks v k p at (t .front)))
 
-last-snoc : (p : List ℕ) (x : ℕ) → lastOf (p ++ (x ∷ [])) ≡ x
-unfolding lastOf
+last-snoc : (p : List ℕ) (x : ℕ) → lastObject (p ++ (x ∷ [])) ≡ x
+unfolding lastObject
 last-snoc [] x = refl
 last-snoc (a ∷ []) x = refl
 last-snoc (a ∷ b ∷ p) x = last-snoc (b ∷ p) x

@@ -29,10 +29,10 @@ NoneTwice [] = Unit {0}
 NoneTwice (a ∷ w) = (¬ List·Memᴰ a w) × NoneTwice w
 
 -- the last of a list
-unfoldable pub lastOf : List ℕ → ℕ
-lastOf [] = 0
-lastOf (x ∷ []) = x
-lastOf (x ∷ y ∷ l) = lastOf (y ∷ l)
+unfoldable pub lastObject : List ℕ → ℕ
+lastObject [] = 0
+lastObject (x ∷ []) = x
+lastObject (x ∷ y ∷ l) = lastObject (y ∷ l)
 
 -- w is a partial walk from the boundary `start`
 pub record Walk (v : ℕ → Object) (start limit : ℕ) (w : List ℕ) : Type 0 where
@@ -49,7 +49,7 @@ pub record Walk (v : ℕ → Object) (start limit : ℕ) (w : List ℕ) : Type 0
 pub record Route (v : ℕ → Object) (start limit : ℕ) (w : List ℕ) : Type 0 where
   pub walk : Walk v start limit w
   pub two : 2 ≤ length w
-  pub ends : isBoundary (v (lastOf w)) ≡ true
+  pub ends : isBoundary (v (lastObject w)) ≡ true
 
 -- a and b part at the turnout `at`: they are the same up to it, and a leaves it by normal and b by reverse
 pub record PartAtTurnout (v : ℕ → Object) (a b : List ℕ) : Type 0 where

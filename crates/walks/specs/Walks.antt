@@ -10,7 +10,7 @@ use Rattle.graph.specs.declared.TurnoutLinks.{TurnoutLinks}
 use Rattle.graph.specs.declared.Object.{Object}
 use Rattle.graph.specs.Objects.{edgeLink, isBoundary}
 use Rattle.graph.specs.Ways.{legsOf, exitsOf}
-use Rattle.walks.specs.Legal.{lastOf}
+use Rattle.walks.specs.Legal.{lastObject}
 
 -- whether x stands in the list
 unfoldable pub has : List ℕ → ℕ → Bool
@@ -38,7 +38,7 @@ allWalks v start (suc k) = (start ∷ []) ∷ walks v k (start ∷ []) start (ed
 
 -- whether a walk is a route
 unfoldable pub isRoute : (ℕ → Object) → List ℕ → Bool
-isRoute v w = ltb 1 (length w) && isBoundary (v (lastOf w))
+isRoute v w = ltb 1 (length w) && isBoundary (v (lastObject w))
 
 -- the routes among some walks
 unfoldable pub routesAmong : (ℕ → Object) → List (List ℕ) → List (List ℕ)

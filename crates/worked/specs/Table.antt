@@ -15,7 +15,7 @@ use Rattle.graph.specs.declared.Object.{Object}
 use Rattle.graph.specs.Objects.{viewAt, objectAt}
 use Rattle.graph.specs.Ways.{onwardOf, legsOf, exitsOf}
 use Rattle.walks.specs.declared.Tally.{Tally}
-use Rattle.walks.specs.Legal.{lastOf}
+use Rattle.walks.specs.Legal.{lastObject}
 use Rattle.walks.specs.Walks.{has, each, walks, allWalks, isRoute, routesAmong, allRoutes, wordsOf}
 use Rattle.routes.specs.Answered.{tallyOf}
 
@@ -82,5 +82,5 @@ table =
 
 -- THEOREM: every case of the table holds.
 pub worked : All table
-unfolding checksumOf checksumFrom byteStep bitSteps bitStep step numAt signed signedAt coordinateOf exactOf nearestOf layoutOf groupsFrom nextStart groupEnd groupEnds kindAt viewAt objectAt onwardOf legsOf exitsOf lastOf has each walks allWalks isRoute routesAmong wordsOf tallyOf
+unfolding checksumOf checksumFrom byteStep bitSteps bitStep step numAt signed signedAt coordinateOf exactOf nearestOf layoutOf groupsFrom nextStart groupEnd groupEnds kindAt viewAt objectAt onwardOf legsOf exitsOf lastObject has each walks allWalks isRoute routesAmong wordsOf tallyOf
 worked = (refl, (refl, (refl, (refl, (refl, (refl, (refl, (refl, (refl, ((refl, refl), ((refl, refl), ((refl, refl), tt))))))))))))

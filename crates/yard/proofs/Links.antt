@@ -14,7 +14,7 @@ use Rattle.layout.specs.Records.{kindAt, starts}
 use Rattle.layout.specs.inner.Regions.{Regions}
 use Rattle.layout.proofs.Starts.{start-least}
 use Rattle.links.specs.Obeys.{Linkable, Target, LinksTo, Distinct, TargetsObey, ReturnsObey}
-use Rattle.graph.specs.Objects.{viewAt, objectAt, linksOf, isBoundary, offsetMost, boundaryAt}
+use Rattle.graph.specs.Objects.{viewAt, objectAt, linksOf, isBoundary, offsetMost, boundaryStarts}
 use Rattle.graph.specs.Links.{Single, Joined}
 use Rattle.graph.proofs.Places.{links-are, boundary-iff}
 
@@ -62,6 +62,6 @@ module _ (f : List ℕ) (l : Layout) (r : Regions f l) (t : TargetsObey f l) (u 
   may-boundary kind.Siding x e = absurd (true≢false (sym e))
 
   -- THEOREM: a boundary is such a place
-  pub boundary-place : l .end ≤ offsetMost → (x : ℕ) → boundaryAt l x ≡ true → Target f l x
+  pub boundary-place : l .end ≤ offsetMost → (x : ℕ) → boundaryStarts l x ≡ true → Target f l x
   unfolding objectAt
   boundary-place small x e = let h = boundary-iff f l x r small .0 e in record { record-there = h .0; may = may-boundary (kindAt l x) x (h .1) }

@@ -27,7 +27,7 @@ use Rattle.application.specs.Obeys.{Obeys}
 use Rattle.application.proofs.Questions.{verdict-obeys}
 use Rattle.graph.specs.declared.Object.{Object}
 use Rattle.graph.specs.Links.{Joined}
-use Rattle.graph.specs.Objects.{objectAt, boundaryAt, offsetMost}
+use Rattle.graph.specs.Objects.{objectAt, boundaryStarts, offsetMost}
 use Rattle.walks.specs.declared.Tally.{Tally}
 use Rattle.walks.specs.Legal.{Walk, Route}
 use Rattle.walks.specs.Walks.{wordsOf}
@@ -52,7 +52,7 @@ keeps :
     (w : Verdict) (f : List ℕ) (start limit budget : ℕ) (out : List ℕ) (u : Fault) → afterVerdict Refused w (answerIn f (layoutOf f) start limit budget (roomOf out)) ≡ Refused u
     → afterVerdict (λ (t : Fault). out) w (leftIn f (layoutOf f) start limit budget out) ≡ out
 keeps (verdict.Refused t) f start limit budget out u e = refl
-keeps verdict.Accepted f start limit budget out u e = kept (objectAt f (layoutOf f)) (boundaryAt (layoutOf f) start) start limit budget out u e
+keeps verdict.Accepted f start limit budget out u e = kept (objectAt f (layoutOf f)) (boundaryStarts (layoutOf f) start) start limit budget out u e
 
 -- THEOREM: a refusal leaves every byte lent as it was
 pub refused-keeps : (f : List ℕ) (start limit budget : ℕ) (out : List ℕ) (u : Fault) → routesAsked f start limit budget (roomOf out) ≡ Refused u → leftAsked f start limit budget out ≡ out
@@ -72,7 +72,7 @@ module _ (f : List ℕ) (e : verdictOf f ≡ verdict.Accepted) where
   linked : Joined (objectAt f (layoutOf f)) (Target f (layoutOf f))
   linked = joined f (layoutOf f) whole (obeys .targets) (obeys .returns)
 
-  place : (x : ℕ) → boundaryAt (layoutOf f) x ≡ true → Target f (layoutOf f) x
+  place : (x : ℕ) → boundaryStarts (layoutOf f) x ≡ true → Target f (layoutOf f) x
   place x b = boundary-place f (layoutOf f) whole (obeys .targets) (obeys .returns) small x b
 
   asked-is : (start limit budget room : ℕ) → routesAsked f start limit budget room ≡ answerIn f (layoutOf f) start limit budget room
@@ -88,36 +88,36 @@ module _ (f : List ℕ) (e : verdictOf f ≡ verdict.Accepted) where
       → Listing (objectAt f (layoutOf f)) start (limitOf limit) budget t out (leftAsked f start limit budget out)
   listed start limit budget out t q =
       let a = sym (asked-is start limit budget (roomOf out)) ∙ q in
-      let b = from-boundary (objectAt f (layoutOf f)) (boundaryAt (layoutOf f) start) start limit budget (roomOf out) (Listed t) a (λ z. omega arith) in
+      let b = from-boundary (objectAt f (layoutOf f)) (boundaryStarts (layoutOf f) start) start limit budget (roomOf out) (Listed t) a (λ z. omega arith) in
       subst⁻¹ (Listing (objectAt f (layoutOf f)) start (limitOf limit) budget t out) (left-is start limit budget out)
-      (listing (objectAt f (layoutOf f)) (Target f (layoutOf f)) linked start (place start b) (boundaryAt (layoutOf f) start) limit budget out t a)
+      (listing (objectAt f (layoutOf f)) (Target f (layoutOf f)) linked start (place start b) (boundaryStarts (layoutOf f) start) limit budget out t a)
 
   -- THEOREM: 13 exactly where the question is not in range
-  pub out-of-range-iff : (start limit budget room : ℕ) → (routesAsked f start limit budget room ≡ refusedFor Question) ↔ (¬ Within (boundaryAt (layoutOf f) start) (limitOf limit) budget)
+  pub out-of-range-iff : (start limit budget room : ℕ) → (routesAsked f start limit budget room ≡ refusedFor Question) ↔ (¬ Within (boundaryStarts (layoutOf f) start) (limitOf limit) budget)
   out-of-range-iff start limit budget room =
-      rw (asked-is start limit budget room) (question-iff (objectAt f (layoutOf f)) (boundaryAt (layoutOf f) start) start limit budget room)
+      rw (asked-is start limit budget room) (question-iff (objectAt f (layoutOf f)) (boundaryStarts (layoutOf f) start) start limit budget room)
 
   -- a refusal that is answered from a boundary alone, exactly where B holds
-  from-start : (start limit budget room : ℕ) (u : Reason) (B : Type 0) → ¬ (numberOf u ≡ 13) → (B → boundaryAt (layoutOf f) start ≡ true)
-      → (boundaryAt (layoutOf f) start ≡ true → (answerIn f (layoutOf f) start limit budget room ≡ refusedFor u) ↔ B)
+  from-start : (start limit budget room : ℕ) (u : Reason) (B : Type 0) → ¬ (numberOf u ≡ 13) → (B → boundaryStarts (layoutOf f) start ≡ true)
+      → (boundaryStarts (layoutOf f) start ≡ true → (answerIn f (layoutOf f) start limit budget room ≡ refusedFor u) ↔ B)
       → (routesAsked f start limit budget room ≡ refusedFor u) ↔ B
   from-start start limit budget room u B n b h =
       rw (asked-is start limit budget room) (
-        (λ e. h (from-boundary (objectAt f (layoutOf f)) (boundaryAt (layoutOf f) start) start limit budget room (refusedFor u) e n) .0 e),
+        (λ e. h (from-boundary (objectAt f (layoutOf f)) (boundaryStarts (layoutOf f) start) start limit budget room (refusedFor u) e n) .0 e),
         (λ p. h (b p) .1 p),
       )
 
   module _ (start limit budget room n : ℕ) (number : Number (Walk (objectAt f (layoutOf f)) start (limitOf limit)) n) where
     -- THEOREM: 14 exactly where the question is in range and the legal partial walks outnumber the budget
-    pub too-many-iff : (routesAsked f start limit budget room ≡ refusedFor Steps) ↔ (Within (boundaryAt (layoutOf f) start) (limitOf limit) budget × (budget < n))
+    pub too-many-iff : (routesAsked f start limit budget room ≡ refusedFor Steps) ↔ (Within (boundaryStarts (layoutOf f) start) (limitOf limit) budget × (budget < n))
     too-many-iff =
-        from-start start limit budget room Steps (Within (boundaryAt (layoutOf f) start) (limitOf limit) budget × (budget < n)) (λ z. omega arith) (λ p. p .0 .boundary)
-        (λ b. steps-iff (objectAt f (layoutOf f)) (Target f (layoutOf f)) linked start (place start b) (boundaryAt (layoutOf f) start) limit budget room n number)
+        from-start start limit budget room Steps (Within (boundaryStarts (layoutOf f) start) (limitOf limit) budget × (budget < n)) (λ z. omega arith) (λ p. p .0 .boundary)
+        (λ b. steps-iff (objectAt f (layoutOf f)) (Target f (layoutOf f)) linked start (place start b) (boundaryStarts (layoutOf f) start) limit budget room n number)
 
     -- THEOREM: 15 exactly where the question is in range, the legal partial walks are at most the budget, and the words of all legal routes are
     -- more than find room
     pub no-room-iff : (routes : List (List ℕ)) → Exactly (Route (objectAt f (layoutOf f)) start (limitOf limit)) routes
-        → (routesAsked f start limit budget room ≡ refusedFor Room) ↔ (Within (boundaryAt (layoutOf f) start) (limitOf limit) budget × (n ≤ budget) × (room < length (wordsOf routes)))
+        → (routesAsked f start limit budget room ≡ refusedFor Room) ↔ (Within (boundaryStarts (layoutOf f) start) (limitOf limit) budget × (n ≤ budget) × (room < length (wordsOf routes)))
     no-room-iff routes exactly =
-        from-start start limit budget room Room (Within (boundaryAt (layoutOf f) start) (limitOf limit) budget × (n ≤ budget) × (room < length (wordsOf routes))) (λ z. omega arith) (λ p. p .0 .boundary)
-        (λ b. room-iff (objectAt f (layoutOf f)) (Target f (layoutOf f)) linked start (place start b) (boundaryAt (layoutOf f) start) limit budget room n number routes exactly)
+        from-start start limit budget room Room (Within (boundaryStarts (layoutOf f) start) (limitOf limit) budget × (n ≤ budget) × (room < length (wordsOf routes))) (λ z. omega arith) (λ p. p .0 .boundary)
+        (λ b. room-iff (objectAt f (layoutOf f)) (Target f (layoutOf f)) linked start (place start b) (boundaryStarts (layoutOf f) start) limit budget room n number routes exactly)

@@ -5,7 +5,7 @@ use mathlib.Core.Path.{_≡_, refl, _∙_}
 use native.Mathlib.Omega.{arith}
 use lib.ListN.{length, drop}
 use lib.Seq.{sets}
-use Rattle.exports.specs.Words.{valueSize, bytesOf}
+use Rattle.exports.specs.Words.{valueSize, laidBytes}
 use Rattle.exports.proofs.Laid.{lay-length, lay-more, lay-stop}
 use borrow.Author.Needs.{needs}
 use Rattle.exports.proofs.words.lay.Statement.{statement}
@@ -13,7 +13,7 @@ use Rattle.exports.proofs.words.lay.Tie as tie
 
 abbrev Inv-loop : tie.InvT-loop
 Inv-loop words out₀ i₀ out i =
-    (i ≤ length words) × (length out ≡ length out₀) × (sets out (valueSize * i) (bytesOf (drop i words)) ≡ sets out₀ 0 (bytesOf words))
+    (i ≤ length words) × (length out ≡ length out₀) × (sets out (valueSize * i) (laidBytes (drop i words)) ≡ sets out₀ 0 (laidBytes words))
 
 abbrev μ-loop : tie.MeasureT-loop
 μ-loop words out₀ i₀ out i = length words - i

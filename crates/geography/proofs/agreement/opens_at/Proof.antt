@@ -3,7 +3,7 @@
 use Prim.Native.Nat.{_+_}
 use mathlib.Core.Path.{_≡_, _∙_}
 use native.Mathlib.Omega.{arith}
-use Rattle.tables.specs.Table.{placeIn}
+use Rattle.tables.specs.Table.{fieldPlace}
 use Rattle.tracks.specs.Rows.{near}
 use borrow.Author.Needs.{needs}
 use Rattle.geography.proofs.agreement.opens_at.Statement.{statement}
@@ -13,7 +13,7 @@ returns : tie.Need-returns
 returns c =
     let a = c .before .before .before .before .before .before .args in
     let n = c .before .place-of .ensures in
-    let second : c .before .place-of .result + a .size ≡ placeIn (a .p + a .size) near = omega arith in
+    let second : c .before .place-of .result + a .size ≡ fieldPlace (a .p + a .size) near = omega arith in
     simp (c .is-same .ensures, second, c .before .before .is-zero3 .ensures, c .before .before .before .is-zero2 .ensures, c .before .before .before .before .is-zero .ensures)
 
 pub opens-at-spec : {M : Type 1} → statement M
