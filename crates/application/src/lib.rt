@@ -74,7 +74,7 @@ fn check_records(f: &[u8], l: Layout) -> Judged
     check_returns(Judged::Accepted, f, l)
 }
 
-// The verdict of the layout.
+// The verdict of the layout. The arm of one that was found is never reached; it stands because an `else` cannot bind the mark.
 fn laid(s: Shape) -> Judged
     ensures { λ r. ⌜ r ≡ judgedAs s ⌝ }
 {

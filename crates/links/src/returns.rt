@@ -76,10 +76,10 @@ fn link_returns(v: Judged, f: &[u8], l: Layout, at: u32, links: Links) -> Judged
         Links::One(p) => back_fact(v, f, l, at, p),
         Links::Two(p, q) => two_returns(v, f, l, at, p, q),
         Links::Three(p, q, r) => {
-            let w = two_returns(v, f, l, at, p, q);
-            let u = back_fact(w, f, l, at, r);
-            let t = distinct_fact(u, f, at, r, p);
-            distinct_fact(t, f, at, r, q)
+            let mut w = two_returns(v, f, l, at, p, q);
+            w = back_fact(w, f, l, at, r);
+            w = distinct_fact(w, f, at, r, p);
+            distinct_fact(w, f, at, r, q)
         }
     }
 }

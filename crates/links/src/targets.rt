@@ -83,9 +83,9 @@ fn link_targets(
             target_fact(w, f, l, marks, at, q)
         }
         Links::Three(p, q, r) => {
-            let w = target_fact(v, f, l, marks, at, p);
-            let u = target_fact(w, f, l, marks, at, q);
-            target_fact(u, f, l, marks, at, r)
+            let mut w = target_fact(v, f, l, marks, at, p);
+            w = target_fact(w, f, l, marks, at, q);
+            target_fact(w, f, l, marks, at, r)
         }
     }
 }
