@@ -1,21 +1,18 @@
 -- The ways out of the questions 'header' and 'record at an offset'.
 -- Assumes nothing.
 use Prim.Native.Nat.{ℕ, _≤_, _<_}
-use mathlib.Core.Path.{_≡_, _∙_, refl, sym, ap, subst⁻¹}
+use mathlib.Core.Path.{_≡_, _∙_, sym, ap, subst⁻¹}
 use mathlib.Core.Bool.{Bool, true, false}
 use mathlib.Core.List.{List}
 use mathlib.Core.Logic.{_↔_}
 use native.Mathlib.Omega.{arith}
 use Rattle.verdict.specs.declared.Fault.{Fault}
-use Rattle.verdict.specs.declared.Judged.{Judged}
-use Rattle.verdict.specs.declared.Judged.the-variants as judged
 use Rattle.verdict.specs.declared.Verdict.{Verdict}
 use Rattle.verdict.specs.declared.Verdict.the-variants as verdict
 use Rattle.verdict.specs.declared.Reason.the-variants.{Question}
 use Rattle.verdict.specs.Answers.{refusal, afterVerdict}
 use Rattle.verdict.proofs.Questions.{fault-is, no-fault, accepted-by, shown-accepted}
 use Rattle.verdict.specs.Facts.{test}
-use Rattle.verdict.specs.Reasons.{shownOf}
 use Rattle.names.specs.Names.{byteAfter, stationNameLength}
 use Rattle.names.proofs.Names.{station-name-count, station-name-ends}
 use Rattle.seal.specs.declared.Header.{Header}

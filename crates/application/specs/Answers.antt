@@ -1,11 +1,11 @@
 -- Each answer on an X.2 file as the one shape of answers (crate verdict): the values in the order in which they are printed, or the fault.
 -- Assumes nothing.
+use Rattle.records.specs.declared.Record.{Record as Decoded}
 use Prim.Native.Nat.{ℕ, zero, suc}
 use mathlib.Core.List.{List, [], _∷_, _++_}
 use lib.IntN.{ℤ, pos}
 use Rattle.verdict.specs.Answers.{Answer, answered, refused}
 use Rattle.seal.specs.Header.{headerValues}
-use Rattle.records.specs.declared.Record.{Record as Decoded}
 use Rattle.records.specs.declared.Record.the-variants as is
 use Rattle.records.specs.declared.boundaries.Boundary.{Boundary}
 use Rattle.records.specs.Tables.{directionNumber, natureNumber, groupDirectionNumber, facingNumber, dutyNumber}

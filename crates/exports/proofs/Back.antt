@@ -10,7 +10,7 @@ use lib.IntN.{ℤ, pos, negsuc}
 use lib.ListN.{length, getD, length-map}
 use lib.Seq.{getD-append-add}
 use lib.Signed.{mag}
-use Rattle.octets.specs.Octets.{numAt, signed, signedAt, halfOf}
+use Rattle.octets.specs.Octets.{numAt, signed, halfOf}
 use Rattle.octets.proofs.Signs.{low, high}
 use Rattle.verdict.specs.Answers.{Answer, answerValues}
 use Rattle.survey.specs.declared.answers.HeaderAnswer.{HeaderAnswer}

@@ -3,32 +3,31 @@
 -- Assumes nothing.
 use Prim.Native.Nat.{ℕ, suc, zero, _+_, _-_, _*_, _/_, _%_, _≤_, _<_}
 use mathlib.Core.Path.{_≡_, refl, sym, ap, subst, _∙_}
-use mathlib.Core.Bool.{Bool, true, false, cond}
-use mathlib.Core.Logic.{_⊎_, ⊎-elim, _↔_}
-use mathlib.Core.List.{List, [], _∷_, _++_, flatMap, List·Memᴰ}
+use mathlib.Core.Bool.{cond}
+use mathlib.Core.Logic.{_↔_}
+use mathlib.Core.List.{List, [], _++_, flatMap, List·Memᴰ}
 use lib.Dec.{ltb, eqb}
-use lib.ListN.{length, take}
 use lib.IntN.{ℤ, pos, negsuc, natAbs, _+ℤ_, _-ℤ_, -ℤ-+ℤ-cancel, +ℤ-idl, +ℤ-invr}
 use native.Mathlib.Nat.{mul-zero, mul-suc, div-add-mod, mul-mod-right, mul-le-mul-left, lt-of-mul-lt-mul-left}
 use native.Mathlib.Omega.{arith}
 use borrow.Author.Tests.{lt-ltb, le-ltb, eq-eqb, ne-eqb}
 use native.Mathlib.Decide.{ℕ-discrete}
-use Rattle.octets.specs.Octets.{numAt, signedAt}
+use Rattle.octets.specs.Octets.{numAt}
 use Rattle.seal.specs.Seal.{sealFacts}
-use Rattle.verdict.specs.Facts.{Fact, AllHold, Holds, firstFault}
+use Rattle.verdict.specs.Facts.{Fact, AllHold}
 use Rattle.verdict.specs.declared.Judged.the-variants.{Accepted}
 use Rattle.verdict.proofs.Facts.{accepted-iff, all-append, all-each}
-use Rattle.verdict.proofs.Steps.{Stands, fixed-iff}
+use Rattle.verdict.proofs.Steps.{fixed-iff}
 use Rattle.tables.specs.Table.{fieldPlace, valueOf, signedOf}
 use Rattle.tables.specs.Rows.{TableObeys}
 use Rattle.tables.proofs.Rows.{table-iff}
 use Rattle.tracks.specs.Places as place
 use Rattle.tracks.specs.Rows as rows
-use Rattle.geography.specs.Layout.{endOf, countOf, pointsAt, entries, firstOf, lastOf, isFirst, stopBefore, dueAt, entryLayout, countLayout, stopLayout, layoutFacts}
+use Rattle.geography.specs.Layout.{endOf, countOf, pointsAt, entries, firstOf, lastOf, stopBefore, dueAt, entryLayout, countLayout, stopLayout, layoutFacts}
 use Rattle.geography.specs.Fields.{headerFields, entryFields, pointFields, allPoints, fieldFacts}
 use Rattle.geography.specs.Agreement.{sumOf, numberAgrees, opens, rises, stays, closes, pointAgrees, pointsOf, trackAgrees, agreementFacts}
 use Rattle.geography.specs.Facts.{fileType, checkFacts, facts, judgedOf}
-use Rattle.geography.specs.Obeys.{Between, Within, entryPlace, pointPlace, LayoutObeys, EntryObeys, PointObeys, FieldsObey, TrackAgrees, AgreementObeys, Obeys}
+use Rattle.geography.specs.Obeys.{entryPlace, pointPlace, LayoutObeys, EntryObeys, PointObeys, FieldsObey, TrackAgrees, AgreementObeys, Obeys}
 
 -- ---- two signed numbers that are 0 apart
 

@@ -29,7 +29,6 @@ use tracks::LONGITUDE_MOST;
 use tracks::Point;
 use tracks::Track;
 use verdict::Judged;
-use verdict::Mark;
 use verdict::Reason;
 use verdict::Rule;
 use verdict::also_fact;

@@ -1,10 +1,10 @@
 -- The facts of checks 8 and 9 hold exactly where the links obey: record by record, and link by link in field order.
 -- Assumes nothing.
 use Prim.Native.Nat.{ℕ, _+_}
-use mathlib.Core.Path.{_≡_, refl, sym, subst, _∙_}
+use mathlib.Core.Path.{_≡_, refl, sym, subst}
 use mathlib.Core.Logic.{_⊎_, ⊎-elim, _↔_}
-use mathlib.Core.List.{List, [], _∷_, _++_, flatMap, List·Memᴰ, List·Memᴰ·head, List·Memᴰ·tail, List·Memᴰ·not-nil, List·Memᴰ·cases-cons, List·Memᴰ·append-cases, Memᴰ·append-left, Memᴰ·append-right, List·Memᴰ·eq-of-singleton}
-use Rattle.verdict.specs.Facts.{Holds, Fact, AllHold}
+use mathlib.Core.List.{List, [], _∷_, _++_, List·Memᴰ, List·Memᴰ·head, List·Memᴰ·tail, List·Memᴰ·not-nil, List·Memᴰ·cases-cons, List·Memᴰ·append-cases, Memᴰ·append-left, Memᴰ·append-right, List·Memᴰ·eq-of-singleton}
+use Rattle.verdict.specs.Facts.{Holds, AllHold}
 use Rattle.verdict.proofs.Facts.{all-append, all-each}
 use Rattle.verdict.proofs.Orders.{unless}
 use Rattle.records.specs.declared.Kind.{Kind}
@@ -12,7 +12,7 @@ use Rattle.records.specs.declared.Kind.the-variants as kind
 use Rattle.records.specs.Records.{linkPlaces}
 use Rattle.layout.specs.declared.Layout.{Layout}
 use Rattle.layout.specs.Records.{kindAt, starts}
-use Rattle.links.specs.Links.{linkAt, linkable, named, isTarget, target, targets, linked, recordTargets, targetFacts, linksTo, back, distinct, distinctFrom, returns, recordReturns, returnFacts}
+use Rattle.links.specs.Links.{linkAt, linkable, isTarget, targets, linked, recordTargets, targetFacts, linksTo, distinctFrom, returns, recordReturns, returnFacts}
 use Rattle.links.specs.Obeys.{Linkable, Target, LinksTo, HasLink, Distinct, TargetsObey, ReturnsObey}
 
 linkable-iff : (f : List ℕ) (k : Kind) (at : ℕ) → Holds (linkable f k at) ↔ Linkable f k at

@@ -2,15 +2,12 @@
 -- numbers strictly rise and so no two tracks have one number.
 -- Assumes nothing.
 use Prim.Native.Nat.{ℕ, _<_}
-use mathlib.Core.Path.{_≡_, refl, ap}
+use mathlib.Core.Path.{_≡_, ap}
 use mathlib.Core.Logic.{_↔_}
 use mathlib.Core.List.{List}
 use native.Mathlib.Omega.{arith}
 use borrow.Author.Tests.{eq-eqb, ne-eqb, eqb-true, eqb-false}
-use Rattle.verdict.specs.declared.Judged.{Judged}
-use Rattle.verdict.specs.declared.Judged.the-variants as judged
 use Rattle.verdict.specs.declared.Verdict.the-variants as verdict
-use Rattle.verdict.specs.Reasons.{shownOf}
 use Rattle.tracks.specs.Places as place
 use Rattle.geography.specs.Layout.{countOf, pointsAt, entries}
 use Rattle.geography.specs.Facts.{judgedOf, verdictOf}

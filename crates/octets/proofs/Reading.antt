@@ -7,7 +7,6 @@ use Prim.Native.Nat.{ℕ, zero, suc, _+_, _*_, _^_, _≤_, _<_}
 use native.Mathlib.Nat.{pow-suc}
 use native.Mathlib.Omega.{arith}
 use lib.ListN.{getD, length, List·getD-eq-default}
-use lib.Pow.{pow-pos}
 use Rattle.octets.specs.declared.Width.{Width}
 use Rattle.octets.specs.Octets.{bytesOf, numAt, Is}
 

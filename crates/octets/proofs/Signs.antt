@@ -4,7 +4,7 @@ use mathlib.Core.Path.{_≡_, refl, sym, ap, ap₂, _∙_, subst}
 use mathlib.Core.List.{List}
 use mathlib.Core.Bool.{true, false}
 use mathlib.Core.Logic.{⊎-elim}
-use Prim.Native.Nat.{ℕ, zero, suc, _+_, _-_, _*_, _^_, _≤_, _<_}
+use Prim.Native.Nat.{ℕ, zero, suc, _+_, _-_, _^_, _≤_, _<_}
 use native.Mathlib.Omega.{arith}
 use lib.IntN.{ℤ, pos, negsuc, _-ℤ_, natAbs}
 use borrow.Author.Tests.{lt-ltb, le-ltb}
@@ -16,7 +16,7 @@ use lib.Signed.{mag, leZ, nonNeg}
 use Rattle.verdict.proofs.Orders.{le-or-lt}
 use Rattle.octets.specs.declared.Width.{Width}
 use Rattle.octets.specs.declared.Width.the-variants.{One, Two, Three, Four}
-use Rattle.octets.specs.Octets.{bytesOf, halfOf, signed, signedAt, numAt, Is, IsSigned}
+use Rattle.octets.specs.Octets.{bytesOf, halfOf, signed, signedAt, Is, IsSigned}
 
 less-one : (m : ℕ) → negsuc 0 -ℤ pos m ≡ negsuc m
 less-one zero = refl

@@ -3,11 +3,10 @@
 -- A case is read from a number: `..Bits` says which bits of the byte it is, `..Of` which case it gives, and `..Number` which number the
 -- table gives each case. A number that the table does not have counts as its last one.
 -- Assumes nothing.
-use Prim.Native.Nat.{ℕ, _+_, _/_, _%_}
+use Prim.Native.Nat.{ℕ, _+_}
 use mathlib.Core.Bool.{cond}
 use mathlib.Core.List.{List}
 use lib.Dec.{eqb}
-use Rattle.octets.specs.Octets.{numAt}
 use Rattle.records.specs.declared.boundaries.Boundary.{Boundary}
 use Rattle.records.specs.declared.turnouts.Direction.{Direction}
 use Rattle.records.specs.declared.turnouts.Direction.the-variants.{Decreasing, Increasing}

@@ -1,7 +1,7 @@
 -- The constructors of facts that both files have: one for each shape of rule, one relation each. `start` is where the record starts and
 -- `place` the byte place that a refusal reports. The claim of each is what its mark says (`says`).
 -- Assumes nothing.
-use Prim.Native.Nat.{ℕ, suc, _+_, _/_, _%_, _≤_}
+use Prim.Native.Nat.{ℕ, suc, _/_, _%_, _≤_}
 use mathlib.Core.List.{List}
 use lib.ListN.{length}
 use lib.IntN.{natAbs}
@@ -9,7 +9,7 @@ use Rattle.octets.specs.declared.Width.{Width}
 use Rattle.octets.specs.Octets.{bytesOf, numAt, signedAt}
 use Rattle.verdict.specs.declared.Mark.{Mark}
 use Rattle.verdict.specs.declared.Reason.{Reason}
-use Rattle.verdict.specs.declared.Reason.the-variants.{Length, Layout, Field, Agreement}
+use Rattle.verdict.specs.declared.Reason.the-variants.{Length, Layout, Agreement}
 use Rattle.verdict.specs.declared.Rule.{Rule}
 use Rattle.verdict.specs.declared.Rule.the-variants as rule
 use Rattle.verdict.specs.Facts.{Claim, same, atMost, both, either, Fact, fact}

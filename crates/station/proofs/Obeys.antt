@@ -3,21 +3,18 @@
 use Prim.Native.Nat.{ℕ, _+_, _≤_}
 use mathlib.Core.Path.{_≡_, refl, sym, ap, subst, _∙_}
 use mathlib.Core.Logic.{⊎-elim, _↔_}
-use mathlib.Core.List.{List, [], _∷_, _++_, flatMap, List·Memᴰ, List·Memᴰ·head, List·Memᴰ·tail, List·Memᴰ·not-nil, List·Memᴰ·cases-cons}
+use mathlib.Core.List.{List, [], _∷_, List·Memᴰ, List·Memᴰ·head, List·Memᴰ·tail, List·Memᴰ·not-nil, List·Memᴰ·cases-cons}
 use native.Mathlib.Omega.{arith}
 use Rattle.octets.specs.Octets.{numAt}
 use Rattle.verdict.specs.Facts.{AllHold, firstFault}
-use Rattle.verdict.specs.declared.Fault.{Fault}
 use Rattle.verdict.specs.declared.Judged.{Judged}
 use Rattle.verdict.specs.declared.Judged.the-variants as judged
 use Rattle.verdict.specs.declared.Verdict.{Verdict}
 use Rattle.verdict.specs.declared.Verdict.the-variants as verdict
-use Rattle.verdict.specs.declared.PairVerdict.{PairVerdict}
 use Rattle.verdict.specs.declared.PairVerdict.the-variants as pair
 use Rattle.verdict.specs.Reasons.{shownOf}
 use Rattle.verdict.proofs.Facts.{accepted-iff, all-append, all-each}
 use Rattle.geography.specs.Facts as geography
-use Rattle.geography.specs.Layout.{countOf}
 use Rattle.geography.specs.Obeys.{entryPlace, Obeys}
 use Rattle.lookup.specs.declared.Found.{Found}
 use Rattle.lookup.specs.declared.Found.the-variants.{At, Absent}

@@ -11,7 +11,6 @@ use seal::HEADER;
 use seal::STATION;
 use tables::number_of;
 use tables::place_of;
-use verdict::Fault;
 use verdict::File;
 use verdict::Judged;
 use verdict::PairVerdict;

@@ -18,7 +18,6 @@ use octets::signed_at;
 use rules::quotient;
 use rules::rest;
 use verdict::Judged;
-use verdict::Mark;
 use verdict::Reason;
 use verdict::Rule;
 use verdict::also_fact;

@@ -14,7 +14,6 @@ use Rattle.layout.specs.Records.{kindAt}
 use Rattle.graph.specs.declared.Object.{Object}
 use Rattle.graph.specs.Objects.{viewAt, objectAt}
 use Rattle.graph.specs.Ways.{onwardOf, legsOf, exitsOf}
-use Rattle.walks.specs.declared.Tally.{Tally}
 use Rattle.walks.specs.Legal.{lastObject}
 use Rattle.walks.specs.Walks.{has, each, walks, allWalks, isRoute, routesAmong, allRoutes, wordsOf}
 use Rattle.routes.specs.Answered.{tallyOf}

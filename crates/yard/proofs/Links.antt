@@ -1,8 +1,8 @@
 -- An accepted X.2 file's links, in the form that the routes need: `Target` is what a link may name.
 -- Assumes nothing.
-use Prim.Native.Nat.{ℕ, _≤_, _<_}
+use Prim.Native.Nat.{ℕ, _≤_}
 use native.Mathlib.Omega.{arith}
-use mathlib.Core.Path.{_≡_, refl, sym, subst, _∙_}
+use mathlib.Core.Path.{_≡_, sym, subst, _∙_}
 use mathlib.Core.Bool.{true, true≢false}
 use mathlib.Core.List.{List, [], _∷_, map, List·Memᴰ, Memᴰ·cast, Memᴰ·map, Memᴰ·of-map}
 use Rattle.octets.specs.Octets.{numAt}
@@ -10,10 +10,10 @@ use Rattle.records.specs.declared.Kind.{Kind}
 use Rattle.records.specs.declared.Kind.the-variants as kind
 use Rattle.records.specs.Records.{linkPlaces}
 use Rattle.layout.specs.declared.Layout.{Layout}
-use Rattle.layout.specs.Records.{kindAt, starts}
+use Rattle.layout.specs.Records.{kindAt}
 use Rattle.layout.specs.inner.Regions.{Regions}
 use Rattle.layout.proofs.Starts.{start-least}
-use Rattle.links.specs.Obeys.{Linkable, Target, LinksTo, Distinct, TargetsObey, ReturnsObey}
+use Rattle.links.specs.Obeys.{Linkable, Target, Distinct, TargetsObey, ReturnsObey}
 use Rattle.graph.specs.Objects.{viewAt, objectAt, linksOf, isBoundary, offsetMost, boundaryStarts}
 use Rattle.graph.specs.Links.{Single, Joined}
 use Rattle.graph.proofs.Places.{links-are, boundary-iff}

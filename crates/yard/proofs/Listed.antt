@@ -37,8 +37,8 @@ use Rattle.routes.specs.declared.RoutesAnswer.{RoutesAnswer}
 use Rattle.routes.specs.declared.RoutesAnswer.the-variants.{Listed, Refused}
 use Rattle.routes.specs.Answered.{limitOf, refusedFor, judged, answerAt, answerOf, answerIn, leftIn, routesAnswer}
 use Rattle.routes.specs.Listing.{Within, Listing}
-use Rattle.routes.proofs.Listing.{listing, question-iff, steps-iff, kept}
 use Rattle.routes.proofs.Listing.{no-room-iff as room-iff}
+use Rattle.routes.proofs.Listing.{listing, question-iff, steps-iff, kept}
 use Rattle.yard.specs.Routes.{routesAsked, leftAsked}
 use Rattle.yard.proofs.Links.{joined, boundary-place}
 

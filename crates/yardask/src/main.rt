@@ -1,7 +1,6 @@
 // A question about station map files that are named on the command line, answered on standard output. What is wrong with the command is
 // said in one line on standard error, with the usage, and then nothing stands on standard output. The answers are those of the library;
 // here words become questions, numbers and files.
-ghost use mathlib.Core.Path.{_≡_};
 ghost use Prim.Native.Nat.{_≤_, _<_};
 use libc::STDERR_FILENO;
 use octets::byte_at;

@@ -1,11 +1,11 @@
 -- `octets::distance` meets its contract: at or above 0 it is the number itself; below 0 it is one more than -1 - z.
 -- Assumes nothing.
-use Prim.Native.Nat.{ℕ, _+_}
-use mathlib.Core.Path.{_≡_, sym, ap, _∙_, subst⁻¹}
+use Prim.Native.Nat.{_+_}
+use mathlib.Core.Path.{ap, _∙_, subst⁻¹}
 use native.Mathlib.Omega.{arith}
 use lib.Dec.{T}
-use lib.IntN.{ℤ, pos, natAbs}
-use lib.Signed.{mag, nonNeg}
+use lib.IntN.{ℤ, natAbs}
+use lib.Signed.{nonNeg}
 use mir.Syntax.{w64}
 use mir.Val.{SFits, Fits}
 use Rattle.octets.proofs.Signs.{read, small, kept, up, down, down-read, down-distance}

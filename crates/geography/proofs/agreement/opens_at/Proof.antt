@@ -1,7 +1,7 @@
 -- `geography::agreement::opens_at` meets its contract.
 -- Assumes nothing.
 use Prim.Native.Nat.{_+_}
-use mathlib.Core.Path.{_≡_, _∙_}
+use mathlib.Core.Path.{_≡_}
 use native.Mathlib.Omega.{arith}
 use Rattle.tables.specs.Table.{fieldPlace}
 use Rattle.tracks.specs.Rows.{near}

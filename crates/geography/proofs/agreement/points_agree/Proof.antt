@@ -8,7 +8,7 @@ use native.Mathlib.Omega.{arith}
 use Rattle.verdict.specs.Facts.{judge}
 use Rattle.verdict.specs.Walk.{startsFrom}
 use Rattle.verdict.proofs.Checks.{judge-step, judge-stop}
-use Rattle.geography.specs.Layout.{firstOf, lastOf}
+use Rattle.geography.specs.Layout.{lastOf}
 use Rattle.geography.specs.Agreement.{pointAgrees, pointsOf}
 use borrow.Author.Needs.{needs}
 use Rattle.geography.proofs.agreement.points_agree.Statement.{statement}

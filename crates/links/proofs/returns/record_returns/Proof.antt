@@ -1,10 +1,10 @@
 -- `links::returns::record_returns` meets its contract.
 -- Assumes nothing.
+use Rattle.links.specs.Links.{returns as returnsOf}
 use mathlib.Core.List.{List, []}
 use Prim.Native.Nat.{ℕ}
 use Rattle.verdict.specs.Facts.{judge}
 use Rattle.records.proofs.Linked.{by-links}
-use Rattle.links.specs.Links.{returns as returnsOf}
 use borrow.Author.Needs.{needs}
 use Rattle.links.proofs.returns.record_returns.Statement.{statement}
 use Rattle.links.proofs.returns.record_returns.Tie as tie

@@ -1,6 +1,6 @@
 -- `verdict::Judged::shown` meets its contract.
 -- Assumes nothing.
-use mathlib.Core.Path.{_≡_, refl}
+use mathlib.Core.Path.{_≡_}
 use borrow.Author.Needs.{needs}
 use Rattle.verdict.specs.Reasons.{faultOf, shownOf}
 use Rattle.verdict.specs.declared.Mark.{Mark}
