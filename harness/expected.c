@@ -3,9 +3,9 @@
 
 #include <string.h>
 
-uint32_t values_size_of(uint32_t question)
+uint32_t values_size_of(uint32_t asked_for)
 {
-    switch (question) {
+    switch (asked_for) {
     case ASK_TRACK: return YARD_TRACK_SIZE;
     case ASK_POINT: return YARD_POINT_SIZE;
     case ASK_COORDINATE: return YARD_COORDINATE_SIZE;

@@ -21,7 +21,7 @@ typedef struct {
 } expected;
 
 /* How many bytes the values of an answered question take. */
-uint32_t values_size_of(uint32_t question);
+uint32_t values_size_of(uint32_t asked_for);
 
 /* The answer to a case whose outputs are as long as they need to be; the room
  * for routes is the case's own. */

@@ -167,18 +167,44 @@ static void empty_yard(yard *made)
     made->station = STATION;
 }
 
-void realistic_application(uint32_t bytes, stored *file)
+/* So many lines, on the tracks of an X.1 where one is given. */
+static void lines(uint32_t count, const stored *given, stored *file)
 {
     static yard made;
-    static stored larger;
     empty_yard(&made);
-    line(&made);
-    lay_out(&made, NULL, &larger);
-    do {
-        *file = larger;
+    for (; count > 0; count--)
         line(&made);
-        lay_out(&made, NULL, &larger);
-    } while (larger.length <= bytes);
+    lay_out(&made, given, file);
+}
+
+/* As many lines as fit; each takes as many bytes as the second. */
+static void fitting_lines(uint32_t bytes, const stored *given, stored *file)
+{
+    uint32_t one, more;
+    lines(1, given, file);
+    one = file->length;
+    lines(2, given, file);
+    more = file->length - one;
+    lines(1 + (bytes - one) / more, given, file);
+}
+
+void realistic_application(uint32_t bytes, stored *file)
+{
+    fitting_lines(bytes, NULL, file);
+}
+
+void realistic_station(uint32_t bytes, stored *files)
+{
+    realistic_geography(bytes, &files[0]);
+    fitting_lines(bytes, &files[0], &files[1]);
+}
+
+void largest_station(uint32_t bytes, stored *files)
+{
+    uint32_t bare = ind_track_place(TRACKS_MOST) + IND_CHECKSUM_SIZE;
+    geography(TRACKS_MOST, (bytes - bare) / (TRACKS_MOST * IND_POINT_SIZE),
+              &files[0]);
+    fitting_lines(bytes, &files[0], &files[1]);
 }
 
 void worst_application(uint32_t bytes, stored *file)

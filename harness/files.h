@@ -4,7 +4,7 @@
 
 #include "batch.h"
 
-/* Each is filled up to at most so many bytes. */
+/* Each file is filled up to at most so many bytes. */
 
 /* An X.1 of tracks with twenty points each. */
 void realistic_geography(uint32_t bytes, stored *file);
@@ -22,5 +22,12 @@ void worst_application(uint32_t bytes, stored *file);
 /* An X.2 of one line that parts and meets again so many times: twice as many
  * routes with each. */
 void diamonds(uint32_t count, stored *file);
+
+/* A station whose two files are an accepted pair, the X.1 first: both as
+ * above, each of at most so many bytes. */
+void realistic_station(uint32_t bytes, stored *files);
+
+/* The same with an X.1 of 255 tracks. */
+void largest_station(uint32_t bytes, stored *files);
 
 #endif

@@ -116,10 +116,10 @@ static uint64_t ask_library(const call *of, const uint8_t *const file[FILES],
     }
 }
 
-static void count_answer(figures *seen, uint32_t question, uint64_t answer)
+static void count_answer(figures *seen, uint32_t asked_for, uint64_t answer)
 {
     seen->calls++;
-    seen->answers[question][YARD_NUMBER(answer) % IND_NUMBERS]++;
+    seen->answers[asked_for][YARD_NUMBER(answer) % IND_NUMBERS]++;
 }
 
 static void tell_difference(const figures *seen, const call *of,

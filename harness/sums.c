@@ -1,10 +1,9 @@
 /* The checksum as plain C loops over tables that are made once. */
 #include "sums.h"
 
-#include "core.h"
-
 enum {
-    TABLES = 8,
+    TABLES = 16,
+    EIGHT = 8,
     BYTE_VALUES = 256
 };
 
@@ -45,17 +44,36 @@ static uint32_t four(const uint8_t *bytes)
         | (uint32_t)bytes[2] << 8 | bytes[3];
 }
 
+/* What four bytes become after which so many others pass. */
+static uint32_t passed(uint32_t bytes, int others)
+{
+    return (table[others + 3][bytes >> 24]
+            ^ table[others + 2][bytes >> 16 & 0xFF])
+        ^ (table[others + 1][bytes >> 8 & 0xFF]
+           ^ table[others][bytes & 0xFF]);
+}
+
 uint32_t sum_by_eight(const uint8_t *bytes, size_t length)
 {
     uint32_t value = 0xFFFFFFFF;
-    while (length >= TABLES) {
-        uint32_t high = value ^ four(bytes), low = four(bytes + 4);
-        value = table[7][high >> 24] ^ table[6][high >> 16 & 0xFF]
-            ^ table[5][high >> 8 & 0xFF] ^ table[4][high & 0xFF]
-            ^ table[3][low >> 24] ^ table[2][low >> 16 & 0xFF]
-            ^ table[1][low >> 8 & 0xFF] ^ table[0][low & 0xFF];
+    for (; length >= EIGHT; length -= EIGHT) {
+        uint32_t later = passed(four(bytes + 4), 0);
+        value = passed(value ^ four(bytes), 4) ^ later;
+        bytes += EIGHT;
+    }
+    while (length-- > 0)
+        value = with_byte(value, *bytes++);
+    return value;
+}
+
+uint32_t sum_by_sixteen(const uint8_t *bytes, size_t length)
+{
+    uint32_t value = 0xFFFFFFFF;
+    for (; length >= TABLES; length -= TABLES) {
+        uint32_t later = passed(four(bytes + 4), 8)
+            ^ passed(four(bytes + 8), 4) ^ passed(four(bytes + 12), 0);
+        value = passed(value ^ four(bytes), 12) ^ later;
         bytes += TABLES;
-        length -= TABLES;
     }
     while (length-- > 0)
         value = with_byte(value, *bytes++);

@@ -12,7 +12,8 @@ void make_sum_tables(void);
 /* One byte and one table at a time. */
 uint32_t sum_by_table(const uint8_t *bytes, size_t length);
 
-/* Eight bytes and eight tables at a time. */
+/* Eight bytes and eight tables at a time, and sixteen. */
 uint32_t sum_by_eight(const uint8_t *bytes, size_t length);
+uint32_t sum_by_sixteen(const uint8_t *bytes, size_t length);
 
 #endif

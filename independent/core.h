@@ -245,15 +245,12 @@ enum {
     IND_LARGEST_BUDGET = 65535
 };
 
-/* Room that the caller lends for the partial walks. Each walk is another one
- * and one object more; the first is the boundary asked for, alone. What
- * stands in it before and after a call has no meaning. */
+/* Room that the caller lends for the partial walks, in the order in which
+ * they are found: the last object of each and how many it has. What stands in
+ * it before and after a call has no meaning. */
 typedef struct {
-    uint32_t lengthened[IND_LARGEST_BUDGET];
     uint16_t last[IND_LARGEST_BUDGET];
     uint16_t objects[IND_LARGEST_BUDGET];
-    uint32_t words[IND_LARGEST_BUDGET];
-    uint32_t place[IND_LARGEST_BUDGET];
 } ind_walks;
 
 typedef struct {

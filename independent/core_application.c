@@ -1,38 +1,11 @@
-/* 01, 'X.2, fixed application': the layout, the records in stored order and
- * the verdict. */
+/* 01, 'X.2, fixed application': the layout, where records stand, and the
+ * verdict. */
 #include "core_application.h"
-
-/* The size of a record of this kind, 0 for balises, whose size varies. */
-static uint32_t fixed_size(ind_kind kind)
-{
-    switch (kind) {
-    case IND_START_BOUNDARY: return IND_BOUNDARY_SIZE;
-    case IND_END_BOUNDARY: return IND_BOUNDARY_SIZE;
-    case IND_TURNOUT: return IND_TURNOUT_SIZE;
-    case IND_SIGNAL: return IND_SIGNAL_SIZE;
-    case IND_JOINT: return IND_JOINT_SIZE;
-    case IND_SIDING: return IND_SIDING_SIZE;
-    default: return 0;
-    }
-}
-
-uint32_t ind_record_size(const uint8_t *file, ind_object record)
-{
-    if (record.kind == IND_BALISE)
-        return file[record.start + IND_BALISE_SIZE_BYTE];
-    return fixed_size(record.kind);
-}
 
 /* Where the end boundary count stands. */
 static uint32_t end_count_place(uint32_t starts)
 {
     return IND_START_ENTRIES_PLACE + IND_ENTRY_SIZE * starts;
-}
-
-uint32_t ind_entry_place(const ind_layout *layout, uint32_t boundary)
-{
-    uint32_t place = IND_START_ENTRIES_PLACE + IND_ENTRY_SIZE * boundary;
-    return boundary < layout->starts ? place : place + IND_COUNT_SIZE;
 }
 
 /* Both counts; where they pass, the header and the boundaries are set. */
@@ -85,7 +58,7 @@ static uint32_t group_field(const ind_layout *layout, ind_kind kind)
 static uint32_t group_end(const uint8_t *file, const ind_layout *layout,
                           ind_kind kind)
 {
-    for (int next = kind + 1; next < IND_KINDS; next++) {
+    for (int next = (int)kind + 1; next < IND_KINDS; next++) {
         uint32_t offset = ind_two(file, group_field(layout, (ind_kind)next));
         if (offset != 0)
             return offset;
@@ -125,7 +98,7 @@ static uint32_t group_fault(const uint8_t *file, ind_layout *layout,
         return field;
     if (to <= from || to > layout->end)
         return field;
-    if (kind != IND_BALISE && (to - from) % fixed_size(kind) != 0)
+    if (kind != IND_BALISE && (to - from) % ind_fixed_size(kind) != 0)
         return field;
     layout->from[kind] = from;
     layout->to[kind] = to;
@@ -161,37 +134,12 @@ ind_answer ind_application_layout(const uint8_t *file, uint32_t end,
     return ind_unless(fault, IND_LAYOUT);
 }
 
-/* The first record of this kind or of the next kind that has any. */
-static ind_object first_from(const ind_layout *layout, int kind)
-{
-    ind_object none = { IND_NO_KIND, 0 };
-    for (; kind < IND_KINDS; kind++)
-        if (layout->from[kind] < layout->to[kind]) {
-            ind_object record = { (ind_kind)kind, layout->from[kind] };
-            return record;
-        }
-    return none;
-}
-
-ind_object ind_first_record(const ind_layout *layout)
-{
-    return first_from(layout, IND_START_BOUNDARY);
-}
-
-ind_object ind_next_record(const uint8_t *file, const ind_layout *layout,
-                           ind_object record)
-{
-    uint32_t next = record.start + ind_record_size(file, record);
-    if (next >= layout->to[record.kind])
-        return first_from(layout, record.kind + 1);
-    record.start = next;
-    return record;
-}
-
 ind_kind ind_kind_at(const ind_layout *layout, uint32_t place)
 {
+    if (place < layout->header)
+        return IND_NO_KIND;
     for (int kind = IND_START_BOUNDARY; kind < IND_KINDS; kind++)
-        if (layout->from[kind] <= place && place < layout->to[kind])
+        if (place < layout->to[kind])
             return (ind_kind)kind;
     return IND_NO_KIND;
 }
@@ -199,18 +147,15 @@ ind_kind ind_kind_at(const ind_layout *layout, uint32_t place)
 ind_answer ind_application(const uint8_t *file, size_t length,
                            ind_layout *layout)
 {
+    ind_marks targets;
     ind_answer answer =
         ind_opening(file, length, IND_X2_LEAST_LENGTH, IND_X2_TYPE);
     if (answer.number == IND_ACCEPTED)
         answer = ind_application_layout(file, ind_end(length), layout);
     if (answer.number == IND_ACCEPTED)
-        answer = ind_application_fields(file, layout);
+        answer = ind_application_contents(file, layout, &targets);
     if (answer.number == IND_ACCEPTED)
-        answer = ind_application_agreement(file, layout);
-    if (answer.number == IND_ACCEPTED)
-        answer = ind_link_targets(file, layout);
-    if (answer.number == IND_ACCEPTED)
-        answer = ind_link_returns(file, layout);
+        answer = ind_application_links(file, layout, &targets);
     return answer;
 }
 

@@ -173,24 +173,43 @@ ind_answer ind_application_layout(const uint8_t *file, uint32_t end,
 /* In a file whose layout is right: */
 
 /* The header's entry of a boundary, counted through starts and ends. */
-uint32_t ind_entry_place(const ind_layout *layout, uint32_t boundary);
+static inline uint32_t ind_entry_place(const ind_layout *layout,
+                                       uint32_t boundary)
+{
+    uint32_t place = IND_START_ENTRIES_PLACE + IND_ENTRY_SIZE * boundary;
+    return boundary < layout->starts ? place : place + IND_COUNT_SIZE;
+}
 
-/* A record: its kind and where it starts. After the last record the kind is
- * IND_NO_KIND. */
+/* A record: its kind and where it starts. */
 typedef struct {
     ind_kind kind;
     uint32_t start;
 } ind_object;
 
-ind_object ind_first_record(const ind_layout *layout);
-ind_object ind_next_record(const uint8_t *file, const ind_layout *layout,
-                           ind_object record);
-
 /* The kind whose records stand at a place, IND_NO_KIND in the header and
  * from End on. */
 ind_kind ind_kind_at(const ind_layout *layout, uint32_t place);
 
-uint32_t ind_record_size(const uint8_t *file, ind_object record);
+/* The size of every record of this kind, 0 for balises, whose size varies. */
+static inline uint32_t ind_fixed_size(ind_kind kind)
+{
+    switch (kind) {
+    case IND_START_BOUNDARY: return IND_BOUNDARY_SIZE;
+    case IND_END_BOUNDARY: return IND_BOUNDARY_SIZE;
+    case IND_TURNOUT: return IND_TURNOUT_SIZE;
+    case IND_SIGNAL: return IND_SIGNAL_SIZE;
+    case IND_JOINT: return IND_JOINT_SIZE;
+    case IND_SIDING: return IND_SIDING_SIZE;
+    default: return 0;
+    }
+}
+
+static inline uint32_t ind_record_size(const uint8_t *file, ind_object record)
+{
+    return record.kind == IND_BALISE
+        ? file[record.start + IND_BALISE_SIZE_BYTE]
+        : ind_fixed_size(record.kind);
+}
 
 /* A start or an end boundary. */
 static inline int ind_is_boundary(ind_kind kind)
@@ -198,21 +217,84 @@ static inline int ind_is_boundary(ind_kind kind)
     return kind == IND_START_BOUNDARY || kind == IND_END_BOUNDARY;
 }
 
+/* A boundary and a turnout by where they start. */
+static inline int ind_boundary_at(const ind_layout *layout, uint32_t start)
+{
+    return start < layout->to[IND_END_BOUNDARY];
+}
+
+static inline int ind_turnout_at(const ind_layout *layout, uint32_t start)
+{
+    return !ind_boundary_at(layout, start)
+        && start < layout->to[IND_TURNOUT];
+}
+
 /* Links of a record in field order. */
 uint32_t ind_links(ind_kind kind);
-uint32_t ind_link_place(ind_object record, uint32_t index);
+
+static inline uint32_t ind_link_place(ind_object record, uint32_t index)
+{
+    uint32_t first = record.kind == IND_TURNOUT ? IND_TURNOUT_FRONT
+                                                : IND_BOUNDARY_LINK;
+    return record.start + first + IND_OFFSET_SIZE * index;
+}
 
 /* A balise's place in its group. */
-uint32_t ind_balise_place(const uint8_t *file, uint32_t balise);
-uint32_t ind_balise_count(const uint8_t *file, uint32_t balise);
+static inline uint32_t ind_balise_place(const uint8_t *file, uint32_t balise)
+{
+    return (file[balise + IND_BALISE_GROUP] & IND_GROUP_PLACE_BITS) + 1u;
+}
 
-/* Checks 5 and 7, then 8 and 9. */
-ind_answer ind_application_fields(const uint8_t *file,
-                                  const ind_layout *layout);
-ind_answer ind_application_agreement(const uint8_t *file,
-                                     const ind_layout *layout);
-ind_answer ind_link_targets(const uint8_t *file, const ind_layout *layout);
-ind_answer ind_link_returns(const uint8_t *file, const ind_layout *layout);
+static inline uint32_t ind_balise_count(const uint8_t *file, uint32_t balise)
+{
+    return (file[balise + IND_BALISE_GROUP] >> IND_GROUP_COUNT_SHIFT) + 1u;
+}
+
+/* One bit for each place of a file up to End. */
+typedef struct {
+    uint8_t bits[(IND_LARGEST_FILE + 1) / IND_BITS_PER_BYTE];
+} ind_marks;
+
+static inline void ind_no_marks(ind_marks *marks, uint32_t end)
+{
+    for (uint32_t i = 0; i <= end / IND_BITS_PER_BYTE; i++)
+        marks->bits[i] = 0;
+}
+
+static inline void ind_mark_if(ind_marks *marks, uint32_t place, int due)
+{
+    marks->bits[place / IND_BITS_PER_BYTE] |=
+        (uint8_t)((due != 0) << place % IND_BITS_PER_BYTE);
+}
+
+static inline void ind_mark(ind_marks *marks, uint32_t place)
+{
+    ind_mark_if(marks, place, 1);
+}
+
+static inline void ind_unmark(ind_marks *marks, uint32_t place)
+{
+    marks->bits[place / IND_BITS_PER_BYTE] &=
+        (uint8_t)~(1u << place % IND_BITS_PER_BYTE);
+}
+
+static inline int ind_marked(const ind_marks *marks, uint32_t place)
+{
+    return marks->bits[place / IND_BITS_PER_BYTE]
+            >> place % IND_BITS_PER_BYTE & 1;
+}
+
+/* Checks 5 and 7. Both look at every record, and marks are set where a link
+ * may point: at each boundary, turnout, signal, joint and balise of place 1.
+ * The marks hold for a file that passes. */
+ind_answer ind_application_contents(const uint8_t *file,
+                                    const ind_layout *layout,
+                                    ind_marks *targets);
+
+/* Checks 8 and 9. */
+ind_answer ind_application_links(const uint8_t *file,
+                                 const ind_layout *layout,
+                                 const ind_marks *targets);
 
 /* The whole verdict; the layout is set where it is 0. */
 ind_answer ind_application(const uint8_t *file, size_t length,

@@ -25,6 +25,8 @@ enum {
 };
 
 #define IND_LARGEST_POSITION ((uint32_t)2147483647)
+#define IND_LARGEST_OF_TWO ((uint32_t)0xFFFF)
+#define IND_LARGEST_OF_THREE ((uint32_t)0xFFFFFF)
 
 /* No field is at fault. */
 #define IND_NO_FAULT ((uint32_t)0xFFFFFFFF)
@@ -37,16 +39,32 @@ static inline uint32_t ind_two(const uint8_t *file, uint32_t place)
         | (uint32_t)file[place + 1] << IND_BITS_PER_BYTE;
 }
 
-static inline uint32_t ind_three(const uint8_t *file, uint32_t place)
-{
-    return ind_two(file, place)
-        | (uint32_t)file[place + 2] << 2 * IND_BITS_PER_BYTE;
-}
-
 static inline uint32_t ind_four(const uint8_t *file, uint32_t place)
 {
-    return ind_three(file, place)
+    return (uint32_t)file[place]
+        | (uint32_t)file[place + 1] << IND_BITS_PER_BYTE
+        | (uint32_t)file[place + 2] << 2 * IND_BITS_PER_BYTE
         | (uint32_t)file[place + 3] << 3 * IND_BITS_PER_BYTE;
+}
+
+/* Reads the byte after the three as well, and leaves it out: no field of
+ * three bytes is the last of a file. */
+static inline uint32_t ind_three(const uint8_t *file, uint32_t place)
+{
+    return ind_four(file, place) & IND_LARGEST_OF_THREE;
+}
+
+static inline uint64_t ind_eight(const uint8_t *file, uint32_t place)
+{
+    return ind_four(file, place)
+        | (uint64_t)ind_four(file, place + 4) << 4 * IND_BITS_PER_BYTE;
+}
+
+/* A number of so many bits in two's complement, lengthened to 32 bits. */
+static inline uint32_t ind_extended(uint32_t value, unsigned bits)
+{
+    uint32_t half = (uint32_t)1 << (bits - 1);
+    return (value ^ half) - half;
 }
 
 /* A number of so many bits read as two's complement. */
@@ -74,13 +92,24 @@ static inline int32_t ind_signed_four(const uint8_t *file, uint32_t place)
 }
 
 /* An answer about one file. */
-ind_answer ind_says(uint32_t number, uint32_t place);
+static inline ind_answer ind_says(uint32_t number, uint32_t place)
+{
+    ind_answer answer = { number, place, IND_NO_FILE };
+    return answer;
+}
 
 /* Accepted, or the number at the faulty place. */
-ind_answer ind_unless(uint32_t fault, uint32_t number);
+static inline ind_answer ind_unless(uint32_t fault, uint32_t number)
+{
+    return fault == IND_NO_FAULT ? ind_says(IND_ACCEPTED, 0)
+                                 : ind_says(number, fault);
+}
 
 /* Length minus 4. */
-uint32_t ind_end(size_t length);
+static inline uint32_t ind_end(size_t length)
+{
+    return (uint32_t)length - IND_CHECKSUM_SIZE;
+}
 
 /* Checks 1 to 4: length, checksum, file type, structure version. */
 ind_answer ind_opening(const uint8_t *file, size_t length, size_t least,

@@ -9,20 +9,38 @@ static int all_zero(const uint8_t *bytes, uint32_t from, uint32_t size)
     return from == size;
 }
 
-/* One or more bytes 0x21 to 0x7E, then only 0x00. */
+/* A byte in each of a name's eight, and the high bit of each. */
+#define IN_EACH(byte) (UINT64_C(0x0101010101010101) * (byte))
+#define HIGH_BITS IN_EACH(0x80)
+
+/* The high bit of each byte that is at least so much, where none has its high
+ * bit set. */
+static uint64_t at_least(uint64_t bytes, uint32_t least)
+{
+    return (bytes + IN_EACH(0x80 - least)) & HIGH_BITS;
+}
+
+/* One or more bytes 0x21 to 0x7E, then only 0x00: no byte is above 0x7E, each
+ * that is not 0 is at least 0x21, and the first alone has no such one before
+ * it. */
+static int eight_right(uint64_t bytes)
+{
+    uint64_t used = at_least(bytes, 1);
+    return ((bytes | at_least(bytes, IND_NAME_LARGEST + 1)) & HIGH_BITS) == 0
+        && used == at_least(bytes, IND_NAME_LEAST)
+        && (used & ~(used << IND_BITS_PER_BYTE)) == 0x80;
+}
+
 static int name_right(const uint8_t *name)
 {
-    uint32_t used = 0;
-    while (used < IND_NAME_SIZE && name[used] >= IND_NAME_LEAST
-           && name[used] <= IND_NAME_LARGEST)
-        used++;
-    return used > 0 && all_zero(name, used, IND_NAME_SIZE);
+    return eight_right(ind_eight(name, 0));
 }
 
 /* A siding's exit signal may have no name at all. */
 static int exit_name_right(const uint8_t *name)
 {
-    return all_zero(name, 0, IND_NAME_SIZE) || name_right(name);
+    uint64_t bytes = ind_eight(name, 0);
+    return bytes == 0 || eight_right(bytes);
 }
 
 static int code_right(const uint8_t *code)
@@ -58,12 +76,10 @@ static int end_type(uint8_t type)
     return type == IND_UP_END || type == IND_DOWN_END;
 }
 
-static uint32_t boundary_fault(const uint8_t *boundary, ind_kind kind)
+/* A boundary after its type. */
+static uint32_t boundary_fault(const uint8_t *boundary)
 {
-    uint8_t type = boundary[IND_TYPE_PLACE];
     uint8_t neighbour = boundary[IND_BOUNDARY_NEIGHBOUR_TYPE];
-    if (kind == IND_START_BOUNDARY ? !start_type(type) : !end_type(type))
-        return IND_TYPE_PLACE;
     if (!start_type(neighbour) && !end_type(neighbour)
         && neighbour != IND_NEIGHBOUR_UNKNOWN)
         return IND_BOUNDARY_NEIGHBOUR_TYPE;
@@ -72,6 +88,18 @@ static uint32_t boundary_fault(const uint8_t *boundary, ind_kind kind)
     if (boundary[IND_BOUNDARY_TRACK] == 0)
         return IND_BOUNDARY_TRACK;
     return IND_NO_FAULT;
+}
+
+static uint32_t start_fault(const uint8_t *boundary)
+{
+    return start_type(boundary[IND_TYPE_PLACE]) ? boundary_fault(boundary)
+                                                : IND_TYPE_PLACE;
+}
+
+static uint32_t end_fault(const uint8_t *boundary)
+{
+    return end_type(boundary[IND_TYPE_PLACE]) ? boundary_fault(boundary)
+                                              : IND_TYPE_PLACE;
 }
 
 static uint32_t turnout_fault(const uint8_t *turnout)
@@ -176,18 +204,6 @@ static uint32_t siding_fault(const uint8_t *siding)
     return IND_NO_FAULT;
 }
 
-static uint32_t record_fault(const uint8_t *record, ind_kind kind)
-{
-    switch (kind) {
-    case IND_TURNOUT: return turnout_fault(record);
-    case IND_BALISE: return balise_fault(record);
-    case IND_SIGNAL: return signal_fault(record);
-    case IND_JOINT: return joint_fault(record);
-    case IND_SIDING: return siding_fault(record);
-    default: return boundary_fault(record, kind);
-    }
-}
-
 static uint32_t header_fault(const uint8_t *file, const ind_layout *layout)
 {
     uint32_t fault = ind_opening_field_fault(file);
@@ -203,30 +219,68 @@ static uint32_t header_fault(const uint8_t *file, const ind_layout *layout)
     return IND_NO_FAULT;
 }
 
-ind_answer ind_application_fields(const uint8_t *file,
-                                  const ind_layout *layout)
+/* What the pass over the records is made with, and what it finds for the
+ * checks after it: the places where a link may point, and the first balise's
+ * group byte whose place is above its count. */
+typedef struct {
+    const uint8_t *file;
+    const ind_layout *layout;
+    ind_marks *targets;
+    uint32_t group_fault;
+} pass;
+
+/* The records of a kind of one size, all of which may be named or none. */
+static inline uint32_t kind_fault(pass *over, ind_kind kind, int may_be_named,
+                                  uint32_t (*fault_in)(const uint8_t *record))
 {
-    uint32_t fault = header_fault(file, layout);
-    if (fault != IND_NO_FAULT)
-        return ind_says(IND_FIELD, fault);
-    for (ind_object record = ind_first_record(layout);
-         record.kind != IND_NO_KIND;
-         record = ind_next_record(file, layout, record)) {
-        fault = record_fault(file + record.start, record.kind);
+    const uint8_t *file = over->file;
+    uint32_t to = over->layout->to[kind];
+    uint32_t size = ind_fixed_size(kind);
+    for (uint32_t at = over->layout->from[kind]; at < to; at += size) {
+        uint32_t fault = fault_in(file + at);
         if (fault != IND_NO_FAULT)
-            return ind_says(IND_FIELD, record.start + fault);
+            return at + fault;
+        if (may_be_named)
+            ind_mark(over->targets, at);
     }
-    return ind_says(IND_ACCEPTED, 0);
+    return IND_NO_FAULT;
 }
 
-uint32_t ind_balise_place(const uint8_t *file, uint32_t balise)
+static uint32_t balises_fault(pass *over)
 {
-    return (file[balise + IND_BALISE_GROUP] & IND_GROUP_PLACE_BITS) + 1u;
+    uint32_t to = over->layout->to[IND_BALISE];
+    uint32_t at = over->layout->from[IND_BALISE];
+    while (at < to) {
+        const uint8_t *balise = over->file + at;
+        uint32_t fault = balise_fault(balise);
+        if (fault != IND_NO_FAULT)
+            return at + fault;
+        if (ind_balise_place(balise, 0) > ind_balise_count(balise, 0)
+            && over->group_fault == IND_NO_FAULT)
+            over->group_fault = at + IND_BALISE_GROUP;
+        ind_mark_if(over->targets, at, ind_balise_place(balise, 0) == 1);
+        at += balise[IND_BALISE_SIZE_BYTE];
+    }
+    return IND_NO_FAULT;
 }
 
-uint32_t ind_balise_count(const uint8_t *file, uint32_t balise)
+/* All records in stored order. */
+static uint32_t records_fault(pass *over)
 {
-    return (file[balise + IND_BALISE_GROUP] >> IND_GROUP_COUNT_SHIFT) + 1u;
+    uint32_t fault = kind_fault(over, IND_START_BOUNDARY, 1, start_fault);
+    if (fault == IND_NO_FAULT)
+        fault = kind_fault(over, IND_END_BOUNDARY, 1, end_fault);
+    if (fault == IND_NO_FAULT)
+        fault = kind_fault(over, IND_TURNOUT, 1, turnout_fault);
+    if (fault == IND_NO_FAULT)
+        fault = balises_fault(over);
+    if (fault == IND_NO_FAULT)
+        fault = kind_fault(over, IND_SIGNAL, 1, signal_fault);
+    if (fault == IND_NO_FAULT)
+        fault = kind_fault(over, IND_JOINT, 1, joint_fault);
+    if (fault == IND_NO_FAULT)
+        fault = kind_fault(over, IND_SIDING, 0, siding_fault);
+    return fault;
 }
 
 /* A header boundary's track equals its record's. */
@@ -243,24 +297,19 @@ static uint32_t header_track_fault(const uint8_t *file,
     return IND_NO_FAULT;
 }
 
-/* A balise's place is at most its count. */
-static uint32_t group_byte_fault(const uint8_t *file,
-                                 const ind_layout *layout)
+ind_answer ind_application_contents(const uint8_t *file,
+                                    const ind_layout *layout,
+                                    ind_marks *targets)
 {
-    uint32_t balise = layout->from[IND_BALISE];
-    while (balise < layout->to[IND_BALISE]) {
-        if (ind_balise_place(file, balise) > ind_balise_count(file, balise))
-            return balise + IND_BALISE_GROUP;
-        balise += file[balise + IND_BALISE_SIZE_BYTE];
-    }
-    return IND_NO_FAULT;
-}
-
-ind_answer ind_application_agreement(const uint8_t *file,
-                                     const ind_layout *layout)
-{
-    uint32_t fault = header_track_fault(file, layout);
+    pass over = { file, layout, targets, IND_NO_FAULT };
+    uint32_t fault = header_fault(file, layout);
+    ind_no_marks(targets, layout->end);
     if (fault == IND_NO_FAULT)
-        fault = group_byte_fault(file, layout);
+        fault = records_fault(&over);
+    if (fault != IND_NO_FAULT)
+        return ind_says(IND_FIELD, fault);
+    fault = header_track_fault(file, layout);
+    if (fault == IND_NO_FAULT)
+        fault = over.group_fault;
     return ind_unless(fault, IND_AGREEMENT);
 }

@@ -1,32 +1,6 @@
 /* 01, 'X.1, track geography': the verdict. */
 #include "core_geography.h"
 
-uint32_t ind_tracks(const uint8_t *file)
-{
-    return file[IND_TRACK_COUNT_PLACE];
-}
-
-uint32_t ind_track_place(uint32_t index)
-{
-    return IND_TRACKS_PLACE + IND_TRACK_SIZE * index;
-}
-
-uint32_t ind_first_point(const uint8_t *file, uint32_t track)
-{
-    return ind_two(file, track + IND_TRACK_FIRST_POINT);
-}
-
-uint32_t ind_last_point(const uint8_t *file, uint32_t track)
-{
-    return ind_two(file, track + IND_TRACK_LAST_POINT);
-}
-
-uint32_t ind_points(const uint8_t *file, uint32_t track)
-{
-    return (ind_last_point(file, track) - ind_first_point(file, track))
-               / IND_POINT_SIZE + 1;
-}
-
 /* Layout of one track, its points due at a place: the faulty field. */
 static uint32_t track_layout_fault(const uint8_t *file, uint32_t track,
                                    uint32_t due, uint32_t end)
@@ -57,151 +31,193 @@ static uint32_t layout_fault(const uint8_t *file, uint32_t end)
     return due == end ? IND_NO_FAULT : due;
 }
 
-static int within(int64_t value, int64_t limit)
+/* Whether a number in two's complement lies from -limit to limit. */
+static int within(uint32_t value, uint32_t limit)
 {
-    return -limit <= value && value <= limit;
+    return value + limit <= 2 * limit;
 }
 
-static int latitude_right(const uint8_t *file, uint32_t place)
+static int latitude_right(const uint8_t *track, uint32_t field)
 {
-    return within(ind_signed_four(file, place), IND_LATITUDE_LIMIT);
+    return within(ind_four(track, field), IND_LATITUDE_LIMIT);
 }
 
-static int longitude_right(const uint8_t *file, uint32_t place)
+static int longitude_right(const uint8_t *track, uint32_t field)
 {
-    return within(ind_signed_four(file, place), IND_LONGITUDE_LIMIT);
+    return within(ind_four(track, field), IND_LONGITUDE_LIMIT);
 }
 
-static uint32_t track_field_fault(const uint8_t *file, uint32_t track)
+/* The faulty field of a track's entry, as its place in the entry. */
+static uint32_t track_field_fault(const uint8_t *track)
 {
-    uint8_t property = file[track + IND_TRACK_PROPERTY];
-    if (file[track + IND_TRACK_NUMBER] == 0)
-        return track + IND_TRACK_NUMBER;
+    uint8_t property = track[IND_TRACK_PROPERTY];
+    if (track[IND_TRACK_NUMBER] == 0)
+        return IND_TRACK_NUMBER;
     if (property < IND_LEAST_PROPERTY || property > IND_LARGEST_PROPERTY)
-        return track + IND_TRACK_PROPERTY;
-    if (ind_four(file, track + IND_TRACK_START_POSITION)
-        != IND_START_POSITION)
-        return track + IND_TRACK_START_POSITION;
-    if (!latitude_right(file, track + IND_TRACK_START_LATITUDE))
-        return track + IND_TRACK_START_LATITUDE;
-    if (!longitude_right(file, track + IND_TRACK_START_LONGITUDE))
-        return track + IND_TRACK_START_LONGITUDE;
-    if (ind_four(file, track + IND_TRACK_END_POSITION) > IND_LARGEST_POSITION)
-        return track + IND_TRACK_END_POSITION;
-    if (!latitude_right(file, track + IND_TRACK_END_LATITUDE))
-        return track + IND_TRACK_END_LATITUDE;
-    if (!longitude_right(file, track + IND_TRACK_END_LONGITUDE))
-        return track + IND_TRACK_END_LONGITUDE;
+        return IND_TRACK_PROPERTY;
+    if (ind_four(track, IND_TRACK_START_POSITION) != IND_START_POSITION)
+        return IND_TRACK_START_POSITION;
+    if (!latitude_right(track, IND_TRACK_START_LATITUDE))
+        return IND_TRACK_START_LATITUDE;
+    if (!longitude_right(track, IND_TRACK_START_LONGITUDE))
+        return IND_TRACK_START_LONGITUDE;
+    if (ind_four(track, IND_TRACK_END_POSITION) > IND_LARGEST_POSITION)
+        return IND_TRACK_END_POSITION;
+    if (!latitude_right(track, IND_TRACK_END_LATITUDE))
+        return IND_TRACK_END_LATITUDE;
+    if (!longitude_right(track, IND_TRACK_END_LONGITUDE))
+        return IND_TRACK_END_LONGITUDE;
     return IND_NO_FAULT;
 }
 
-static uint32_t point_field_fault(const uint8_t *file, uint32_t point)
+static uint32_t position_of(const uint8_t *point)
 {
-    if (ind_four(file, point + IND_POINT_POSITION) > IND_LARGEST_POSITION)
-        return point + IND_POINT_POSITION;
-    if (!within(ind_signed_two(file, point + IND_POINT_HEADING),
-                IND_HEADING_LIMIT))
-        return point + IND_POINT_HEADING;
-    if (file[point + IND_POINT_NEAR] > IND_LARGEST_NEAR)
-        return point + IND_POINT_NEAR;
+    return ind_four(point, IND_POINT_POSITION);
+}
+
+static int heading_right(const uint8_t *point)
+{
+    return within(ind_extended(ind_two(point, IND_POINT_HEADING),
+                               2 * IND_BITS_PER_BYTE),
+                  IND_HEADING_LIMIT);
+}
+
+static int near_right(const uint8_t *point)
+{
+    return point[IND_POINT_NEAR] <= IND_LARGEST_NEAR;
+}
+
+/* The faulty field of a point, as its place in the point. */
+static uint32_t point_field_fault(const uint8_t *point)
+{
+    if (position_of(point) > IND_LARGEST_POSITION)
+        return IND_POINT_POSITION;
+    if (!heading_right(point))
+        return IND_POINT_HEADING;
+    if (!near_right(point))
+        return IND_POINT_NEAR;
     return IND_NO_FAULT;
 }
 
-/* Fields: header, then all entries, then all points. */
-static uint32_t field_fault(const uint8_t *file, uint32_t end)
+/* Fields of the header and of all entries. */
+static uint32_t entry_field_fault(const uint8_t *file)
 {
     uint32_t points = ind_track_place(ind_tracks(file));
-    uint32_t place = IND_TRACKS_PLACE;
     uint32_t fault = ind_opening_field_fault(file);
-    for (; fault == IND_NO_FAULT && place < points; place += IND_TRACK_SIZE)
-        fault = track_field_fault(file, place);
-    for (; fault == IND_NO_FAULT && place < end; place += IND_POINT_SIZE)
-        fault = point_field_fault(file, place);
-    return fault;
+    if (fault != IND_NO_FAULT)
+        return fault;
+    for (uint32_t track = IND_TRACKS_PLACE; track < points;
+         track += IND_TRACK_SIZE) {
+        fault = track_field_fault(file + track);
+        if (fault != IND_NO_FAULT)
+            return track + fault;
+    }
+    return IND_NO_FAULT;
+}
+
+/* Fields of all points. */
+static uint32_t points_field_fault(const uint8_t *file, uint32_t end)
+{
+    for (uint32_t point = ind_track_place(ind_tracks(file)); point < end;
+         point += IND_POINT_SIZE) {
+        uint32_t fault = point_field_fault(file + point);
+        if (fault != IND_NO_FAULT)
+            return point + fault;
+    }
+    return IND_NO_FAULT;
+}
+
+/* A point's increments in two's complement. */
+static uint32_t north_of(const uint8_t *point)
+{
+    return ind_extended(ind_three(point, IND_POINT_LATITUDE),
+                        3 * IND_BITS_PER_BYTE);
+}
+
+static uint32_t east_of(const uint8_t *point)
+{
+    return ind_extended(ind_three(point, IND_POINT_LONGITUDE),
+                        3 * IND_BITS_PER_BYTE);
 }
 
 /* The first point has position and both increments 0, and its near flag
  * equals the second's. */
-static int first_point_right(const uint8_t *file, uint32_t point)
+static int first_point_right(const uint8_t *point)
 {
-    uint32_t second = point + IND_POINT_SIZE;
-    return ind_four(file, point + IND_POINT_POSITION) == IND_START_POSITION
-        && ind_three(file, point + IND_POINT_LATITUDE) == 0
-        && ind_three(file, point + IND_POINT_LONGITUDE) == 0
-        && file[point + IND_POINT_NEAR] == file[second + IND_POINT_NEAR];
-}
-
-static int position_rises(const uint8_t *file, uint32_t point)
-{
-    uint32_t before = point - IND_POINT_SIZE;
-    return ind_four(file, before + IND_POINT_POSITION)
-        < ind_four(file, point + IND_POINT_POSITION);
-}
-
-static int64_t point_latitude(const uint8_t *file, uint32_t track,
-                              uint32_t point)
-{
-    return (int64_t)ind_signed_four(file, track + IND_TRACK_START_LATITUDE)
-        + ind_signed_three(file, point + IND_POINT_LATITUDE);
-}
-
-static int64_t point_longitude(const uint8_t *file, uint32_t track,
-                               uint32_t point)
-{
-    return (int64_t)ind_signed_four(file, track + IND_TRACK_START_LONGITUDE)
-        + ind_signed_three(file, point + IND_POINT_LONGITUDE);
+    const uint8_t *second = point + IND_POINT_SIZE;
+    return position_of(point) == IND_START_POSITION && north_of(point) == 0
+        && east_of(point) == 0
+        && point[IND_POINT_NEAR] == second[IND_POINT_NEAR];
 }
 
 /* The last point equals the track's end position, latitude and longitude. */
-static int last_point_right(const uint8_t *file, uint32_t track,
-                            uint32_t point)
+static int last_point_right(const uint8_t *track, const uint8_t *point)
 {
-    return ind_four(file, point + IND_POINT_POSITION)
-            == ind_four(file, track + IND_TRACK_END_POSITION)
-        && point_latitude(file, track, point)
-            == ind_signed_four(file, track + IND_TRACK_END_LATITUDE)
-        && point_longitude(file, track, point)
-            == ind_signed_four(file, track + IND_TRACK_END_LONGITUDE);
+    return position_of(point) == ind_four(track, IND_TRACK_END_POSITION)
+        && ind_four(track, IND_TRACK_START_LATITUDE) + north_of(point)
+            == ind_four(track, IND_TRACK_END_LATITUDE)
+        && ind_four(track, IND_TRACK_START_LONGITUDE) + east_of(point)
+            == ind_four(track, IND_TRACK_END_LONGITUDE);
 }
 
-static int point_agrees(const uint8_t *file, uint32_t track, uint32_t point)
+/* The first of a track's points in which a field or the agreement is wrong,
+ * NULL if there is none. A start plus an increment of 0 is in range. */
+static const uint8_t *wrong_point(const uint8_t *track, const uint8_t *first,
+                                  const uint8_t *last)
 {
-    if (point == ind_first_point(file, track)) {
-        if (!first_point_right(file, point))
-            return 0;
-    } else if (!position_rises(file, point)) {
-        return 0;
-    }
-    if (!within(point_latitude(file, track, point), IND_LATITUDE_LIMIT)
-        || !within(point_longitude(file, track, point), IND_LONGITUDE_LIMIT))
-        return 0;
-    return point != ind_last_point(file, track)
-        || last_point_right(file, track, point);
-}
-
-/* Agreement of one track: its number rises, then its points. */
-static uint32_t track_agreement_fault(const uint8_t *file, uint32_t track)
-{
-    uint32_t before = track - IND_TRACK_SIZE;
-    uint32_t last = ind_last_point(file, track);
-    if (track != IND_TRACKS_PLACE
-        && file[before + IND_TRACK_NUMBER] >= file[track + IND_TRACK_NUMBER])
-        return track + IND_TRACK_NUMBER;
-    for (uint32_t point = ind_first_point(file, track); point <= last;
-         point += IND_POINT_SIZE)
-        if (!point_agrees(file, track, point))
+    uint32_t latitude = ind_four(track, IND_TRACK_START_LATITUDE);
+    uint32_t longitude = ind_four(track, IND_TRACK_START_LONGITUDE);
+    uint32_t reached = IND_START_POSITION;
+    if (!heading_right(first) || !near_right(first)
+        || !first_point_right(first))
+        return first;
+    for (const uint8_t *point = first; point < last;) {
+        point += IND_POINT_SIZE;
+        if (position_of(point) <= reached
+            || position_of(point) > IND_LARGEST_POSITION
+            || !heading_right(point) || !near_right(point)
+            || !within(latitude + north_of(point), IND_LATITUDE_LIMIT)
+            || !within(longitude + east_of(point), IND_LONGITUDE_LIMIT))
             return point;
+        reached = position_of(point);
+    }
+    return last_point_right(track, last) ? NULL : last;
+}
+
+/* The first track number that does not rise, or the first point in which a
+ * field or the agreement is wrong. */
+static uint32_t wrong_place(const uint8_t *file)
+{
+    uint32_t points = ind_track_place(ind_tracks(file));
+    uint32_t before = 0;
+    for (uint32_t track = IND_TRACKS_PLACE; track < points;
+         track += IND_TRACK_SIZE) {
+        const uint8_t *point;
+        if (file[track + IND_TRACK_NUMBER] <= before)
+            return track + IND_TRACK_NUMBER;
+        before = file[track + IND_TRACK_NUMBER];
+        point = wrong_point(file + track, file + ind_first_point(file, track),
+                            file + ind_last_point(file, track));
+        if (point != NULL)
+            return (uint32_t)(point - file);
+    }
     return IND_NO_FAULT;
 }
 
-static uint32_t agreement_fault(const uint8_t *file)
+/* Fields of the header, of all entries and of all points, then agreement. One
+ * pass over the points serves both. Where it stops, agreement is at fault
+ * there, unless the field of some point is. */
+static ind_answer contents_answer(const uint8_t *file, uint32_t end)
 {
-    uint32_t points = ind_track_place(ind_tracks(file));
-    uint32_t fault = IND_NO_FAULT;
-    for (uint32_t track = IND_TRACKS_PLACE;
-         fault == IND_NO_FAULT && track < points; track += IND_TRACK_SIZE)
-        fault = track_agreement_fault(file, track);
-    return fault;
+    uint32_t wrong, fault = entry_field_fault(file);
+    if (fault != IND_NO_FAULT)
+        return ind_says(IND_FIELD, fault);
+    wrong = wrong_place(file);
+    if (wrong == IND_NO_FAULT)
+        return ind_says(IND_ACCEPTED, 0);
+    fault = points_field_fault(file, end);
+    return fault != IND_NO_FAULT ? ind_says(IND_FIELD, fault)
+                                 : ind_says(IND_AGREEMENT, wrong);
 }
 
 ind_answer ind_x1(const uint8_t *file, size_t length)
@@ -211,8 +227,6 @@ ind_answer ind_x1(const uint8_t *file, size_t length)
     if (answer.number == IND_ACCEPTED)
         answer = ind_unless(layout_fault(file, ind_end(length)), IND_LAYOUT);
     if (answer.number == IND_ACCEPTED)
-        answer = ind_unless(field_fault(file, ind_end(length)), IND_FIELD);
-    if (answer.number == IND_ACCEPTED)
-        answer = ind_unless(agreement_fault(file), IND_AGREEMENT);
+        answer = contents_answer(file, ind_end(length));
     return answer;
 }

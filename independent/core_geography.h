@@ -50,10 +50,30 @@ enum {
 };
 
 /* In a file whose layout is right: */
-uint32_t ind_tracks(const uint8_t *file);
-uint32_t ind_track_place(uint32_t index);
-uint32_t ind_first_point(const uint8_t *file, uint32_t track);
-uint32_t ind_last_point(const uint8_t *file, uint32_t track);
-uint32_t ind_points(const uint8_t *file, uint32_t track);
+static inline uint32_t ind_tracks(const uint8_t *file)
+{
+    return file[IND_TRACK_COUNT_PLACE];
+}
+
+static inline uint32_t ind_track_place(uint32_t index)
+{
+    return IND_TRACKS_PLACE + IND_TRACK_SIZE * index;
+}
+
+static inline uint32_t ind_first_point(const uint8_t *file, uint32_t track)
+{
+    return ind_two(file, track + IND_TRACK_FIRST_POINT);
+}
+
+static inline uint32_t ind_last_point(const uint8_t *file, uint32_t track)
+{
+    return ind_two(file, track + IND_TRACK_LAST_POINT);
+}
+
+static inline uint32_t ind_points(const uint8_t *file, uint32_t track)
+{
+    return (ind_last_point(file, track) - ind_first_point(file, track))
+               / IND_POINT_SIZE + 1;
+}
 
 #endif

@@ -79,14 +79,22 @@ static uint32_t track_numbered(const uint8_t *file, uint32_t number)
 }
 
 /* The first point after the track's first that is not before the position;
- * it and the one before it are the neighbours. */
+ * it and the one before it are the neighbours. Positions rise, so half of the
+ * points are left out at each turn. */
 static uint32_t point_reached(const uint8_t *file, uint32_t track,
                               uint32_t position)
 {
-    uint32_t point = ind_first_point(file, track) + IND_POINT_SIZE;
-    while (ind_four(file, point + IND_POINT_POSITION) < position)
-        point += IND_POINT_SIZE;
-    return point;
+    uint32_t first = ind_first_point(file, track);
+    uint32_t below = 0, reached = ind_points(file, track) - 1;
+    while (reached - below > 1) {
+        uint32_t middle = below + (reached - below) / 2;
+        uint32_t point = first + IND_POINT_SIZE * middle;
+        if (ind_four(file, point + IND_POINT_POSITION) < position)
+            below = middle;
+        else
+            reached = middle;
+    }
+    return first + IND_POINT_SIZE * reached;
 }
 
 /* One coordinate, whose increments stand at a place in each point. */

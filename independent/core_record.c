@@ -98,9 +98,16 @@ static ind_siding read_siding(const uint8_t *file, uint32_t start)
 static ind_kind starting_at(const uint8_t *file, const ind_layout *layout,
                             uint32_t offset)
 {
-    ind_object record = ind_first_record(layout);
-    while (record.kind != IND_NO_KIND && record.start < offset)
-        record = ind_next_record(file, layout, record);
+    ind_object record = { ind_kind_at(layout, offset), 0 };
+    if (record.kind == IND_NO_KIND)
+        return IND_NO_KIND;
+    record.start = layout->from[record.kind];
+    if (record.kind == IND_BALISE)
+        while (record.start < offset)
+            record.start += ind_record_size(file, record);
+    else
+        record.start = offset
+            - (offset - record.start) % ind_fixed_size(record.kind);
     return record.start == offset ? record.kind : IND_NO_KIND;
 }
 

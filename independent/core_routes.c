@@ -1,115 +1,130 @@
-/* 01, 'Routes'. All partial walks are made breadth first: those of one
- * object, of two, of three and so on, each standing behind the one that it
- * lengthens. Nothing is listed until all are there. Then, from the longest
- * back, each walk learns how many words the routes that begin with it need,
- * and, from the first on, where these words start: those of a turnout's
- * normal leg before those of its reverse leg. */
+/* 01, 'Routes'. All partial walks are made depth first, a turnout's normal leg
+ * before its reverse leg: the one under way stands in a list of its objects,
+ * each of which is marked, and each walk leaves its last object and its
+ * number of objects behind. Nothing is listed until all are there and the
+ * words are counted. What they left behind, in the same order, then makes
+ * them again, and those that end at a boundary are written down. */
 #include "core_application.h"
 
 enum {
-    /* Links in field order. */
-    ONLY = 0,
-    PREVIOUS = 0,
-    NEXT = 1,
-    FRONT = 0,
-    NORMAL = 1,
-    REVERSE = 2,
+    /* An object is left by at most so many links. */
     MOST_WAYS = 2,
-    FIRST_WALK = 0,
     COUNT_WORD = 1
 };
+
+/* An object that is still to be walked to, and the objects of that walk. */
+typedef struct {
+    uint16_t object;
+    uint16_t objects;
+} branch;
 
 /* A listing under way. */
 typedef struct {
     const uint8_t *file;
-    ind_layout layout;
+    const ind_layout *layout;
     uint32_t limit;
     uint32_t budget;
-    uint32_t count;
     ind_walks *walks;
+    /* What has been found: partial walks, routes and the words they need. */
+    uint32_t count;
+    uint32_t routes;
+    uint32_t words;
+    /* The walk under way. */
+    uint32_t objects;
+    uint16_t walk[IND_LARGEST_LIMIT];
+    ind_marks in_walk;
+    /* The reverse legs that wait, at most one of each turnout in the walk. */
+    uint32_t waiting;
+    branch branches[IND_LARGEST_LIMIT];
 } listing;
-
-static ind_kind kind_of_last(const listing *list, uint32_t walk)
-{
-    return ind_kind_at(&list->layout, list->walks->last[walk]);
-}
-
-/* A walk of two or more objects that ends at a boundary. */
-static int is_route(const listing *list, uint32_t walk)
-{
-    return walk != FIRST_WALK && ind_is_boundary(kind_of_last(list, walk));
-}
-
-static uint32_t link_of(const listing *list, ind_object record,
-                        uint32_t index)
-{
-    return ind_two(list->file, ind_link_place(record, index));
-}
 
 /* A turnout entered at the front is left by normal or reverse; entered at
  * either leg it is left by the front. */
-static uint32_t ways_through_turnout(const listing *list, ind_object turnout,
+static uint32_t ways_through_turnout(const uint8_t *turnout,
                                      uint32_t came_from,
                                      uint32_t ways[MOST_WAYS])
 {
-    ways[0] = link_of(list, turnout, FRONT);
+    ways[0] = ind_two(turnout, IND_TURNOUT_FRONT);
     if (ways[0] != came_from)
         return 1;
-    ways[0] = link_of(list, turnout, NORMAL);
-    ways[1] = link_of(list, turnout, REVERSE);
+    ways[0] = ind_two(turnout, IND_TURNOUT_NORMAL);
+    ways[1] = ind_two(turnout, IND_TURNOUT_REVERSE);
     return 2;
 }
 
-/* The ways on from a walk's last object, in order: how many, and the links.
- * An object is entered by its link that names the object before. */
-static uint32_t ways_on(const listing *list, uint32_t walk,
-                        uint32_t ways[MOST_WAYS])
+/* The links by which the last object of the walk is left, in order. It was
+ * entered by its link that names the object before; the first is a boundary,
+ * and a boundary reached has nothing after it. */
+static uint32_t ways_on(const listing *list, uint32_t ways[MOST_WAYS])
 {
-    ind_object here = { kind_of_last(list, walk), list->walks->last[walk] };
-    uint32_t came_from = list->walks->last[list->walks->lengthened[walk]];
-    if (walk == FIRST_WALK) {
-        ways[0] = link_of(list, here, ONLY);
-        return 1;
+    uint32_t here = list->walk[list->objects - 1];
+    const uint8_t *record = list->file + here;
+    uint32_t came_from;
+    if (ind_boundary_at(list->layout, here)) {
+        ways[0] = ind_two(record, IND_BOUNDARY_LINK);
+        return list->objects == 1 ? 1 : 0;
     }
-    if (ind_is_boundary(here.kind))
-        return 0;
-    if (here.kind == IND_TURNOUT)
-        return ways_through_turnout(list, here, came_from, ways);
-    ways[0] = link_of(list, here, PREVIOUS);
+    came_from = list->walk[list->objects - 2];
+    if (ind_turnout_at(list->layout, here))
+        return ways_through_turnout(record, came_from, ways);
+    ways[0] = ind_two(record, IND_BALISE_PREVIOUS);
     if (ways[0] == came_from)
-        ways[0] = link_of(list, here, NEXT);
+        ways[0] = ind_two(record, IND_BALISE_NEXT);
     return 1;
 }
 
-static int stands_in(const ind_walks *walks, uint32_t walk, uint32_t object)
+/* Of the links by which the walk is left, those that lead on: they are not 0
+ * and name no object that stands in it. */
+static uint32_t leading_on(const listing *list, uint32_t ways[MOST_WAYS])
 {
-    while (walk != FIRST_WALK && walks->last[walk] != object)
-        walk = walks->lengthened[walk];
-    return walks->last[walk] == object;
+    uint32_t count = ways_on(list, ways);
+    uint32_t leading = 0;
+    if (list->objects == list->limit)
+        return 0;
+    for (uint32_t i = 0; i < count; i++)
+        if (ways[i] != 0 && !ind_marked(&list->in_walk, ways[i]))
+            ways[leading++] = ways[i];
+    return leading;
 }
 
-static void add_walk(listing *list, uint32_t lengthened, uint32_t object)
+/* The walk under way is one object longer: one partial walk more. */
+static void lengthen(listing *list, uint32_t object)
 {
-    ind_walks *walks = list->walks;
-    walks->lengthened[list->count] = lengthened;
-    walks->last[list->count] = (uint16_t)object;
-    walks->objects[list->count] = (uint16_t)(walks->objects[lengthened] + 1);
+    ind_mark(&list->in_walk, object);
+    list->walk[list->objects++] = (uint16_t)object;
+    list->walks->last[list->count] = (uint16_t)object;
+    list->walks->objects[list->count] = (uint16_t)list->objects;
     list->count++;
+    if (list->objects > 1 && ind_boundary_at(list->layout, object)) {
+        list->routes++;
+        list->words += COUNT_WORD + list->objects;
+    }
 }
 
-/* Adds the walks that are one object longer; 0 if the budget is too small. */
-static int lengthen(listing *list, uint32_t walk)
+/* Back to the walk of so many objects. */
+static void shorten(listing *list, uint32_t objects)
+{
+    while (list->objects > objects)
+        ind_unmark(&list->in_walk, list->walk[--list->objects]);
+}
+
+/* Lengthens the walk as far as it leads, each time by the first way; 0 if
+ * the partial walks outnumber the budget. */
+static int walk_on(listing *list, uint32_t object)
 {
     uint32_t ways[MOST_WAYS];
-    uint32_t count = ways_on(list, walk, ways);
-    if (list->walks->objects[walk] == list->limit)
-        return 1;
-    for (uint32_t i = 0; i < count; i++) {
-        if (ways[i] == 0 || stands_in(list->walks, walk, ways[i]))
-            continue;
+    uint32_t leading = 1;
+    ways[0] = object;
+    while (leading > 0) {
         if (list->count == list->budget)
             return 0;
-        add_walk(list, walk, ways[i]);
+        if (leading > 1) {
+            branch *later = &list->branches[list->waiting++];
+            later->object = (uint16_t)ways[1];
+            later->objects = (uint16_t)list->objects;
+        }
+        lengthen(list, ways[0]);
+        leading = leading_on(list, ways);
     }
     return 1;
 }
@@ -117,59 +132,42 @@ static int lengthen(listing *list, uint32_t walk)
 /* All partial walks; 0 if they outnumber the budget. */
 static int all_walks(listing *list, uint32_t start)
 {
-    list->walks->lengthened[FIRST_WALK] = FIRST_WALK;
-    list->walks->last[FIRST_WALK] = (uint16_t)start;
-    list->walks->objects[FIRST_WALK] = 1;
-    list->count = 1;
-    for (uint32_t walk = FIRST_WALK; walk < list->count; walk++)
-        if (!lengthen(list, walk))
+    list->count = 0;
+    list->routes = 0;
+    list->words = 0;
+    list->objects = 0;
+    list->waiting = 0;
+    ind_no_marks(&list->in_walk, list->layout->end);
+    if (!walk_on(list, start))
+        return 0;
+    while (list->waiting > 0) {
+        const branch *next = &list->branches[--list->waiting];
+        shorten(list, next->objects);
+        if (!walk_on(list, next->object))
             return 0;
+    }
     return 1;
 }
 
-/* How many routes there are; each walk gets the words that the routes
- * beginning with it need. */
-static uint32_t count_routes(listing *list)
+/* One route: its object count and then the offsets. */
+static uint16_t *write_route(uint16_t *words, const uint16_t *walk,
+                             uint32_t objects)
 {
-    ind_walks *walks = list->walks;
-    uint32_t routes = 0;
-    for (uint32_t walk = 0; walk < list->count; walk++)
-        walks->words[walk] = 0;
-    for (uint32_t walk = list->count - 1; walk > FIRST_WALK; walk--) {
-        if (is_route(list, walk)) {
-            walks->words[walk] = COUNT_WORD + walks->objects[walk];
-            routes++;
-        }
-        walks->words[walks->lengthened[walk]] += walks->words[walk];
-    }
-    return routes;
+    *words++ = (uint16_t)objects;
+    for (uint32_t i = 0; i < objects; i++)
+        *words++ = walk[i];
+    return words;
 }
 
-/* One route at its place: its object count and then the offsets. */
-static void write_route(const ind_walks *walks, uint32_t route,
-                        uint16_t *words)
-{
-    uint16_t *at = words + walks->place[route];
-    uint32_t objects = walks->objects[route];
-    at[0] = (uint16_t)objects;
-    for (uint32_t i = objects; i > 0; i--) {
-        at[i] = walks->last[route];
-        route = walks->lengthened[route];
-    }
-}
-
-/* Each walk takes its words where those before it, among the walks that
- * lengthen the same one, leave off. */
+/* Each partial walk once more, in the order in which they were found. */
 static void write_routes(listing *list, uint16_t *words)
 {
-    ind_walks *walks = list->walks;
-    walks->place[FIRST_WALK] = 0;
-    for (uint32_t walk = 1; walk < list->count; walk++) {
-        uint32_t lengthened = walks->lengthened[walk];
-        walks->place[walk] = walks->place[lengthened];
-        walks->place[lengthened] += walks->words[walk];
-        if (is_route(list, walk))
-            write_route(walks, walk, words);
+    for (uint32_t i = 0; i < list->count; i++) {
+        uint32_t last = list->walks->last[i];
+        uint32_t objects = list->walks->objects[i];
+        list->walk[objects - 1] = (uint16_t)last;
+        if (objects > 1 && ind_boundary_at(list->layout, last))
+            words = write_route(words, list->walk, objects);
     }
 }
 
@@ -188,16 +186,17 @@ ind_routes ind_routes_from(const uint8_t *file, size_t length, uint32_t start,
                            size_t room, ind_walks *walks)
 {
     ind_routes found = { { 0, 0, 0 }, 0, 0, 0 };
+    ind_layout layout;
     listing list;
-    uint32_t routes;
-    found.answer = ind_application(file, length, &list.layout);
+    found.answer = ind_application(file, length, &layout);
     if (found.answer.number != IND_ACCEPTED)
         return found;
     list.file = file;
+    list.layout = &layout;
     list.limit = limit == 0 ? IND_DEFAULT_LIMIT : limit;
     list.budget = budget;
     list.walks = walks;
-    if (!in_range(&list.layout, start, list.limit, budget)) {
+    if (!in_range(&layout, start, list.limit, budget)) {
         found.answer = ind_says(IND_OUT_OF_RANGE, 0);
         return found;
     }
@@ -205,13 +204,12 @@ ind_routes ind_routes_from(const uint8_t *file, size_t length, uint32_t start,
         found.answer = ind_says(IND_STEPS, 0);
         return found;
     }
-    routes = count_routes(&list);
-    if (walks->words[FIRST_WALK] > room) {
+    if (list.words > room) {
         found.answer = ind_says(IND_ROOM, 0);
         return found;
     }
-    found.routes = routes;
-    found.words = walks->words[FIRST_WALK];
+    found.routes = list.routes;
+    found.words = list.words;
     found.walks = list.count;
     write_routes(&list, words);
     return found;

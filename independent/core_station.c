@@ -4,61 +4,23 @@
 #include "core_geography.h"
 
 enum {
-    TRACK_NUMBERS = 256,
-    NO_POSITION = 0
+    TRACK_NUMBERS = 256
 };
 
-#define TRACK_ABSENT ((int64_t)-1)
-
-/* A track of a record and the position that goes with it, as places in the
- * record; a siding has no position. */
+/* For each track number how many positions its track has, from 0 to its end;
+ * 0 where there is no such track. */
 typedef struct {
-    uint32_t track;
-    uint32_t position;
-} stand;
+    uint32_t positions[TRACK_NUMBERS];
+} station;
 
-static uint32_t stands_of(ind_kind kind)
-{
-    return kind == IND_TURNOUT ? 3 : 1;
-}
-
-static stand turnout_stand(uint32_t index)
-{
-    static const stand stands[] = {
-        { IND_TURNOUT_FRONT_TRACK, IND_TURNOUT_TIP_POSITION },
-        { IND_TURNOUT_NORMAL_TRACK, IND_TURNOUT_NORMAL_POSITION },
-        { IND_TURNOUT_REVERSE_TRACK, IND_TURNOUT_REVERSE_POSITION }
-    };
-    return stands[index];
-}
-
-static stand stand_of(ind_kind kind, uint32_t index)
-{
-    static const stand boundary = { IND_BOUNDARY_TRACK,
-                                    IND_BOUNDARY_POSITION };
-    static const stand balise = { IND_BALISE_TRACK, IND_BALISE_POSITION };
-    static const stand signal = { IND_SIGNAL_TRACK, IND_SIGNAL_POSITION };
-    static const stand joint = { IND_JOINT_TRACK, IND_JOINT_POSITION };
-    static const stand siding = { IND_SIDING_TRACK, NO_POSITION };
-    switch (kind) {
-    case IND_TURNOUT: return turnout_stand(index);
-    case IND_BALISE: return balise;
-    case IND_SIGNAL: return signal;
-    case IND_JOINT: return joint;
-    case IND_SIDING: return siding;
-    default: return boundary;
-    }
-}
-
-/* For each track number the track's end, or TRACK_ABSENT. */
-static void track_ends(const uint8_t *x1, int64_t ends[TRACK_NUMBERS])
+static void find_tracks(const uint8_t *x1, station *known)
 {
     for (uint32_t number = 0; number < TRACK_NUMBERS; number++)
-        ends[number] = TRACK_ABSENT;
+        known->positions[number] = 0;
     for (uint32_t i = 0; i < ind_tracks(x1); i++) {
         uint32_t track = ind_track_place(i);
-        ends[x1[track + IND_TRACK_NUMBER]] =
-            ind_four(x1, track + IND_TRACK_END_POSITION);
+        known->positions[x1[track + IND_TRACK_NUMBER]] =
+            ind_four(x1, track + IND_TRACK_END_POSITION) + 1;
     }
 }
 
@@ -68,20 +30,68 @@ static ind_answer in_x2(uint32_t number, uint32_t place)
     return answer;
 }
 
-/* 11 before 12 for each position of a record, in stored order. */
-static ind_answer record_answer(const uint8_t *x2, ind_object record,
-                                const int64_t ends[TRACK_NUMBERS])
+/* The position stands on its track; both are places of the file. */
+static inline int stands(const station *known, const uint8_t *x2,
+                         uint32_t track, uint32_t position)
 {
-    for (uint32_t i = 0; i < stands_of(record.kind); i++) {
-        stand stands = stand_of(record.kind, i);
-        uint32_t track = record.start + stands.track;
-        uint32_t position = record.start + stands.position;
-        if (ends[x2[track]] == TRACK_ABSENT)
-            return in_x2(IND_NO_TRACK, track);
-        if (stands.position != NO_POSITION
-            && ind_four(x2, position) > ends[x2[track]])
-            return in_x2(IND_BEYOND_END, position);
+    return ind_four(x2, position) < known->positions[x2[track]];
+}
+
+/* Why a position does not stand on its track: 11 before 12. */
+static ind_answer not_standing(const station *known, const uint8_t *x2,
+                               uint32_t track, uint32_t position)
+{
+    return known->positions[x2[track]] == 0
+        ? in_x2(IND_NO_TRACK, track)
+        : in_x2(IND_BEYOND_END, position);
+}
+
+/* The records of a kind of one position, whose track and position stand at
+ * these places in each. */
+static inline ind_answer kind_answer(const station *known, const uint8_t *x2,
+                                     const ind_layout *layout, ind_kind kind,
+                                     uint32_t track, uint32_t position)
+{
+    ind_object record = { kind, layout->from[kind] };
+    while (record.start < layout->to[kind]) {
+        if (!stands(known, x2, record.start + track, record.start + position))
+            return not_standing(known, x2, record.start + track,
+                                record.start + position);
+        record.start += ind_record_size(x2, record);
     }
+    return ind_says(IND_ACCEPTED, 0);
+}
+
+/* A turnout's positions: tip with front, normal, reverse. */
+static ind_answer turnouts_answer(const station *known, const uint8_t *x2,
+                                  const ind_layout *layout)
+{
+    static const struct {
+        uint32_t track;
+        uint32_t position;
+    } legs[] = {
+        { IND_TURNOUT_FRONT_TRACK, IND_TURNOUT_TIP_POSITION },
+        { IND_TURNOUT_NORMAL_TRACK, IND_TURNOUT_NORMAL_POSITION },
+        { IND_TURNOUT_REVERSE_TRACK, IND_TURNOUT_REVERSE_POSITION }
+    };
+    for (uint32_t start = layout->from[IND_TURNOUT];
+         start < layout->to[IND_TURNOUT]; start += IND_TURNOUT_SIZE)
+        for (uint32_t i = 0; i < sizeof legs / sizeof *legs; i++)
+            if (!stands(known, x2, start + legs[i].track,
+                        start + legs[i].position))
+                return not_standing(known, x2, start + legs[i].track,
+                                    start + legs[i].position);
+    return ind_says(IND_ACCEPTED, 0);
+}
+
+/* A siding has a track and no position. */
+static ind_answer sidings_answer(const station *known, const uint8_t *x2,
+                                 const ind_layout *layout)
+{
+    for (uint32_t start = layout->from[IND_SIDING];
+         start < layout->to[IND_SIDING]; start += IND_SIDING_SIZE)
+        if (known->positions[x2[start + IND_SIDING_TRACK]] == 0)
+            return in_x2(IND_NO_TRACK, start + IND_SIDING_TRACK);
     return ind_says(IND_ACCEPTED, 0);
 }
 
@@ -89,13 +99,27 @@ static ind_answer record_answer(const uint8_t *x2, ind_object record,
 static ind_answer records_answer(const uint8_t *x1, const uint8_t *x2,
                                  const ind_layout *layout)
 {
-    int64_t ends[TRACK_NUMBERS];
-    ind_answer answer = ind_says(IND_ACCEPTED, 0);
-    track_ends(x1, ends);
-    for (ind_object record = ind_first_record(layout);
-         record.kind != IND_NO_KIND && answer.number == IND_ACCEPTED;
-         record = ind_next_record(x2, layout, record))
-        answer = record_answer(x2, record, ends);
+    station known;
+    ind_answer answer;
+    find_tracks(x1, &known);
+    answer = kind_answer(&known, x2, layout, IND_START_BOUNDARY,
+                         IND_BOUNDARY_TRACK, IND_BOUNDARY_POSITION);
+    if (answer.number == IND_ACCEPTED)
+        answer = kind_answer(&known, x2, layout, IND_END_BOUNDARY,
+                             IND_BOUNDARY_TRACK, IND_BOUNDARY_POSITION);
+    if (answer.number == IND_ACCEPTED)
+        answer = turnouts_answer(&known, x2, layout);
+    if (answer.number == IND_ACCEPTED)
+        answer = kind_answer(&known, x2, layout, IND_BALISE,
+                             IND_BALISE_TRACK, IND_BALISE_POSITION);
+    if (answer.number == IND_ACCEPTED)
+        answer = kind_answer(&known, x2, layout, IND_SIGNAL,
+                             IND_SIGNAL_TRACK, IND_SIGNAL_POSITION);
+    if (answer.number == IND_ACCEPTED)
+        answer = kind_answer(&known, x2, layout, IND_JOINT, IND_JOINT_TRACK,
+                             IND_JOINT_POSITION);
+    if (answer.number == IND_ACCEPTED)
+        answer = sidings_answer(&known, x2, layout);
     return answer;
 }
 

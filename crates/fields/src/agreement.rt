@@ -2,7 +2,7 @@
 ghost use mathlib.Core.Path.{_≡_};
 ghost use mathlib.Core.List.{[], _∷_};
 ghost use Prim.Native.Nat.{_≤_};
-ghost use Rattle.verdict.specs.Facts.{judge};
+ghost use Rattle.verdict.specs.Facts.{allTests, judge};
 ghost use Rattle.layout.specs.inner.Bounds.{countMost, placeMost, headerMost, Bounded, ifBounded};
 ghost use Rattle.layout.specs.Records.{eachRecord};
 ghost use Rattle.fields.specs.Agreement.{entriesAgree, rankInCount, kindAgrees, agreementFacts};
@@ -42,24 +42,39 @@ fn entries_agree(v: Judged, f: &[u8], entries: usize, from: usize, count: usize)
 }
 
 // A balise's rank, which 01 calls its place, is at most its count.
+fn rank_obeys(f: &[u8], at: u32) -> bool
+    ensures { λ r. ⌜ r ≡ allTests (rankInCount (now (f .entry)) at ∷ []) ⌝ }
+{
+    let byte = number_of(f, at, Balise::GROUP);
+    Balise::rank_of(byte) <= Balise::count_of(byte)
+}
+
+// The same, as a fact.
 fn rank_in_count(v: Judged, f: &[u8], at: u32) -> Judged
     ensures { λ r. ⌜ r ≡ judge v (rankInCount (now (f .entry)) at ∷ []) ⌝ }
 {
-    let byte = number_of(f, at, Balise::GROUP);
-    let ok = Balise::rank_of(byte) <= Balise::count_of(byte);
+    let ok = rank_obeys(f, at);
+    let place = place_of(at, Balise::GROUP);
     let rule = Rule::RankInCount;
-    also_fact(
-        v,
-        ok,
-        Reason::Agreement,
-        at as usize,
-        place_of(at, Balise::GROUP),
-        1,
-        rule,
-    )
+    also_fact(v, ok, Reason::Agreement, at as usize, place, 1, rule)
 }
 
-// A record of a kind.
+// A record of a kind: only a balise has a rule.
+fn agreement_obeys(f: &[u8], k: Kind, at: u32) -> bool
+    ensures { λ r. ⌜ r ≡ allTests (kindAgrees (now (f .entry)) k at) ⌝ }
+{
+    match k {
+        Kind::StartBoundary => true,
+        Kind::EndBoundary => true,
+        Kind::Turnout => true,
+        Kind::Balise => rank_obeys(f, at),
+        Kind::Signal => true,
+        Kind::Joint => true,
+        Kind::Siding => true,
+    }
+}
+
+// The same, as facts.
 fn kind_agrees(v: Judged, f: &[u8], k: Kind, at: u32) -> Judged
     ensures { λ r. ⌜ r ≡ judge v (kindAgrees (now (f .entry)) k at) ⌝ }
 {
@@ -74,20 +89,21 @@ fn kind_agrees(v: Judged, f: &[u8], k: Kind, at: u32) -> Judged
     }
 }
 
-// Every record.
+// Every record: the facts of the first that does not obey are the verdict.
 fn records_agree(v: Judged, f: &[u8], l: Layout) -> Judged
     requires { ⌜ Bounded l ⌝ }
     ensures { λ r. ⌜ r ≡ judge v (eachRecord (now (f .entry)) l (kindAgrees (now (f .entry)))) ⌝ }
 {
     let end = l.end;
-    let mut w = v;
     let mut at = l.starts;
     while at < end {
         let k = kind_at(l, at);
-        w = kind_agrees(w, f, k, at as u32);
+        if !agreement_obeys(f, k, at as u32) {
+            return kind_agrees(v, f, k, at as u32);
+        }
         at = at + size_of(f, k, at);
     }
-    w
+    v
 }
 
 // The tracks of the header and every record.

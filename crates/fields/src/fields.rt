@@ -7,6 +7,7 @@ ghost use Rattle.fields.specs.Fields.{kindFields, fieldFacts};
 use crate::header::entries_fields;
 use crate::header::header_fields;
 use crate::kinds::kind_fields;
+use crate::kinds::kind_obeys;
 use layout::ENTRY_SIZE;
 use layout::Layout;
 use layout::START_ENTRIES;
@@ -15,20 +16,21 @@ use layout::kind_at;
 use layout::size_of;
 use verdict::Judged;
 
-// The fields of every record.
+// The fields of every record: the facts of the first that does not obey are the verdict.
 fn records_fields(v: Judged, f: &[u8], l: Layout) -> Judged
     requires { ⌜ Bounded l ⌝ }
     ensures { λ r. ⌜ r ≡ judge v (eachRecord (now (f .entry)) l (kindFields (now (f .entry)))) ⌝ }
 {
     let end = l.end;
-    let mut w = v;
     let mut at = l.starts;
     while at < end {
         let k = kind_at(l, at);
-        w = kind_fields(w, f, k, at as u32);
+        if !kind_obeys(f, k, at as u32) {
+            return kind_fields(v, f, k, at as u32);
+        }
         at = at + size_of(f, k, at);
     }
-    w
+    v
 }
 
 // The fields of the header and of every record.

@@ -1,7 +1,8 @@
-// The fields of each kind of record: tables 6 to 12, a line for each rule in the table's order. `at` is where the record starts.
+// The fields of each kind of record: tables 6 to 12, a line for each rule in the table's order. For each table there are two functions: one
+// tests the record, and one is the verdict so far, then the facts of the table. `at` is where the record starts.
 ghost use mathlib.Core.Path.{_≡_};
 ghost use mathlib.Core.List.{_++_};
-ghost use Rattle.verdict.specs.Facts.{judge};
+ghost use Rattle.verdict.specs.Facts.{allTests, judge};
 ghost use Rattle.tables.specs.Rows.{tableFacts};
 ghost use Rattle.records.specs.Rows.{boundaryTable, turnoutTable, baliseTable, signalTable, jointTable, sidingTable};
 ghost use Rattle.fields.specs.Fields.{messageFields, kindFields};
@@ -24,7 +25,13 @@ use records::Turnout;
 use tables::among_five;
 use tables::among_four;
 use tables::between;
+use tables::equals;
 use tables::exactly;
+use tables::has_name;
+use tables::has_part;
+use tables::is_among_five;
+use tables::is_among_four;
+use tables::lies_between;
 use tables::named;
 use tables::number_of;
 use tables::part;
@@ -35,6 +42,26 @@ use verdict::Rule;
 use verdict::also_fact;
 
 // Tables 6 and 7: a boundary, whose type byte lies between two numbers.
+fn boundary_obeys(f: &[u8], at: u32, low: usize, high: usize) -> bool
+    ensures { λ r. ⌜ r ≡ allTests (tableFacts (now (f .entry)) at (boundaryTable low high)) ⌝ }
+{
+    let entry = lies_between(f, at, Boundary::ENTRY, low, high);
+    let neighbour = is_among_five(
+        f,
+        at,
+        Boundary::NEIGHBOUR_TYPE,
+        Boundary::START_UP,
+        Boundary::START_DOWN,
+        Boundary::END_UP,
+        Boundary::END_DOWN,
+        Boundary::UNKNOWN,
+    );
+    let position = lies_between(f, at, Boundary::POSITION, 0, POSITION_MOST);
+    let track = lies_between(f, at, Boundary::TRACK, 1, 255);
+    entry & (neighbour & (position & track))
+}
+
+// The same, as facts.
 fn boundary_fields(v: Judged, f: &[u8], at: u32, low: usize, high: usize) -> Judged
     ensures { λ r. ⌜ r ≡ judge v (tableFacts (now (f .entry)) at (boundaryTable low high)) ⌝ }
 {
@@ -55,6 +82,23 @@ fn boundary_fields(v: Judged, f: &[u8], at: u32, low: usize, high: usize) -> Jud
 }
 
 // Table 8: a turnout.
+fn turnout_obeys(f: &[u8], at: u32) -> bool
+    ensures { λ r. ⌜ r ≡ allTests (tableFacts (now (f .entry)) at turnoutTable) ⌝ }
+{
+    let entry = equals(f, at, Turnout::ENTRY, Turnout::TYPE);
+    let number = lies_between(f, at, Turnout::NUMBER, 1, 255);
+    let direction = lies_between(f, at, Turnout::DIRECTION, 0, 1);
+    let tip = lies_between(f, at, Turnout::TIP_POSITION, 0, POSITION_MOST);
+    let normal = lies_between(f, at, Turnout::NORMAL_POSITION, 0, POSITION_MOST);
+    let reverse = lies_between(f, at, Turnout::REVERSE_POSITION, 0, POSITION_MOST);
+    let front_track = lies_between(f, at, Turnout::FRONT_TRACK, 1, 255);
+    let normal_track = lies_between(f, at, Turnout::NORMAL_TRACK, 1, 255);
+    let reverse_track = lies_between(f, at, Turnout::REVERSE_TRACK, 1, 255);
+    let tracks = front_track & (normal_track & reverse_track);
+    entry & (number & (direction & (tip & (normal & (reverse & tracks)))))
+}
+
+// The same, as facts.
 fn turnout_fields(v: Judged, f: &[u8], at: u32) -> Judged
     ensures { λ r. ⌜ r ≡ judge v (tableFacts (now (f .entry)) at turnoutTable) ⌝ }
 {
@@ -70,6 +114,27 @@ fn turnout_fields(v: Judged, f: &[u8], at: u32) -> Judged
 }
 
 // Table 9: a balise without its message.
+fn fixed_obeys(f: &[u8], at: u32) -> bool
+    ensures { λ r. ⌜ r ≡ allTests (tableFacts (now (f .entry)) at baliseTable) ⌝ }
+{
+    let entry = equals(f, at, Balise::ENTRY, Balise::TYPE);
+    let number = lies_between(f, at, Balise::NUMBER, 0, Balise::NONE - 1);
+    let attribute = is_among_four(
+        f,
+        at,
+        Balise::ATTRIBUTE,
+        OPPOSITE_VIRTUAL,
+        OPPOSITE_PHYSICAL,
+        SAME_VIRTUAL,
+        SAME_PHYSICAL,
+    );
+    let position = lies_between(f, at, Balise::POSITION, 0, POSITION_MOST);
+    let track = lies_between(f, at, Balise::TRACK, 1, 255);
+    let group = has_part(f, at, Balise::GROUP, Balise::MIDDLE, 0, 0);
+    entry & (number & (attribute & (position & (track & group))))
+}
+
+// The same, as facts.
 fn fixed_fields(v: Judged, f: &[u8], at: u32) -> Judged
     ensures { λ r. ⌜ r ≡ judge v (tableFacts (now (f .entry)) at baliseTable) ⌝ }
 {
@@ -91,6 +156,19 @@ fn fixed_fields(v: Judged, f: &[u8], at: u32) -> Judged
 }
 
 // The message of a balise, where it has one: its last byte is 0xFF.
+fn message_obeys(f: &[u8], at: u32) -> bool
+    ensures { λ r. ⌜ r ≡ allTests (messageFields (now (f .entry)) at) ⌝ }
+{
+    let size = number_of(f, at, Balise::SIZE_BYTE);
+    if size <= Balise::SIZE {
+        return true;
+    }
+    let place = at as usize + Balise::MESSAGE;
+    let width = size - Balise::SIZE;
+    byte_at(f, place + width - 1) == MESSAGE_END
+}
+
+// The same, as facts.
 fn message_fields(v: Judged, f: &[u8], at: u32) -> Judged
     ensures { λ r. ⌜ r ≡ judge v (messageFields (now (f .entry)) at) ⌝ }
 {
@@ -98,23 +176,24 @@ fn message_fields(v: Judged, f: &[u8], at: u32) -> Judged
     if size <= Balise::SIZE {
         return v;
     }
+    let ok = message_obeys(f, at);
     let start = at as usize;
     let place = start + Balise::MESSAGE;
     let width = size - Balise::SIZE;
-    let last = byte_at(f, place + width - 1);
     let rule = Rule::LastByte(MESSAGE_END);
-    also_fact(
-        v,
-        last == MESSAGE_END,
-        Reason::Field,
-        start,
-        place,
-        width,
-        rule,
-    )
+    also_fact(v, ok, Reason::Field, start, place, width, rule)
 }
 
 // A balise.
+fn balise_obeys(f: &[u8], at: u32) -> bool
+    ensures { λ r. ⌜ r ≡ allTests (tableFacts (now (f .entry)) at baliseTable ++ messageFields (now (f .entry)) at) ⌝ }
+{
+    let fixed = fixed_obeys(f, at);
+    let message = message_obeys(f, at);
+    fixed & message
+}
+
+// The same, as facts.
 fn balise_fields(v: Judged, f: &[u8], at: u32) -> Judged
     ensures { λ r. ⌜ r ≡ judge v (tableFacts (now (f .entry)) at baliseTable ++ messageFields (now (f .entry)) at) ⌝ }
 {
@@ -123,6 +202,20 @@ fn balise_fields(v: Judged, f: &[u8], at: u32) -> Judged
 }
 
 // Table 10: a signal.
+fn signal_obeys(f: &[u8], at: u32) -> bool
+    ensures { λ r. ⌜ r ≡ allTests (tableFacts (now (f .entry)) at signalTable) ⌝ }
+{
+    let entry = equals(f, at, Signal::ENTRY, Signal::TYPE);
+    let name = has_name(f, at, Signal::NAME, 1);
+    let position = lies_between(f, at, Signal::POSITION, 0, POSITION_MOST);
+    let track = lies_between(f, at, Signal::TRACK, 1, 255);
+    let top = has_part(f, at, Signal::BYTE, Signal::TOP, 0, FACING_MOST);
+    let middle = has_part(f, at, Signal::BYTE, Signal::MIDDLE, 0, 0);
+    let low = has_part(f, at, Signal::BYTE, Signal::LOW, DUTY_LEAST, DUTY_MOST);
+    entry & (name & (position & (track & (top & (middle & low)))))
+}
+
+// The same, as facts.
 fn signal_fields(v: Judged, f: &[u8], at: u32) -> Judged
     ensures { λ r. ⌜ r ≡ judge v (tableFacts (now (f .entry)) at signalTable) ⌝ }
 {
@@ -136,6 +229,17 @@ fn signal_fields(v: Judged, f: &[u8], at: u32) -> Judged
 }
 
 // Table 11: a joint.
+fn joint_obeys(f: &[u8], at: u32) -> bool
+    ensures { λ r. ⌜ r ≡ allTests (tableFacts (now (f .entry)) at jointTable) ⌝ }
+{
+    let entry = equals(f, at, Joint::ENTRY, Joint::TYPE);
+    let name = has_name(f, at, Joint::NAME, 1);
+    let position = lies_between(f, at, Joint::POSITION, 0, POSITION_MOST);
+    let track = lies_between(f, at, Joint::TRACK, 1, 255);
+    entry & (name & (position & track))
+}
+
+// The same, as facts.
 fn joint_fields(v: Judged, f: &[u8], at: u32) -> Judged
     ensures { λ r. ⌜ r ≡ judge v (tableFacts (now (f .entry)) at jointTable) ⌝ }
 {
@@ -146,6 +250,18 @@ fn joint_fields(v: Judged, f: &[u8], at: u32) -> Judged
 }
 
 // Table 12: a siding, whose two exit signal names may be all zero.
+fn siding_obeys(f: &[u8], at: u32) -> bool
+    ensures { λ r. ⌜ r ≡ allTests (tableFacts (now (f .entry)) at sidingTable) ⌝ }
+{
+    let entry = equals(f, at, Siding::ENTRY, Siding::TYPE);
+    let name = has_name(f, at, Siding::NAME, 1);
+    let track = lies_between(f, at, Siding::TRACK, 1, 255);
+    let up = has_name(f, at, Siding::UP_SIGNAL, 0);
+    let down = has_name(f, at, Siding::DOWN_SIGNAL, 0);
+    entry & (name & (track & (up & down)))
+}
+
+// The same, as facts.
 fn siding_fields(v: Judged, f: &[u8], at: u32) -> Judged
     ensures { λ r. ⌜ r ≡ judge v (tableFacts (now (f .entry)) at sidingTable) ⌝ }
 {
@@ -157,6 +273,21 @@ fn siding_fields(v: Judged, f: &[u8], at: u32) -> Judged
 }
 
 // A record of a kind.
+pub fn kind_obeys(f: &[u8], k: Kind, at: u32) -> bool
+    ensures { λ r. ⌜ r ≡ allTests (kindFields (now (f .entry)) k at) ⌝ }
+{
+    match k {
+        Kind::StartBoundary => boundary_obeys(f, at, Boundary::START_UP, Boundary::START_DOWN),
+        Kind::EndBoundary => boundary_obeys(f, at, Boundary::END_DOWN, Boundary::END_UP),
+        Kind::Turnout => turnout_obeys(f, at),
+        Kind::Balise => balise_obeys(f, at),
+        Kind::Signal => signal_obeys(f, at),
+        Kind::Joint => joint_obeys(f, at),
+        Kind::Siding => siding_obeys(f, at),
+    }
+}
+
+// The same, as facts.
 pub fn kind_fields(v: Judged, f: &[u8], k: Kind, at: u32) -> Judged
     ensures { λ r. ⌜ r ≡ judge v (kindFields (now (f .entry)) k at) ⌝ }
 {

@@ -1,15 +1,15 @@
 -- How the verdict of a check comes from the verdicts of its parts, one law for each way out of the code.
 -- Assumes nothing.
 use Prim.Native.Nat.{ℕ, _+_}
-use mathlib.Core.Path.{_≡_, _∙_, ap}
-use mathlib.Core.Bool.{cond}
+use mathlib.Core.Path.{_≡_, _∙_, sym, ap}
+use mathlib.Core.Bool.{Bool, cond, _&&_}
 use mathlib.Core.List.{List, [], _∷_, _++_, flatMap}
 use lib.Dec.{ltb, eqb}
 use Rattle.verdict.specs.declared.Mark.{Mark}
 use Rattle.verdict.specs.declared.Judged.{Judged}
 use Rattle.verdict.specs.declared.Judged.the-variants.{Accepted, Refused}
-use Rattle.verdict.specs.Facts.{Fact, judge, firstFault}
-use Rattle.verdict.proofs.Facts.{judge-then, judge-first, stops, goes-on}
+use Rattle.verdict.specs.Facts.{Fact, allTests, judge, firstFault}
+use Rattle.verdict.proofs.Facts.{tests-then, judge-then, judge-refused, judge-first, stops, goes-on}
 use Rattle.rules.specs.Rules.{lengthBetween}
 use Rattle.seal.specs.Seal.{mostLength, sealFacts}
 use Rattle.tracks.specs.Places.{leastLength, pointSize}
@@ -42,6 +42,19 @@ module _ (f : List ℕ) (size : ℕ) (v x r : Judged) where
   pub track-judged : (e : ℕ) → x ≡ judge v (numberAgrees f e) → r ≡ judge x (flatMap (pointAgrees f size e) (pointsOf f size e)) → r ≡ judge v (trackAgrees f size e)
   unfolding trackAgrees
   track-judged e p q = judge-then v x r (numberAgrees f e) (flatMap (pointAgrees f size e) (pointsOf f size e)) p q
+
+-- The tests of a point, from those of its parts.
+module _ (f : List ℕ) (size : ℕ) (x y z : Bool) where
+  pub point-tested : (e first last p : ℕ) → first ≡ firstOf f e → last ≡ lastOf f e → x ≡ allTests (cond (ltb p (first + size)) (opens f size p) (rises f size p)) → y ≡ allTests (stays f e p)
+      → z ≡ allTests (cond (eqb p last) (closes f e p) []) → (x && (y && z)) ≡ allTests (pointAgrees f size e p)
+  point-tested e first last p i j a b d =
+      tests-then x (y && z) (cond (ltb p (firstOf f e + size)) (opens f size p) (rises f size p)) (stays f e p ++ cond (eqb p (lastOf f e)) (closes f e p) [])
+      (a ∙ ap (λ (n : ℕ). allTests (cond (ltb p (n + size)) (opens f size p) (rises f size p))) i)
+      (tests-then y z (stays f e p) (cond (eqb p (lastOf f e)) (closes f e p) []) b (d ∙ ap (λ (n : ℕ). allTests (cond (eqb p n) (closes f e p) [])) j))
+
+-- A refusal stays, whatever facts follow.
+pub refused-stays : (w : Judged) (m : Mark) (fs : List Fact) → w ≡ Refused m → w ≡ judge w fs
+refused-stays w m fs e = e ∙ sym (judge-refused m fs) ∙ ap (λ (y : Judged). judge y fs) (sym e)
 
 -- The checks of a file, one after the other: s is the verdict of the length, t of the checksum, the type and the version, l of the
 -- layout, d of the fields.

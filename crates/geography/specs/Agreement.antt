@@ -3,14 +3,14 @@
 -- Assumes nothing.
 use Prim.Native.Nat.{ℕ, _+_, _-_, _^_, _<_}
 use mathlib.Core.Path.{_≡_}
-use mathlib.Core.Bool.{cond}
+use mathlib.Core.Bool.{Bool, true, cond}
 use mathlib.Core.List.{List, [], _∷_, _++_, flatMap}
 use lib.Dec.{ltb, eqb}
 use lib.IntN.{ℤ, natAbs, _+ℤ_, _-ℤ_}
 use lib.Signed.{mag}
-use Rattle.octets.specs.Octets.{bytesOf}
+use Rattle.octets.specs.Octets.{bytesOf, IsSigned}
 use Rattle.octets.specs.declared.Width.the-variants.{One, Three, Four}
-use Rattle.verdict.specs.Facts.{Fact, fact, same, atMost}
+use Rattle.verdict.specs.Facts.{Fact, fact, same, atMost, allTests}
 use Rattle.verdict.specs.Walk.{startsFrom}
 use Rattle.verdict.specs.declared.Mark.{Mark}
 use Rattle.verdict.specs.declared.Rule.{Rule}
@@ -22,6 +22,7 @@ use Rattle.tables.specs.declared.Field.{Field}
 use Rattle.tracks.specs.declared.Axis.{Axis}
 use Rattle.tracks.specs.Places.{entrySize, latitudeMost, longitudeMost}
 use Rattle.tracks.specs.Rows as rows
+use Rattle.geography.specs.declared.agreement.Frame.{Frame}
 use Rattle.geography.specs.Layout.{isFirst, firstOf, lastOf, entries}
 
 -- ---- start plus increment
@@ -105,3 +106,17 @@ trackAgrees f size e = numberAgrees f e ++ flatMap (pointAgrees f size e) (point
 
 unfoldable pub agreementFacts : List ℕ → ℕ → List Fact
 agreementFacts f size = flatMap (trackAgrees f size) (entries f)
+
+-- ---- what the code reads of an entry once for all its points
+
+-- a start is roomy: every point stays in the coordinates' ranges
+abbrev pub Roomy : List ℕ → ℕ → Bool → Type 0
+Roomy f e r = r ≡ true → (p : ℕ) → allTests (stays f e p) ≡ true
+
+-- t is what the entry at e has
+pub record FrameOf (f : List ℕ) (e : ℕ) (t : Frame) : Type 0 where
+  pub first : t .first ≡ firstOf f e
+  pub last : t .last ≡ lastOf f e
+  pub latitude : IsSigned 4 f (fieldPlace e rows.startLatitude) (t .latitude)
+  pub longitude : IsSigned 4 f (fieldPlace e rows.startLongitude) (t .longitude)
+  pub roomy : Roomy f e (t .roomy)

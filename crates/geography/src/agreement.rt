@@ -2,21 +2,27 @@
 ghost use mathlib.Core.Path.{_≡_};
 ghost use mathlib.Core.Bool.{cond};
 ghost use mathlib.Core.List.{[], _∷_, flatMap};
-ghost use Prim.Native.Nat.{_+_, _<_};
+ghost use Prim.Native.Nat.{_+_, _^_, _<_};
 ghost use lib.Dec.{ltb, eqb};
+ghost use lib.IntN.{natAbs, _+ℤ_, _-ℤ_};
+ghost use lib.Signed.{mag};
 ghost use Rattle.octets.specs.Octets.{bytesOf};
-ghost use Rattle.verdict.specs.Facts.{also, judge};
+ghost use Rattle.verdict.specs.Facts.{same, atMost, test, allTests, also, judge};
 ghost use Rattle.rules.specs.Rules.{zeroAt, sameAs, above};
+ghost use Rattle.tables.specs.Table.{signedOf};
 ghost use Rattle.geography.specs.Layout.{firstOf, lastOf};
-ghost use Rattle.geography.specs.Agreement.{SumOf, fieldRow, pointMark, sumWithin, sumIs, numberAgrees, opens, rises, stays, closes, pointAgrees, pointsOf, trackAgrees, agreementFacts};
+ghost use Rattle.geography.specs.Agreement.{SumOf, Roomy, FrameOf, fieldRow, pointMark, sumWithin, sumIs, numberAgrees, opens, rises, stays, closes, pointAgrees, pointsOf, trackAgrees, agreementFacts};
 use crate::layout::entry_before;
 use crate::layout::is_first;
 use crate::layout::points_at;
+use octets::byte_at;
 use octets::distance;
 use rules::above;
 use rules::same_as;
 use rules::zero_at;
 use tables::Field;
+use tables::equals;
+use tables::lies_within;
 use tables::number_of;
 use tables::place_of;
 use tables::signed_of;
@@ -35,13 +41,22 @@ use verdict::also_fact;
 
 // ---- start plus increment
 
+// A start plus the increment of the point at p.
+fn sum_from(f: &[u8], start: i64, p: u32, increment: Field) -> i64
+    requires { ⌜ mag start < 2 ^ 31 ⌝ }
+    ensures { λ r. ⌜ r ≡ start +ℤ signedOf (now (f .entry)) p (fieldRow increment) ⌝ }
+    ensures { λ r. ⌜ mag r < 2 ^ 33 ⌝ }
+{
+    start + signed_of(f, p, increment)
+}
+
 // The start, of the entry at e, plus the increment, of the point at p.
 pub fn sum_of(f: &[u8], axis: Axis, e: u32, p: u32) -> i64
     ensures { λ r. ⌜ SumOf (now (f .entry)) axis e p r ⌝ }
 {
     let start = axis.start;
     let increment = axis.increment;
-    signed_of(f, e, start) + signed_of(f, p, increment)
+    sum_from(f, signed_of(f, e, start), p, increment)
 }
 
 // The verdict so far, then one rule of the point at p.
@@ -53,27 +68,46 @@ fn ask(v: Judged, ok: bool, p: u32, k: Field, rule: Rule) -> Judged
     also_fact(v, ok, Reason::Agreement, at, at, width.bytes(), rule)
 }
 
-// Start plus increment is at most so far from 0.
+// A start plus the increment of the point at p is at most so far from 0.
+fn sum_lies_within(f: &[u8], start: i64, p: u32, increment: Field, limit: usize) -> bool
+    requires { ⌜ mag start < 2 ^ 31 ⌝ }
+    ensures { λ r. ⌜ r ≡ test (atMost (natAbs (start +ℤ signedOf (now (f .entry)) p (fieldRow increment))) limit) ⌝ }
+{
+    distance(sum_from(f, start, p, increment)) <= limit
+}
+
+// The same of the entry at e, as a fact.
 fn sum_within(v: Judged, f: &[u8], axis: Axis, e: u32, p: u32, limit: usize) -> Judged
     ensures { λ r. ⌜ r ≡ judge v (sumWithin (now (f .entry)) e (fieldRow (axis .start)) p (fieldRow (axis .increment)) limit ∷ []) ⌝ }
 {
     let start = axis.start;
     let increment = axis.increment;
-    let far = distance(sum_of(f, axis, e, p));
+    let from = signed_of(f, e, start);
+    let ok = sum_lies_within(f, from, p, increment, limit);
     let rule = Rule::SumWithin(place_of(p, increment), place_of(e, start), limit);
-    ask(v, far <= limit, p, increment, rule)
+    ask(v, ok, p, increment, rule)
 }
 
-// Start plus increment is the end.
+// A start plus the increment of the point at p is the end.
+fn sum_equals(f: &[u8], start: i64, end: i64, p: u32, increment: Field) -> bool
+    requires { ⌜ (mag start < 2 ^ 31) × (mag end < 2 ^ 31) ⌝ }
+    ensures { λ r. ⌜ r ≡ test (same (natAbs (start +ℤ signedOf (now (f .entry)) p (fieldRow increment) -ℤ end)) 0) ⌝ }
+{
+    distance(sum_from(f, start, p, increment) - end) == 0
+}
+
+// The same of the entry at e, as a fact.
 fn sum_is(v: Judged, f: &[u8], axis: Axis, e: u32, p: u32) -> Judged
     ensures { λ r. ⌜ r ≡ judge v (sumIs (now (f .entry)) e (fieldRow (axis .start)) (fieldRow (axis .end)) p (fieldRow (axis .increment)) ∷ []) ⌝ }
 {
     let start = axis.start;
     let end = axis.end;
     let increment = axis.increment;
-    let far = distance(sum_of(f, axis, e, p) - signed_of(f, e, end));
+    let from = signed_of(f, e, start);
+    let to = signed_of(f, e, end);
+    let ok = sum_equals(f, from, to, p, increment);
     let rule = Rule::SumIs(place_of(p, increment), place_of(e, start), place_of(e, end));
-    ask(v, far == 0, p, increment, rule)
+    ask(v, ok, p, increment, rule)
 }
 
 // ---- one field of a record against another
@@ -105,6 +139,43 @@ fn is_above(v: Judged, f: &[u8], at: u32, before: u32, k: Field, place: usize) -
     above(v, f, at as usize, place, width, place_of(at, k), other)
 }
 
+// ---- what the points of a track are held against
+
+// The frame of a track, read once for all its points: where the first and the last of them stand, where the track starts, and whether it
+// starts so far inside both ranges that no increment leads out of them.
+struct Frame {
+    first: u16,
+    last: u16,
+    latitude: i64,
+    longitude: i64,
+    roomy: bool,
+}
+
+// An increment has three bytes, and no number of three bytes reaches so far.
+const BEYOND: usize = 0x100_0000;
+
+// The track of the entry at e starts so far inside both ranges that no increment leads out of them.
+fn is_roomy(f: &[u8], e: u32) -> bool
+    ensures { λ r. ⌜ Roomy (now (f .entry)) e r ⌝ }
+{
+    let north = lies_within(f, e, Track::START_LATITUDE, LATITUDE_MOST - BEYOND);
+    let east = lies_within(f, e, Track::START_LONGITUDE, LONGITUDE_MOST - BEYOND);
+    north & east
+}
+
+// The frame of the entry at e.
+fn frame_of(f: &[u8], e: u32) -> Frame
+    ensures { λ r. ⌜ FrameOf (now (f .entry)) e r ⌝ }
+{
+    Frame {
+        first: number_of(f, e, Track::FIRST) as u16,
+        last: number_of(f, e, Track::LAST) as u16,
+        latitude: signed_of(f, e, Track::START_LATITUDE),
+        longitude: signed_of(f, e, Track::START_LONGITUDE),
+        roomy: is_roomy(f, e),
+    }
+}
+
 // ---- the facts
 
 // The number of the entry at e is above that of the entry before it.
@@ -116,6 +187,19 @@ fn number_agrees(v: Judged, f: &[u8], e: u32) -> Judged
     }
     let place = place_of(e, Track::NUMBER);
     is_above(v, f, e, entry_before(e), Track::NUMBER, place)
+}
+
+// The first point of a track obeys.
+fn opening_obeys(f: &[u8], size: u8, p: u32) -> bool
+    ensures { λ r. ⌜ r ≡ allTests (opens (now (f .entry)) size p) ⌝ }
+{
+    let step = size as usize;
+    let position = equals(f, p, Point::POSITION, 0);
+    let latitude = equals(f, p, Point::LATITUDE_INCREMENT, 0);
+    let longitude = equals(f, p, Point::LONGITUDE_INCREMENT, 0);
+    let second = byte_at(f, place_of(p, Point::NEAR) + step);
+    let near = equals(f, p, Point::NEAR, second);
+    position & (latitude & (longitude & near))
 }
 
 // The first point of a track.
@@ -130,6 +214,17 @@ fn opens_at(v: Judged, f: &[u8], size: u8, p: u32) -> Judged
     is_same(w, f, p, Point::NEAR, second)
 }
 
+// A point of a track obeys as its first one or as a later one.
+fn start_obeys(f: &[u8], size: u8, first: u16, p: u32) -> bool
+    ensures { λ r. ⌜ r ≡ allTests (cond (ltb p (first + size)) (opens (now (f .entry)) size p) (rises (now (f .entry)) size p)) ⌝ }
+{
+    let step = size as u32;
+    if p < first as u32 + step {
+        return opening_obeys(f, size, p);
+    }
+    number_of(f, p - step, Point::POSITION) < number_of(f, p, Point::POSITION)
+}
+
 // A point of a track, as its first one or as a later one.
 fn starts_right(v: Judged, f: &[u8], size: u8, first: u16, p: u32) -> Judged
     ensures { λ r. ⌜ r ≡ judge v (cond (ltb p (first + size)) (opens (now (f .entry)) size p) (rises (now (f .entry)) size p)) ⌝ }
@@ -141,12 +236,48 @@ fn starts_right(v: Judged, f: &[u8], size: u8, first: u16, p: u32) -> Judged
     is_above(v, f, p, p - step, Point::POSITION, p as usize)
 }
 
+// A point of a track obeys as every one of them has to.
+fn stay_obeys(f: &[u8], e: u32, t: Frame, p: u32) -> bool
+    requires { ⌜ FrameOf (now f) e t ⌝ }
+    ensures { λ r. ⌜ r ≡ allTests (stays (now (f .entry)) e p) ⌝ }
+{
+    if t.roomy {
+        return true;
+    }
+    let north = sum_lies_within(f, t.latitude, p, Point::LATITUDE_INCREMENT, LATITUDE_MOST);
+    let east = sum_lies_within(
+        f,
+        t.longitude,
+        p,
+        Point::LONGITUDE_INCREMENT,
+        LONGITUDE_MOST,
+    );
+    north & east
+}
+
 // Every point of a track.
 fn stays_in(v: Judged, f: &[u8], e: u32, p: u32) -> Judged
     ensures { λ r. ⌜ r ≡ judge v (stays (now (f .entry)) e p) ⌝ }
 {
     let w = sum_within(v, f, LATITUDE, e, p, LATITUDE_MOST);
     sum_within(w, f, LONGITUDE, e, p, LONGITUDE_MOST)
+}
+
+// A point of a track obeys where it is the last one.
+fn end_obeys(f: &[u8], e: u32, t: Frame, p: u32) -> bool
+    requires { ⌜ FrameOf (now f) e t ⌝ }
+    ensures { λ r. ⌜ r ≡ allTests (cond (eqb p (t .last)) (closes (now (f .entry)) e p) []) ⌝ }
+{
+    if p != t.last as u32 {
+        return true;
+    }
+    let end = number_of(f, e, Track::END_POSITION);
+    let end_north = signed_of(f, e, Track::END_LATITUDE);
+    let end_east = signed_of(f, e, Track::END_LONGITUDE);
+    let position = equals(f, p, Point::POSITION, end);
+    let north = sum_equals(f, t.latitude, end_north, p, Point::LATITUDE_INCREMENT);
+    let east = sum_equals(f, t.longitude, end_east, p, Point::LONGITUDE_INCREMENT);
+    position & (north & east)
 }
 
 // A point of a track, where it is the last one.
@@ -162,6 +293,14 @@ fn ends_right(v: Judged, f: &[u8], e: u32, last: u16, p: u32) -> Judged
     sum_is(w, f, LONGITUDE, e, p)
 }
 
+// One point of the entry at e obeys.
+fn point_obeys(f: &[u8], size: u8, e: u32, t: Frame, p: u32) -> bool
+    requires { ⌜ FrameOf (now f) e t ⌝ }
+    ensures { λ r. ⌜ r ≡ allTests (pointAgrees (now (f .entry)) size e p) ⌝ }
+{
+    start_obeys(f, size, t.first, p) && (stay_obeys(f, e, t, p) && end_obeys(f, e, t, p))
+}
+
 // One point of the entry at e.
 fn point_agrees(v: Judged, f: &[u8], size: u8, e: u32, first: u16, last: u16, p: u32) -> Judged
     requires { ⌜ (first ≡ firstOf (now f) e) × (last ≡ lastOf (now f) e) ⌝ }
@@ -172,22 +311,22 @@ fn point_agrees(v: Judged, f: &[u8], size: u8, e: u32, first: u16, last: u16, p:
     ends_right(w, f, e, last, p)
 }
 
-// The points of the entry at e.
+// The points of the entry at e: the first that does not obey is the verdict.
 fn points_agree(v: Judged, f: &[u8], size: u8, e: u32) -> Judged
     requires { ⌜ 0 < size ⌝ }
     ensures { λ r. ⌜ r ≡ judge v (flatMap (pointAgrees (now (f .entry)) size e) (pointsOf (now (f .entry)) size e)) ⌝ }
 {
-    let first = number_of(f, e, Track::FIRST) as u16;
-    let last = number_of(f, e, Track::LAST) as u16;
+    let t = frame_of(f, e);
     let step = size as u32;
-    let stop = last as u32 + step;
-    let mut w = v;
-    let mut p = first as u32;
+    let stop = t.last as u32 + step;
+    let mut p = t.first as u32;
     while p < stop {
-        w = point_agrees(w, f, size, e, first, last, p);
+        if !point_obeys(f, size, e, t, p) {
+            return point_agrees(v, f, size, e, t.first, t.last, p);
+        }
         p = p + step;
     }
-    w
+    v
 }
 
 // The entry at e and its points.
@@ -199,7 +338,7 @@ fn track_agrees(v: Judged, f: &[u8], size: u8, e: u32) -> Judged
     points_agree(w, f, size, e)
 }
 
-// The verdict so far, then the agreement.
+// The verdict so far, then the agreement: after a track at fault none is looked at.
 pub fn check_agreement(v: Judged, f: &[u8], size: u8) -> Judged
     requires { ⌜ 0 < size ⌝ }
     ensures { λ r. ⌜ r ≡ judge v (agreementFacts (now (f .entry)) size) ⌝ }
@@ -209,6 +348,9 @@ pub fn check_agreement(v: Judged, f: &[u8], size: u8) -> Judged
     let mut e = ENTRIES;
     while e < points {
         w = track_agrees(w, f, size, e);
+        let Judged::Accepted = w else {
+            return w;
+        };
         e = e + Track::SIZE as u32;
     }
     w

@@ -3,7 +3,7 @@ ghost use mathlib.Core.Path.{_≡_};
 ghost use mathlib.Core.List.{flatMap};
 ghost use Prim.Native.Nat.{_≤_, _<_};
 ghost use lib.ListN.{length};
-ghost use Rattle.verdict.specs.Facts.{judge};
+ghost use Rattle.verdict.specs.Facts.{allTests, judge};
 ghost use Rattle.seal.specs.Seal.{mostLength};
 ghost use Rattle.geography.specs.Layout.{entries};
 ghost use Rattle.geography.specs.Fields.{headerFields, entryFields, pointFields, allPoints, fieldFacts};
@@ -14,7 +14,10 @@ use seal::NUMBER_MOST;
 use seal::STATION;
 use seal::end_of;
 use tables::between;
+use tables::equals;
 use tables::exactly;
+use tables::lies_between;
+use tables::lies_within;
 use tables::within;
 use tracks::ENTRIES;
 use tracks::HEADING_MOST;
@@ -33,6 +36,21 @@ fn header_fields(v: Judged, f: &[u8]) -> Judged
     between(w, f, HEADER, STATION, 1, NUMBER_MOST)
 }
 
+// Every field of the entry at e has one of its values.
+fn entry_obeys(f: &[u8], e: u32) -> bool
+    ensures { λ r. ⌜ r ≡ allTests (entryFields (now (f .entry)) e) ⌝ }
+{
+    let number = lies_between(f, e, Track::NUMBER, 1, 255);
+    let property = lies_between(f, e, Track::PROPERTY, 1, 5);
+    let start = equals(f, e, Track::START_POSITION, 0);
+    let start_north = lies_within(f, e, Track::START_LATITUDE, LATITUDE_MOST);
+    let start_east = lies_within(f, e, Track::START_LONGITUDE, LONGITUDE_MOST);
+    let end = lies_between(f, e, Track::END_POSITION, 0, POSITION_MOST);
+    let end_north = lies_within(f, e, Track::END_LATITUDE, LATITUDE_MOST);
+    let end_east = lies_within(f, e, Track::END_LONGITUDE, LONGITUDE_MOST);
+    number & (property & (start & (start_north & (start_east & (end & (end_north & end_east))))))
+}
+
 // The fields of the entry at e.
 fn entry_fields(v: Judged, f: &[u8], e: u32) -> Judged
     ensures { λ r. ⌜ r ≡ judge v (entryFields (now (f .entry)) e) ⌝ }
@@ -47,18 +65,28 @@ fn entry_fields(v: Judged, f: &[u8], e: u32) -> Judged
     within(w, f, e, Track::END_LONGITUDE, LONGITUDE_MOST)
 }
 
-// The fields of every entry.
+// The fields of every entry: those of the first entry that does not obey are the verdict.
 fn entries_fields(v: Judged, f: &[u8]) -> Judged
     ensures { λ r. ⌜ r ≡ judge v (flatMap (entryFields (now (f .entry))) (entries (now (f .entry)))) ⌝ }
 {
     let points = points_at(f);
-    let mut w = v;
     let mut e = ENTRIES;
     while e < points {
-        w = entry_fields(w, f, e);
+        if !entry_obeys(f, e) {
+            return entry_fields(v, f, e);
+        }
         e = e + Track::SIZE as u32;
     }
-    w
+    v
+}
+
+// Every field of the point at p has one of its values.
+fn point_obeys(f: &[u8], p: u32) -> bool
+    ensures { λ r. ⌜ r ≡ allTests (pointFields (now (f .entry)) p) ⌝ }
+{
+    lies_between(f, p, Point::POSITION, 0, POSITION_MOST)
+        && (lies_within(f, p, Point::HEADING, HEADING_MOST)
+            && lies_between(f, p, Point::NEAR, 0, 1))
 }
 
 // The fields of the point at p.
@@ -70,19 +98,20 @@ fn point_fields(v: Judged, f: &[u8], p: u32) -> Judged
     between(w, f, p, Point::NEAR, 0, 1)
 }
 
-// The fields of every point.
+// The fields of every point: those of the first point that does not obey are the verdict.
 fn points_fields(v: Judged, f: &[u8], size: u8) -> Judged
     requires { ⌜ (length (now f) ≤ mostLength) × (0 < size) ⌝ }
     ensures { λ r. ⌜ r ≡ judge v (flatMap (pointFields (now (f .entry))) (allPoints (now (f .entry)) size)) ⌝ }
 {
     let end = end_of(f) as u32;
-    let mut w = v;
     let mut p = points_at(f);
     while p < end {
-        w = point_fields(w, f, p);
+        if !point_obeys(f, p) {
+            return point_fields(v, f, p);
+        }
         p = p + size as u32;
     }
-    w
+    v
 }
 
 // The verdict so far, then the fields.

@@ -3,13 +3,14 @@ ghost use mathlib.Core.Path.{_≡_};
 ghost use mathlib.Core.List.{[], _∷_, flatMap};
 ghost use Prim.Native.Nat.{_+_, _-_, _≤_};
 ghost use Rattle.octets.specs.Octets.{bytesOf};
-ghost use Rattle.verdict.specs.Facts.{judge};
+ghost use Rattle.verdict.specs.Facts.{allTests, judge};
 ghost use Rattle.rules.specs.Rules.{fits, whole};
 ghost use Rattle.tracks.specs.Places.{entrySize};
 ghost use Rattle.geography.specs.Layout.{pointsAt, pointsMost, isFirst, stopBefore, dueAt, entryLayout, entries, layoutFacts};
 use octets::less;
 use rules::ends_at;
 use rules::fits;
+use rules::rest;
 use rules::whole;
 use seal::HEADER;
 use seal::end_of;
@@ -86,6 +87,20 @@ fn whole_at(v: Judged, at: u32, k: Field, bytes: usize, size: u8) -> Judged
     )
 }
 
+// The offsets of the entry at e are what the layout asks.
+fn offsets_obey(f: &[u8], size: u8, e: u32) -> bool
+    ensures { λ r. ⌜ r ≡ allTests (entryLayout (now (f .entry)) size e) ⌝ }
+{
+    let first = number_of(f, e, Track::FIRST);
+    let last = number_of(f, e, Track::LAST);
+    let step = size as usize;
+    let due = first == due_at(f, size, e);
+    let above = first + step <= last;
+    let apart = rest(less(last, first), step) == 0;
+    let inside = last + step <= end_of(f);
+    due & (above & (apart & inside))
+}
+
 // The offsets of the entry at e.
 fn entry_layout(v: Judged, f: &[u8], size: u8, e: u32) -> Judged
     ensures { λ r. ⌜ r ≡ judge v (entryLayout (now (f .entry)) size e) ⌝ }
@@ -99,18 +114,19 @@ fn entry_layout(v: Judged, f: &[u8], size: u8, e: u32) -> Judged
     fits_at(w, e, Track::LAST, last + step, end_of(f))
 }
 
-// The offsets of every entry.
+// The offsets of every entry: those of the first entry that does not obey are the verdict.
 fn entries_layout(v: Judged, f: &[u8], size: u8) -> Judged
     ensures { λ r. ⌜ r ≡ judge v (flatMap (entryLayout (now (f .entry)) size) (entries (now (f .entry)))) ⌝ }
 {
     let points = points_at(f);
-    let mut w = v;
     let mut e = ENTRIES;
     while e < points {
-        w = entry_layout(w, f, size, e);
+        if !offsets_obey(f, size, e) {
+            return entry_layout(v, f, size, e);
+        }
         e = e + Track::SIZE as u32;
     }
-    w
+    v
 }
 
 // The verdict so far, then the layout.

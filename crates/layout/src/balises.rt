@@ -2,9 +2,9 @@
 ghost use mathlib.Core.Path.{_≡_};
 ghost use mathlib.Core.List.{[], _∷_};
 ghost use Prim.Native.Nat.{_<_};
-ghost use Rattle.verdict.specs.Facts.{judge};
+ghost use Rattle.verdict.specs.Facts.{test, allTests, judge};
 ghost use Rattle.layout.specs.inner.Bounds.{sliceOver};
-ghost use Rattle.layout.specs.Groups.{sizeByte, baliseLayout, walkLayout};
+ghost use Rattle.layout.specs.Groups.{rightSize, sizeByte, baliseLayout, walkLayout};
 use crate::SIZE_LEAST;
 use crate::SIZE_MOST;
 use crate::stream::balise_bytes;
@@ -16,26 +16,35 @@ use verdict::Reason;
 use verdict::Rule;
 use verdict::also_fact;
 
-// The size byte of the balise at a place is 16, or 18 to 120.
+// A size byte is 16, or 18 to 120.
+fn is_right_size(n: usize) -> bool
+    ensures { λ r. ⌜ r ≡ test (rightSize n) ⌝ }
+{
+    (n == Balise::SIZE) | ((SIZE_LEAST <= n) & (n <= SIZE_MOST))
+}
+
+// The size byte of the balise at a place is right.
 fn size_byte(v: Judged, f: &[u8], at: usize) -> Judged
     requires { ⌜ at < sliceOver ⌝ }
     ensures { λ r. ⌜ r ≡ judge v (sizeByte (now (f .entry)) at ∷ []) ⌝ }
 {
     let field = at + Balise::SIZE_BYTE.0 as usize;
-    let n = byte_at(f, field);
+    let ok = is_right_size(byte_at(f, field));
     let rule = Rule::SizeByte(field, SIZE_LEAST, SIZE_MOST);
-    also_fact(
-        v,
-        (n == Balise::SIZE) | ((SIZE_LEAST <= n) & (n <= SIZE_MOST)),
-        Reason::Layout,
-        at,
-        at,
-        1,
-        rule,
-    )
+    also_fact(v, ok, Reason::Layout, at, at, 1, rule)
 }
 
 // The balise at a place: 16 bytes are left of its group, its size byte is right, and it is not too large for the rest.
+fn balise_obeys(f: &[u8], at: usize, until: usize) -> bool
+    requires { ⌜ at < sliceOver ⌝ }
+    ensures { λ r. ⌜ r ≡ allTests (baliseLayout (now (f .entry)) until at) ⌝ }
+{
+    let n = byte_at(f, at + Balise::SIZE_BYTE.0 as usize);
+    let right = is_right_size(n);
+    (at + Balise::SIZE <= until) & (right & (at + n <= until))
+}
+
+// The same, as facts.
 fn balise_layout(v: Judged, f: &[u8], at: usize, until: usize) -> Judged
     requires { ⌜ at < sliceOver ⌝ }
     ensures { λ r. ⌜ r ≡ judge v (baliseLayout (now (f .entry)) until at) ⌝ }
@@ -46,16 +55,17 @@ fn balise_layout(v: Judged, f: &[u8], at: usize, until: usize) -> Judged
     fits(w, at, at, 0, at + n, until)
 }
 
-// The balises of the group that stands from a place to another.
+// The balises of the group that stands from a place to another: the facts of the first that does not obey are the verdict.
 pub fn walk_layout(v: Judged, f: &[u8], from: usize, until: usize) -> Judged
     requires { ⌜ until < sliceOver ⌝ }
     ensures { λ r. ⌜ r ≡ judge v (walkLayout (now (f .entry)) from until) ⌝ }
 {
-    let mut w = v;
     let mut at = from;
     while at < until {
-        w = balise_layout(w, f, at, until);
+        if !balise_obeys(f, at, until) {
+            return balise_layout(v, f, at, until);
+        }
         at = at + balise_bytes(f, at);
     }
-    w
+    v
 }

@@ -1,7 +1,7 @@
 // The returns of the links, and doubled links: 9 in 01's table.
 ghost use mathlib.Core.Path.{_≡_};
 ghost use mathlib.Core.List.{[], _∷_};
-ghost use Rattle.verdict.specs.Facts.{also, judge, test};
+ghost use Rattle.verdict.specs.Facts.{test, allTests, also, judge};
 ghost use Rattle.records.specs.Records.{placesIn};
 ghost use Rattle.layout.specs.inner.Bounds.{Bounded, ifBounded};
 ghost use Rattle.links.specs.Links.{someNames, returnMark, back, distinct, returns, recordReturns, returnFacts};
@@ -39,23 +39,45 @@ fn return_fact(v: Judged, ok: bool, at: u32, p: usize, rule: Rule) -> Judged
     also_fact(v, ok, Reason::Return, at as usize, p, LINK_SIZE, rule)
 }
 
-// The link at p, of the record at `at`, is returned.
-fn back_fact(v: Judged, f: &[u8], l: Layout, at: u32, p: usize) -> Judged
-    ensures { λ r. ⌜ r ≡ judge v (back (now (f .entry)) l at p ∷ []) ⌝ }
+// The link at p, of the record at `at`, is 0, or is returned.
+fn back_obeys(f: &[u8], l: Layout, at: u32, p: usize) -> bool
+    ensures { λ r. ⌜ r ≡ allTests (back (now (f .entry)) l at p ∷ []) ⌝ }
 {
     let x = u16_at(f, p);
     let k = kind_at(l, x);
     let returned = some_names(f, k.links(x as u32), at as usize);
-    return_fact(v, (x == 0) | returned, at, p, Rule::IsReturned)
+    (x == 0) | returned
+}
+
+// The link at p, of the record at `at`, is returned.
+fn back_fact(v: Judged, f: &[u8], l: Layout, at: u32, p: usize) -> Judged
+    ensures { λ r. ⌜ r ≡ judge v (back (now (f .entry)) l at p ∷ []) ⌝ }
+{
+    return_fact(v, back_obeys(f, l, at, p), at, p, Rule::IsReturned)
+}
+
+// The link at p, of the record at `at`, is 0, or is another one than the link at q.
+fn distinct_obeys(f: &[u8], at: u32, p: usize, q: usize) -> bool
+    ensures { λ r. ⌜ r ≡ allTests (distinct (now (f .entry)) at p q ∷ []) ⌝ }
+{
+    let x = u16_at(f, p);
+    let y = u16_at(f, q);
+    (x == 0) | (y != x)
 }
 
 // The link at p is another one than the link at q.
 fn distinct_fact(v: Judged, f: &[u8], at: u32, p: usize, q: usize) -> Judged
     ensures { λ r. ⌜ r ≡ judge v (distinct (now (f .entry)) at p q ∷ []) ⌝ }
 {
-    let x = u16_at(f, p);
-    let y = u16_at(f, q);
-    return_fact(v, (x == 0) | (y != x), at, p, Rule::NotDoubled(q))
+    let ok = distinct_obeys(f, at, p, q);
+    return_fact(v, ok, at, p, Rule::NotDoubled(q))
+}
+
+// The returns of two links, the first links of a record, obey.
+fn two_returns_obey(f: &[u8], l: Layout, at: u32, p: usize, q: usize) -> bool
+    ensures { λ r. ⌜ r ≡ allTests (returns (now (f .entry)) l at [] (p ∷ q ∷ [])) ⌝ }
+{
+    back_obeys(f, l, at, p) & (back_obeys(f, l, at, q) & distinct_obeys(f, at, q, p))
 }
 
 // The returns of two links, the first links of a record.
@@ -65,6 +87,22 @@ fn two_returns(v: Judged, f: &[u8], l: Layout, at: u32, p: usize, q: usize) -> J
     let mut w = back_fact(v, f, l, at, p);
     w = back_fact(w, f, l, at, q);
     distinct_fact(w, f, at, q, p)
+}
+
+// The returns of a record's links obey.
+fn link_returns_obey(f: &[u8], l: Layout, at: u32, links: Links) -> bool
+    ensures { λ r. ⌜ r ≡ allTests (returns (now (f .entry)) l at [] (placesIn links)) ⌝ }
+{
+    match links {
+        Links::Nothing => true,
+        Links::One(p) => back_obeys(f, l, at, p),
+        Links::Two(p, q) => two_returns_obey(f, l, at, p, q),
+        Links::Three(p, q, r) => {
+            let two = two_returns_obey(f, l, at, p, q);
+            let back = back_obeys(f, l, at, r);
+            two & (back & (distinct_obeys(f, at, r, p) & distinct_obeys(f, at, r, q)))
+        }
+    }
 }
 
 // The returns of a record's links.
@@ -84,6 +122,13 @@ fn link_returns(v: Judged, f: &[u8], l: Layout, at: u32, links: Links) -> Judged
     }
 }
 
+// The returns of one record's links obey.
+fn record_returns_obey(f: &[u8], l: Layout, k: Kind, at: u32) -> bool
+    ensures { λ r. ⌜ r ≡ allTests (recordReturns (now (f .entry)) l k at) ⌝ }
+{
+    link_returns_obey(f, l, at, k.links(at))
+}
+
 // The returns of one record's links.
 fn record_returns(v: Judged, f: &[u8], l: Layout, k: Kind, at: u32) -> Judged
     ensures { λ r. ⌜ r ≡ judge v (recordReturns (now (f .entry)) l k at) ⌝ }
@@ -91,20 +136,21 @@ fn record_returns(v: Judged, f: &[u8], l: Layout, k: Kind, at: u32) -> Judged
     link_returns(v, f, l, at, k.links(at))
 }
 
-// The returns of every record's links.
+// The returns of every record's links: those of the first record that does not obey are the verdict.
 fn all_returns(v: Judged, f: &[u8], l: Layout) -> Judged
     requires { ⌜ Bounded l ⌝ }
     ensures { λ r. ⌜ r ≡ judge v (returnFacts (now (f .entry)) l) ⌝ }
 {
     let end = l.end;
-    let mut w = v;
     let mut at = l.starts;
     while at < end {
         let k = kind_at(l, at);
-        w = record_returns(w, f, l, k, at as u32);
+        if !record_returns_obey(f, l, k, at as u32) {
+            return record_returns(v, f, l, k, at as u32);
+        }
         at = at + size_of(f, k, at);
     }
-    w
+    v
 }
 
 // The verdict so far, then the returns of all links. A layout that no file has is not looked at.

@@ -5,7 +5,7 @@ ghost use mathlib.Core.List.{[], _∷_};
 ghost use Prim.Native.Nat.{_*_, _-_, min, _≤_};
 ghost use lib.ListN.{length};
 ghost use Rattle.verdict.specs.Facts.{judge, test};
-ghost use Rattle.names.specs.Names.{objectBytes, stationCodes, byteAfter, zeros, lead, Counted, nameLength, codeCount, stationBytes, stationNameLength, isCode, codes, objectNameFact, stationNameFact};
+ghost use Rattle.names.specs.Names.{objectBytes, stationCodes, byteAfter, zeros, lead, Counted, nameLength, codeCount, stationBytes, stationNameLength, isCode, codes, objectName, objectNameFact, stationNameFact};
 ghost use Rattle.names.specs.inner.Letters.{Letters};
 use octets::byte_after;
 use verdict::Judged;
@@ -149,21 +149,21 @@ fn codes(f: &[u8], place: usize, n: usize) -> bool
 }
 
 // The 8 bytes at a place are an object's name: `least` or more bytes 0x21 to 0x7E, then only 0x00.
-pub fn object_name(v: Judged, f: &[u8], start: usize, place: usize, least: usize) -> Judged
-    ensures { λ r. ⌜ r ≡ judge v (objectNameFact (now (f .entry)) start place least ∷ []) ⌝ }
+pub fn is_name(f: &[u8], place: usize, least: usize) -> bool
+    ensures { λ r. ⌜ r ≡ test (objectName (now (f .entry)) place least) ⌝ }
 {
     let n = letters(f, place);
     let ended = zeros(f, place, n, OBJECT_BYTES);
+    (least <= n) & ended
+}
+
+// The same, as a fact.
+pub fn object_name(v: Judged, f: &[u8], start: usize, place: usize, least: usize) -> Judged
+    ensures { λ r. ⌜ r ≡ judge v (objectNameFact (now (f .entry)) start place least ∷ []) ⌝ }
+{
+    let ok = is_name(f, place, least);
     let rule = Rule::ObjectName(least);
-    also_fact(
-        v,
-        (least <= n) & ended,
-        Reason::Field,
-        start,
-        place,
-        OBJECT_BYTES,
-        rule,
-    )
+    also_fact(v, ok, Reason::Field, start, place, OBJECT_BYTES, rule)
 }
 
 // The 16 bytes at a place are a station's name: one to eight codes of two bytes, then zeros.

@@ -17,6 +17,20 @@ use Rattle.tables.proofs.number_is.Kinds as number-is-kinds
 use Rattle.tables.proofs.number_is.Reads as number-is-reads
 use Rattle.tables.proofs.number_between.Kinds as number-between-kinds
 use Rattle.tables.proofs.number_between.Reads as number-between-reads
+use Rattle.tables.proofs.equals.Kinds as equals-kinds
+use Rattle.tables.proofs.equals.Reads as equals-reads
+use Rattle.tables.proofs.lies_between.Kinds as lies-between-kinds
+use Rattle.tables.proofs.lies_between.Reads as lies-between-reads
+use Rattle.tables.proofs.lies_within.Kinds as lies-within-kinds
+use Rattle.tables.proofs.lies_within.Reads as lies-within-reads
+use Rattle.tables.proofs.is_among_four.Kinds as is-among-four-kinds
+use Rattle.tables.proofs.is_among_four.Reads as is-among-four-reads
+use Rattle.tables.proofs.is_among_five.Kinds as is-among-five-kinds
+use Rattle.tables.proofs.is_among_five.Reads as is-among-five-reads
+use Rattle.tables.proofs.has_part.Kinds as has-part-kinds
+use Rattle.tables.proofs.has_part.Reads as has-part-reads
+use Rattle.tables.proofs.has_name.Kinds as has-name-kinds
+use Rattle.tables.proofs.has_name.Reads as has-name-reads
 use Rattle.tables.proofs.exactly.Kinds as exactly-kinds
 use Rattle.tables.proofs.exactly.Reads as exactly-reads
 use Rattle.tables.proofs.between.Kinds as between-kinds
@@ -52,6 +66,27 @@ number-is-determined κs a = by-equation (λ v w. refl)
 
 pub number-between-determined : Determined 1 number-between-kinds.ps number-between-kinds.r number-between-reads.Pre number-between-reads.Post
 number-between-determined κs a = by-equation (λ v w. refl)
+
+pub equals-determined : Determined 1 equals-kinds.ps equals-kinds.r equals-reads.Pre equals-reads.Post
+equals-determined κs a = by-equation (λ v w. refl)
+
+pub lies-between-determined : Determined 1 lies-between-kinds.ps lies-between-kinds.r lies-between-reads.Pre lies-between-reads.Post
+lies-between-determined κs a = by-equation (λ v w. refl)
+
+pub lies-within-determined : Determined 1 lies-within-kinds.ps lies-within-kinds.r lies-within-reads.Pre lies-within-reads.Post
+lies-within-determined κs a = by-equation (λ v w. refl)
+
+pub is-among-four-determined : Determined 1 is-among-four-kinds.ps is-among-four-kinds.r is-among-four-reads.Pre is-among-four-reads.Post
+is-among-four-determined κs a = by-equation (λ v w. refl)
+
+pub is-among-five-determined : Determined 1 is-among-five-kinds.ps is-among-five-kinds.r is-among-five-reads.Pre is-among-five-reads.Post
+is-among-five-determined κs a = by-equation (λ v w. refl)
+
+pub has-part-determined : Determined 1 has-part-kinds.ps has-part-kinds.r has-part-reads.Pre has-part-reads.Post
+has-part-determined κs a = by-equation (λ v w. refl)
+
+pub has-name-determined : Determined 1 has-name-kinds.ps has-name-kinds.r has-name-reads.Pre has-name-reads.Post
+has-name-determined κs a = by-equation (λ v w. refl)
 
 pub exactly-determined : Determined 1 exactly-kinds.ps exactly-kinds.r exactly-reads.Pre exactly-reads.Post
 exactly-determined κs a = by-equation (λ v w. refl)

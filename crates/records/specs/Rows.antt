@@ -1,4 +1,4 @@
--- The standard's tables 6 to 12, a row for each field in the page's order: its name, its place in the record, how many bytes it has, and
+-- The standard's tables 6 to 12, a row for each field in the page's order: its name, its offset in the record, how many bytes it has, and
 -- what may stand in it (01, 'X.2, fixed application'). Everything else that is said of a field follows from its row.
 -- Assumes nothing.
 use Prim.Native.Nat.{ℕ, _-_}

@@ -55,19 +55,15 @@ fn follow(
         return t;
     }
     path[n] = to;
-    let o = object_at(f, l, to);
-    match o {
+    let u = opened(t);
+    match object_at(f, l, to) {
         Object::Boundary(_) => arrived(path, n + 1, out, t),
         Object::Plain(p) => {
-            let u = opened(t);
             let next = p.onward(from);
             follow(f, l, to, next, path, n + 1, left - 1, budget, out, u)
         }
-        Object::Turnout(j) => {
-            let u = opened(t);
-            branch(f, l, from, to, j, path, n + 1, left - 1, budget, out, u)
-        }
-        Object::Nothing => opened(t),
+        Object::Turnout(j) => branch(f, l, from, to, j, path, n + 1, left - 1, budget, out, u),
+        Object::Nothing => u,
     }
 }
 

@@ -1,2 +1,3 @@
 pub mod Pair
 pub mod Obeys
+pub mod inner

@@ -1,15 +1,18 @@
 // The fields of a record (01, 'Fields'; the standard's tables 2, 3 and 6 to 12). A field is where it stands in its record and how many bytes
-// it has. For each sort of values that a row of a table allows there is one function here: the verdict so far, then the facts of that row.
+// it has. For each sort of values that a row of a table allows there are two functions here: one tests the field, and one is the verdict so far,
+// then the facts of that row. A check tests a record as a whole, and goes fact by fact only where that fails.
 // `at` is where the record starts, a number of 32 bits, so that a field's place never overflows and nothing is asked of a caller.
 ghost use mathlib.Core.Path.{_≡_};
 ghost use mathlib.Core.List.{[], _∷_};
 ghost use Prim.Native.Nat.{_+_, _/_, _%_};
-ghost use Rattle.octets.specs.Octets.{bytesOf, Is, IsSigned};
-ghost use Rattle.verdict.specs.Facts.{also, judge};
-ghost use Rattle.rules.specs.Rules.{isNumber, between};
-ghost use Rattle.names.specs.Names.{objectBytes};
+ghost use Rattle.octets.specs.Octets.{bytesOf, numAt, signedAt, Is, IsSigned};
+ghost use lib.IntN.{natAbs};
+ghost use Rattle.verdict.specs.Facts.{same, atMost, test, also, judge};
+ghost use Rattle.rules.specs.Rules.{liesBetween, isAmongFour, isAmongFive, isNumber, between};
+ghost use Rattle.names.specs.Names.{objectBytes, objectName};
 ghost use Rattle.tables.specs.Rows.{fieldMark, valueFacts};
 ghost use Rattle.tables.specs.Table as table;
+use names::is_name;
 use names::object_name;
 use octets::Width;
 use octets::distance_at;
@@ -96,7 +99,72 @@ pub fn number_between(
     rules::between(v, f, reason, at as usize, place_of(at, k), width, low, high)
 }
 
-// ---- what may stand in it
+// ---- what may stand in it: whether it does
+
+// The field is this number.
+pub fn equals(f: &[u8], at: u32, k: Field, x: usize) -> bool
+    ensures { λ r. ⌜ r ≡ test (same (numAt (bytesOf (k .1)) (now (f .entry)) (at + k .0)) x) ⌝ }
+{
+    number_of(f, at, k) == x
+}
+
+// The field lies between two numbers.
+pub fn lies_between(f: &[u8], at: u32, k: Field, low: usize, high: usize) -> bool
+    ensures { λ r. ⌜ r ≡ test (liesBetween low high (numAt (bytesOf (k .1)) (now (f .entry)) (at + k .0))) ⌝ }
+{
+    let n = number_of(f, at, k);
+    (low <= n) & (n <= high)
+}
+
+// The signed number of the field is at most so far from 0.
+pub fn lies_within(f: &[u8], at: u32, k: Field, limit: usize) -> bool
+    ensures { λ r. ⌜ r ≡ test (atMost (natAbs (signedAt (bytesOf (k .1)) (now (f .entry)) (at + k .0))) limit) ⌝ }
+{
+    let width = k.1;
+    distance_at(f, place_of(at, k), width) <= limit
+}
+
+// The field is one of four numbers.
+pub fn is_among_four(f: &[u8], at: u32, k: Field, a: usize, b: usize, c: usize, d: usize) -> bool
+    ensures { λ r. ⌜ r ≡ test (isAmongFour a b c d (numAt (bytesOf (k .1)) (now (f .entry)) (at + k .0))) ⌝ }
+{
+    let n = number_of(f, at, k);
+    (n == a) | ((n == b) | ((n == c) | (n == d)))
+}
+
+// The field is one of five numbers.
+pub fn is_among_five(
+    f: &[u8],
+    at: u32,
+    k: Field,
+    a: usize,
+    b: usize,
+    c: usize,
+    d: usize,
+    e: usize,
+) -> bool
+    ensures { λ r. ⌜ r ≡ test (isAmongFive a b c d e (numAt (bytesOf (k .1)) (now (f .entry)) (at + k .0))) ⌝ }
+{
+    let n = number_of(f, at, k);
+    (n == a) | ((n == b) | ((n == c) | ((n == d) | (n == e))))
+}
+
+// Some bits of the field, as a number, lie between two numbers.
+pub fn has_part(f: &[u8], at: u32, k: Field, b: Bits, low: usize, high: usize) -> bool
+    ensures { λ r. ⌜ r ≡ test (liesBetween low high (numAt (bytesOf (k .1)) (now (f .entry)) (at + k .0) / b .0 % b .1)) ⌝ }
+{
+    let n = bits_of(number_of(f, at, k), b);
+    (low <= n) & (n <= high)
+}
+
+// The field is an object's name of at least so many bytes.
+pub fn has_name(f: &[u8], at: u32, k: NameField, least: usize) -> bool
+    ensures { λ r. ⌜ r ≡ test (objectName (now (f .entry)) (at + k .0) least) ⌝ }
+{
+    is_name(f, name_place(at, k), least)
+}
+
+// ---- the same, as a fact
 
 // The verdict so far, then one rule of the field.
 fn ask(v: Judged, ok: bool, at: u32, k: Field, rule: Rule) -> Judged
@@ -118,25 +186,23 @@ fn ask(v: Judged, ok: bool, at: u32, k: Field, rule: Rule) -> Judged
 pub fn exactly(v: Judged, f: &[u8], at: u32, k: Field, x: usize) -> Judged
     ensures { λ r. ⌜ r ≡ judge v (valueFacts (now (f .entry)) at (k .0) (bytesOf (k .1)) (table.exactly x)) ⌝ }
 {
-    let n = number_of(f, at, k);
-    ask(v, n == x, at, k, Rule::Is(x))
+    ask(v, equals(f, at, k, x), at, k, Rule::Is(x))
 }
 
 // The field lies between two numbers.
 pub fn between(v: Judged, f: &[u8], at: u32, k: Field, low: usize, high: usize) -> Judged
     ensures { λ r. ⌜ r ≡ judge v (valueFacts (now (f .entry)) at (k .0) (bytesOf (k .1)) (table.between low high)) ⌝ }
 {
-    let n = number_of(f, at, k);
-    ask(v, (low <= n) & (n <= high), at, k, Rule::Between(low, high))
+    let ok = lies_between(f, at, k, low, high);
+    ask(v, ok, at, k, Rule::Between(low, high))
 }
 
 // The signed number of the field is at most so far from 0.
 pub fn within(v: Judged, f: &[u8], at: u32, k: Field, limit: usize) -> Judged
     ensures { λ r. ⌜ r ≡ judge v (valueFacts (now (f .entry)) at (k .0) (bytesOf (k .1)) (table.within limit)) ⌝ }
 {
-    let width = k.1;
-    let n = distance_at(f, place_of(at, k), width);
-    ask(v, n <= limit, at, k, Rule::Within(limit))
+    let ok = lies_within(f, at, k, limit);
+    ask(v, ok, at, k, Rule::Within(limit))
 }
 
 // The field is one of four numbers.
@@ -152,8 +218,7 @@ pub fn among_four(
 ) -> Judged
     ensures { λ r. ⌜ r ≡ judge v (valueFacts (now (f .entry)) at (k .0) (bytesOf (k .1)) (table.amongFour a b c d)) ⌝ }
 {
-    let n = number_of(f, at, k);
-    let ok = (n == a) | ((n == b) | ((n == c) | (n == d)));
+    let ok = is_among_four(f, at, k, a, b, c, d);
     ask(v, ok, at, k, Rule::AmongFour(a, b, c, d))
 }
 
@@ -171,8 +236,7 @@ pub fn among_five(
 ) -> Judged
     ensures { λ r. ⌜ r ≡ judge v (valueFacts (now (f .entry)) at (k .0) (bytesOf (k .1)) (table.amongFive a b c d e)) ⌝ }
 {
-    let n = number_of(f, at, k);
-    let ok = (n == a) | ((n == b) | ((n == c) | ((n == d) | (n == e))));
+    let ok = is_among_five(f, at, k, a, b, c, d, e);
     ask(v, ok, at, k, Rule::AmongFive(a, b, c, d, e))
 }
 
@@ -180,14 +244,8 @@ pub fn among_five(
 pub fn part(v: Judged, f: &[u8], at: u32, k: Field, b: Bits, low: usize, high: usize) -> Judged
     ensures { λ r. ⌜ r ≡ judge v (valueFacts (now (f .entry)) at (k .0) (bytesOf (k .1)) (table.parts (table.bits (b .0) (b .1) low high ∷ []))) ⌝ }
 {
-    let n = bits_of(number_of(f, at, k), b);
-    ask(
-        v,
-        (low <= n) & (n <= high),
-        at,
-        k,
-        Rule::Part(b.0, b.1, low, high),
-    )
+    let ok = has_part(f, at, k, b, low, high);
+    ask(v, ok, at, k, Rule::Part(b.0, b.1, low, high))
 }
 
 // The field is an object's name of at least so many bytes.

@@ -2,8 +2,8 @@
 -- fact that fails, and its mark is the true reason; a list is judged part by part.
 -- Assumes nothing.
 use Prim.Native.Nat.{ℕ, _≤_}
-use mathlib.Core.Path.{_≡_, refl, ap, sym, subst, _∙_}
-use mathlib.Core.Bool.{Bool, true, false, cond, not, _&&_, _||_, true≢false}
+use mathlib.Core.Path.{_≡_, refl, ap, ap₂, sym, subst, _∙_}
+use mathlib.Core.Bool.{Bool, true, false, cond, not, _&&_, _||_, true≢false, and-assoc}
 use mathlib.Core.List.{List, [], _∷_, _++_, flatMap, List·Memᴰ, List·Memᴰ·head, List·Memᴰ·tail, List·Memᴰ·not-nil, List·Memᴰ·cases-cons}
 use mathlib.Core.Logic.{_⊎_, inl, inr, ⊎-elim, _↔_}
 use lib.Dec.{eqb, leb}
@@ -13,7 +13,7 @@ use borrow.Author.Tests.{eqb-true, eqb-false, leb-true, leb-false}
 use Rattle.verdict.specs.declared.Mark.{Mark}
 use Rattle.verdict.specs.declared.Judged.{Judged}
 use Rattle.verdict.specs.declared.Judged.the-variants.{Accepted, Refused}
-use Rattle.verdict.specs.Facts.{Claim, always, same, atMost, both, either, denied, some, every, anyOf, allOf, test, Holds, Fact, fact, firstFault, AllHold, also, judge, Marked, TrueReason}
+use Rattle.verdict.specs.Facts.{Claim, always, same, atMost, both, either, denied, some, every, anyOf, allOf, test, Holds, Fact, fact, firstFault, AllHold, allTests, also, judge, Marked, TrueReason}
 
 -- ---- one fact
 
@@ -118,6 +118,35 @@ judge-first (fact c m ∷ fs) = go (test c) (judge-first fs)
     go : (t : Bool) → judge Accepted fs ≡ firstFault fs → judge (also Accepted t m) fs ≡ cond t (firstFault fs) (Refused m)
     go true ih = ih
     go false ih = judge-refused m fs
+
+-- ---- tests alone, without marks: where all pass, the verdict stays; where one fails, what follows does not count
+
+pub tests-hold : (v : Judged) (fs : List Fact) → allTests fs ≡ true → judge v fs ≡ v
+unfolding also
+tests-hold (Refused n) fs h = judge-refused n fs
+tests-hold Accepted [] h = refl
+tests-hold Accepted (fact c m ∷ fs) h = go (test c) h (tests-hold Accepted fs)
+  where
+    go : (t : Bool) → (t && allTests fs) ≡ true → (allTests fs ≡ true → judge Accepted fs ≡ Accepted) → judge (also Accepted t m) fs ≡ Accepted
+    go true e ih = ih e
+    go false e ih = absurd (true≢false (sym e))
+
+pub tests-fail : (v : Judged) (a b : List Fact) → allTests a ≡ false → judge v (a ++ b) ≡ judge v a
+unfolding also
+tests-fail (Refused n) a b h = judge-refused n (a ++ b) ∙ sym (judge-refused n a)
+tests-fail Accepted [] b h = absurd (true≢false h)
+tests-fail Accepted (fact c m ∷ fs) b h = go (test c) h (tests-fail Accepted fs b)
+  where
+    go : (t : Bool) → (t && allTests fs) ≡ false → (allTests fs ≡ false → judge Accepted (fs ++ b) ≡ judge Accepted fs) → judge (also Accepted t m) (fs ++ b) ≡ judge (also Accepted t m) fs
+    go true e ih = ih e
+    go false e ih = judge-refused m (fs ++ b) ∙ sym (judge-refused m fs)
+
+pub tests-append : (a b : List Fact) → allTests (a ++ b) ≡ (allTests a && allTests b)
+tests-append [] b = refl
+tests-append (fact c m ∷ fs) b = ap (λ (t : Bool). test c && t) (tests-append fs b) ∙ sym (and-assoc (test c) (allTests fs) (allTests b))
+
+pub tests-then : (x y : Bool) (a b : List Fact) → x ≡ allTests a → y ≡ allTests b → (x && y) ≡ allTests (a ++ b)
+tests-then x y a b p q = ap₂ _&&_ p q ∙ sym (tests-append a b)
 
 -- ---- one check after the other: a refusal is answered at once, and after an acceptance the next check counts
 

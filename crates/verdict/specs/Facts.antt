@@ -75,6 +75,11 @@ unfoldable pub AllHold : List Fact → Type 0
 AllHold [] = Unit {0}
 AllHold (fact c m ∷ fs) = Holds c × AllHold fs
 
+-- every fact of a list passes its test: the same, decided, and without the marks
+abbrev pub allTests : List Fact → Bool
+allTests [] = true
+allTests (fact c m ∷ fs) = test c && allTests fs
+
 -- the verdict so far, then one fact more
 unfoldable pub also : Judged → Bool → Mark → Judged
 also Accepted true m = Accepted

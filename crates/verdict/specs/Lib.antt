@@ -2,3 +2,4 @@ pub mod Reasons
 pub mod Answers
 pub mod Facts
 pub mod Walk
+pub mod Order

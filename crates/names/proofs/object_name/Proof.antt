@@ -1,21 +1,11 @@
--- `names::object_name` meets its contract: `name-test` says that counting letters decides the rule.
+-- `names::object_name` meets its contract.
 -- Assumes nothing.
-use mathlib.Core.Path.{refl}
-use Rattle.names.proofs.Spelling.{name-test}
 use borrow.Author.Needs.{needs}
 use Rattle.names.proofs.object_name.Statement.{statement}
 use Rattle.names.proofs.object_name.Tie as tie
 
 returns : tie.Need-returns
-returns c =
-    let a = c .before .before .before .before .args in
-    let test-is = name-test (a .f .now) (a .place) (a .least) _ (c .before .before .letters .ensures) in
-    simp (c .also-fact .ensures, c .before .zeros .ensures, test-is) refl
+returns c = simp (c .also-fact .ensures, c .before .is-name .ensures)
 
 pub object-name-spec : {M : Type 1} → statement M
-object-name-spec = tie.close
-    (tie.spec
-    (λ c κs. search needs)
-    (λ c κs. search needs)
-    (λ c κs. search needs)
-    returns)
+object-name-spec = tie.close (tie.spec (λ c κs. search needs) (λ c κs. search needs) returns)

@@ -5,7 +5,7 @@ use Rattle.tables.proofs.within.Statement.{statement}
 use Rattle.tables.proofs.within.Tie as tie
 
 returns : tie.Need-returns
-returns c = simp (c .ask .ensures, c .before .distance-at .ensures, c .before .before .place-of .ensures)
+returns c = simp (c .ask .ensures, c .before .lies-within .ensures)
 
 pub within-spec : {M : Type 1} → statement M
-within-spec = tie.close (tie.spec (λ c κs. search needs) (λ c κs. search needs) (λ c κs. search needs) returns)
+within-spec = tie.close (tie.spec (λ c κs. search needs) (λ c κs. search needs) returns)

@@ -1,7 +1,7 @@
 -- `geography::agreement::check_agreement` meets its contract. The invariant: the verdict so far, then the facts of the entries from e on,
 -- is the verdict before the loop and then the facts of all entries.
 -- Assumes nothing.
-use Prim.Native.Nat.{_-_}
+use Prim.Native.Nat.{_+_, _-_}
 use mathlib.Core.Path.{_≡_, _∙_, refl, sym}
 use mathlib.Core.List.{flatMap}
 use native.Mathlib.Omega.{arith}
@@ -11,6 +11,7 @@ use Rattle.verdict.proofs.Checks.{judge-step, judge-stop}
 use Rattle.tracks.specs.Places.{entrySize}
 use Rattle.geography.specs.Layout.{pointsAt, entries}
 use Rattle.geography.specs.Agreement.{trackAgrees, agreementFacts}
+use Rattle.geography.proofs.Checks.{refused-stays}
 use borrow.Author.Needs.{needs}
 use Rattle.geography.proofs.agreement.check_agreement.Statement.{statement}
 use Rattle.geography.proofs.agreement.check_agreement.Tie as tie
@@ -26,17 +27,28 @@ loop-holds : tie.Need-loop-holds Inv-loop μ-loop
 unfolding entries
 loop-holds c = refl
 
-loop-again : tie.Need-loop-again Inv-loop μ-loop
-loop-again c =
-    let a = c .before .before .before .before .before .args in
-    let h = c .before .before .loop in
-    judge-step (λ _. entrySize) (pointsAt (a .f .now)) (trackAgrees (a .f .now) (a .size)) (λ x. omega arith) (h .w) _ (h .e) _ (omega (arith, c .before .before .before .points-at .ensures .0)) (c .track-agrees .ensures) refl ∙ h .inv
-
 returns : tie.Need-returns Inv-loop μ-loop
 unfolding agreementFacts
 returns c =
-    let a = c .before .before .before .before .args in
-    sym (judge-stop (λ _. entrySize) (pointsAt (a .f .now)) (trackAgrees (a .f .now) (a .size)) _ _ (omega (arith, c .before .before .points-at .ensures .0))) ∙ c .before .loop .inv
+    let t = c .before .before .track-agrees in
+    let s = c .before .before .before .before in
+    let a = s .before .before .before .args in
+    refused-stays (t .result) _ (flatMap (trackAgrees (a .f .now) (a .size)) (startsFrom (λ _. entrySize) (pointsAt (a .f .now)) (s .loop .e + entrySize))) (c .enum-told2 .given .1)
+    ∙ judge-step (λ _. entrySize) (pointsAt (a .f .now)) (trackAgrees (a .f .now) (a .size)) (λ x. omega arith) (s .loop .w) _ (s .loop .e) _ (omega (arith, s .before .points-at .ensures .0)) (t .ensures) refl ∙ s .loop .inv
+
+loop-again : tie.Need-loop-again Inv-loop μ-loop
+loop-again c =
+    let t = c .before .before .track-agrees in
+    let s = c .before .before .before .before in
+    let a = s .before .before .before .args in
+    judge-step (λ _. entrySize) (pointsAt (a .f .now)) (trackAgrees (a .f .now) (a .size)) (λ x. omega arith) (s .loop .w) _ (s .loop .e) _ (omega (arith, s .before .points-at .ensures .0)) (t .ensures) refl ∙ s .loop .inv
+
+returns-2 : tie.Need-returns-2 Inv-loop μ-loop
+unfolding agreementFacts
+returns-2 c =
+    let s = c .before in
+    let a = s .before .before .before .args in
+    sym (judge-stop (λ _. entrySize) (pointsAt (a .f .now)) (trackAgrees (a .f .now) (a .size)) _ _ (omega (arith, s .before .points-at .ensures .0))) ∙ s .loop .inv
 
 pub check-agreement-spec : {M : Type 1} → statement M
 check-agreement-spec =
@@ -49,6 +61,9 @@ check-agreement-spec =
     (λ c κs. search needs)
     (λ c. search needs)
     (λ c. search needs)
+    returns
+    (λ c. search needs)
+    (λ c. search needs)
     (λ c. search needs)
     loop-again
-    returns)
+    returns-2)

@@ -1,5 +1,5 @@
--- `geography::fields::points_fields` meets its contract. The invariant: the verdict so far, then the facts of the points from p on, is the
--- verdict before the loop and then the facts of all points.
+-- `geography::fields::points_fields` meets its contract. The invariant: the points before p obey, so that the facts of the points
+-- from p on give the verdict that the facts of all points give.
 -- Assumes nothing.
 use Prim.Native.Nat.{_-_}
 use mathlib.Core.Path.{_≡_, _∙_, refl, sym}
@@ -7,7 +7,7 @@ use mathlib.Core.List.{flatMap}
 use native.Mathlib.Omega.{arith}
 use Rattle.verdict.specs.Facts.{judge}
 use Rattle.verdict.specs.Walk.{startsFrom}
-use Rattle.verdict.proofs.Checks.{judge-step, judge-stop}
+use Rattle.verdict.proofs.Checks.{passes-over, fails-here, judge-stop}
 use Rattle.geography.specs.Layout.{endOf}
 use Rattle.geography.specs.Fields.{pointFields, allPoints}
 use borrow.Author.Needs.{needs}
@@ -15,27 +15,36 @@ use Rattle.geography.proofs.fields.points_fields.Statement.{statement}
 use Rattle.geography.proofs.fields.points_fields.Tie as tie
 
 abbrev Inv-loop : tie.InvT-loop
-Inv-loop f size end w₀ p₀ w p =
-    judge w (flatMap (pointFields f) (startsFrom (λ _. size) (endOf f) p)) ≡ judge w₀ (flatMap (pointFields f) (allPoints f size))
+Inv-loop v f size end p₀ p = judge v (flatMap (pointFields f) (startsFrom (λ _. size) (endOf f) p)) ≡ judge v (flatMap (pointFields f) (allPoints f size))
 
 abbrev μ-loop : tie.MeasureT-loop
-μ-loop f size end w₀ p₀ w p = end - p
+μ-loop v f size end p₀ p = end - p
 
 loop-holds : tie.Need-loop-holds Inv-loop μ-loop
 unfolding allPoints
 loop-holds c = rw (c .points-at .ensures .0)
 
-loop-again : tie.Need-loop-again Inv-loop μ-loop
-loop-again c =
-    let s = c .before .before .before .before .before .before in
-    let a = s .args in
-    let h = c .before .before .loop in
-    judge-step (λ _. a .size) (endOf (a .f .now)) (pointFields (a .f .now)) (λ x. s .pre .1) (h .w) _ (h .p) _ (omega (arith, c .before .before .before .before .end-of .ensures)) (c .point-fields .ensures) refl ∙ h .inv
-
 returns : tie.Need-returns Inv-loop μ-loop
 returns c =
-    let a = c .before .before .before .before .before .args in
-    sym (judge-stop (λ _. a .size) (endOf (a .f .now)) (pointFields (a .f .now)) _ _ (omega (arith, c .before .before .before .end-of .ensures))) ∙ c .before .loop .inv
+    let t = c .before .before .point-obeys in
+    let s = c .before .before .before .before in
+    let g = s .before .before .before .before in
+    let a = g .args in
+    fails-here (λ _. a .size) (endOf (a .f .now)) (pointFields (a .f .now)) (λ x. g .pre .1) (a .v) (s .loop .p) (t .result) (omega (arith, s .before .before .end-of .ensures)) (t .ensures) _ (c .before .if1 .taken) (c .point-fields .ensures) ∙ s .loop .inv
+
+loop-again : tie.Need-loop-again Inv-loop μ-loop
+loop-again c =
+    let t = c .before .point-obeys in
+    let s = c .before .before .before in
+    let g = s .before .before .before .before in
+    let a = g .args in
+    passes-over (λ _. a .size) (endOf (a .f .now)) (pointFields (a .f .now)) (λ x. g .pre .1) (a .v) (s .loop .p) (t .result) (omega (arith, s .before .before .end-of .ensures)) (t .ensures) _ (c .if1 .left) refl ∙ s .loop .inv
+
+returns-2 : tie.Need-returns-2 Inv-loop μ-loop
+returns-2 c =
+    let s = c .before in
+    let a = s .before .before .before .before .args in
+    sym (judge-stop (λ _. a .size) (endOf (a .f .now)) (pointFields (a .f .now)) _ _ (omega (arith, s .before .before .end-of .ensures))) ∙ s .loop .inv
 
 pub points-fields-spec : {M : Type 1} → statement M
 points-fields-spec =
@@ -48,7 +57,9 @@ points-fields-spec =
     (λ c κs. search needs)
     loop-holds
     (λ c κs. search needs)
+    (λ c κs. search needs)
+    returns
     (λ c. search needs)
     (λ c. search needs)
     loop-again
-    returns)
+    returns-2)

@@ -5,7 +5,7 @@ use Rattle.layout.proofs.balises.size_byte.Statement.{statement}
 use Rattle.layout.proofs.balises.size_byte.Tie as tie
 
 returns : tie.Need-returns
-returns c = simp (c .also-fact .ensures, c .before .byte-at .ensures .is)
+returns c = simp (c .also-fact .ensures, c .before .is-right-size .ensures, c .before .before .byte-at .ensures .is)
 
 pub size-byte-spec : {M : Type 1} → statement M
-size-byte-spec = tie.close (tie.spec (λ c. search needs) (λ c. search needs) (λ c κs. search needs) (λ c κs. search needs) returns)
+size-byte-spec = tie.close (tie.spec (λ c. search needs) (λ c. search needs) (λ c κs. search needs) (λ c κs. search needs) (λ c κs. search needs) returns)

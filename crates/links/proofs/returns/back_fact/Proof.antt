@@ -1,31 +1,17 @@
 -- `links::returns::back_fact` meets its contract.
 -- Assumes nothing.
-use mathlib.Core.List.{List}
-use Prim.Native.Nat.{ℕ}
-use Rattle.verdict.specs.Facts.{test}
-use Rattle.records.proofs.Linked.{by-links}
-use Rattle.links.proofs.Returned.{returned-is}
-use Rattle.links.specs.Links.{someNames}
+use mathlib.Core.Bool.{and-true}
 use borrow.Author.Needs.{needs}
 use Rattle.links.proofs.returns.back_fact.Statement.{statement}
 use Rattle.links.proofs.returns.back_fact.Tie as tie
 
 returns : tie.Need-returns
-returns c =
-    let a = c .before .before .before .before .before .before .args in
-    let named = by-links (λ (ps : List ℕ). test (someNames (a .f .now) ps (a .at))) (c .before .before .before .kind-at .result) (c .before .before .before .before .u16-at .result) _ _ (c .before .before .links .ensures) (c .before .some-names .ensures) in
-    let x = c .before .before .before .before .u16-at .ensures .is in
-    let returned = returned-is (a .f .now) (a .l) (a .at) (a .p) _ _ _ x (c .before .before .before .kind-at .ensures) named in
-    simp (c .return-fact .ensures, returned, x)
+returns c = simp (c .return-fact .ensures, c .before .back-obeys .ensures, and-true)
 
 pub back-fact-spec : {M : Type 1} → statement M
 back-fact-spec =
     tie.close
     (tie.spec
-    (λ c κs. search needs)
-    (λ c κs. search needs)
-    (λ c. search needs)
-    (λ c κs. search needs)
     (λ c κs. search needs)
     (λ c κs. search needs)
     returns)

@@ -1,17 +1,17 @@
 -- `links::returns::distinct_fact` meets its contract.
 -- Assumes nothing.
+use mathlib.Core.Bool.{and-true}
 use borrow.Author.Needs.{needs}
 use Rattle.links.proofs.returns.distinct_fact.Statement.{statement}
 use Rattle.links.proofs.returns.distinct_fact.Tie as tie
 
 returns : tie.Need-returns
-returns c = simp (c .return-fact .ensures, c .before .u16-at2 .ensures .is, c .before .before .u16-at .ensures .is)
+returns c = simp (c .return-fact .ensures, c .before .distinct-obeys .ensures, and-true)
 
 pub distinct-fact-spec : {M : Type 1} → statement M
 distinct-fact-spec =
     tie.close
     (tie.spec
-    (λ c κs. search needs)
     (λ c κs. search needs)
     (λ c κs. search needs)
     returns)

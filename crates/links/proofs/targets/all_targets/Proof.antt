@@ -2,27 +2,48 @@
 -- Assumes nothing.
 use Prim.Native.Nat.{_-_}
 use mathlib.Core.Path.{refl}
-use Rattle.layout.proofs.Walking.{Walking, walking-step, walking-stop}
+use Rattle.layout.proofs.Walking.{Walking, walking-over, walking-fault, walking-stop}
 use Rattle.links.specs.Links.{recordTargets, targetFacts}
 use borrow.Author.Needs.{needs}
 use Rattle.links.proofs.targets.all_targets.Statement.{statement}
 use Rattle.links.proofs.targets.all_targets.Tie as tie
 
 abbrev Inv-loop : tie.InvT-loop
-Inv-loop f l marks stop w₀ at₀ w at = Walking f l (recordTargets f l) w₀ w at
+Inv-loop v f l marks stop at₀ at = Walking f l (recordTargets f l) v v at
 
 abbrev μ-loop : tie.MeasureT-loop
-μ-loop f l marks stop w₀ at₀ w at = l .end - at
-
-loop-again : tie.Need-loop-again Inv-loop μ-loop
-loop-again c =
-    walking-step (c .before .before .before .before .loop .inv) (c .before .before .before .loop-test .taken) (c .before .before .kind-at .ensures) (c .before .record-targets .ensures) (c .size-of .ensures)
+μ-loop v f l marks stop at₀ at = l .end - at
 
 returns : tie.Need-returns Inv-loop μ-loop
 unfolding targetFacts
-returns c = walking-stop (c .before .loop .inv) (c .loop-test .left)
+returns c =
+    walking-fault (c .before .before .before .before .before .loop .inv) (c .before .before .before .before .loop-test .taken) (c .before .before .before .kind-at .ensures)
+    (c .before .before .record-targets-obey .ensures) (c .before .if1 .taken) (c .record-targets .ensures)
+
+loop-again : tie.Need-loop-again Inv-loop μ-loop
+loop-again c =
+    walking-over (c .before .before .before .before .before .loop .inv) (c .before .before .before .before .loop-test .taken) (c .before .before .before .kind-at .ensures)
+    (c .before .before .record-targets-obey .ensures) (c .before .if1 .left) (c .size-of .ensures)
+
+returns-2 : tie.Need-returns-2 Inv-loop μ-loop
+unfolding targetFacts
+returns-2 c = walking-stop (c .before .loop .inv) (c .loop-test .left)
 
 pub all-targets-spec : {M : Type 1} → statement M
 all-targets-spec =
     tie.close
-    (tie.spec Inv-loop μ-loop (λ c. record { so = refl }) (λ c κs. search needs) (λ c. search needs) (λ c κs. search needs) (λ c κs. search needs) (λ c. search needs) (λ c. search needs) loop-again returns)
+    (tie.spec
+    Inv-loop
+    μ-loop
+    (λ c. record { so = refl })
+    (λ c κs. search needs)
+    (λ c. search needs)
+    (λ c κs. search needs)
+    (λ c. search needs)
+    (λ c κs. search needs)
+    returns
+    (λ c κs. search needs)
+    (λ c. search needs)
+    (λ c. search needs)
+    loop-again
+    returns-2)

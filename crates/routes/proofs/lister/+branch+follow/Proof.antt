@@ -50,7 +50,7 @@ abbrev branch-reads : ℕ → branch-lts.Claims
 branch-reads t = (follow-below t, follow.Post)
 
 abbrev follow-reads : ℕ → follow-lts.Claims
-follow-reads t = (passed-reads.Asked, passed-reads.Learnt, object-at-reads.Asked, object-at-reads.Learnt, arrived-reads.Asked, arrived-reads.Learnt, opened-reads.Asked, opened-reads.Learnt, onward-reads.Asked, onward-reads.Learnt, follow-below t, follow.Post, branch-below t, branch.Post)
+follow-reads t = (passed-reads.Asked, passed-reads.Learnt, opened-reads.Asked, opened-reads.Learnt, object-at-reads.Asked, object-at-reads.Learnt, arrived-reads.Asked, arrived-reads.Learnt, onward-reads.Asked, onward-reads.Learnt, follow-below t, follow.Post, branch-below t, branch.Post)
 
 branch-follow-requires : (t : ℕ) → branch-lts.Need-follow-requires (branch-reads t) (branch-at t) branch.Post
 branch-follow-requires t c κs = (omega arith, c .before .before .before .before .before .before .pre .1)
@@ -129,13 +129,13 @@ follow-add-arrived t c = search needs
 
 follow-arrived-requires : (t : ℕ) → follow-lts.Need-arrived-requires (follow-reads t) (follow-at t) follow.Post
 follow-arrived-requires t c κs =
-    let e = c .before .before .before .before .before in
+    let e = c .before .before .before .before .before .before in
     let s = e .before .before .before .before .before .before .before .before .before .before in
     let h : length (set (s .args .path .now) (s .args .n) (s .args .to)) ≡ length (s .args .path .now) = length-set (s .args .path .now) (s .args .n) (s .args .to) in
     (omega arith, omega arith, search needs)
 
-follow-enum-known-o : (t : ℕ) → follow-lts.Need-enum-known-o (follow-reads t) (follow-at t) follow.Post
-follow-enum-known-o t c = search needs
+follow-enum-known-p : (t : ℕ) → follow-lts.Need-enum-known-p (follow-reads t) (follow-at t) follow.Post
+follow-enum-known-p t c = search needs
 
 follow-opened-requires : (t : ℕ) → follow-lts.Need-opened-requires (follow-reads t) (follow-at t) follow.Post
 follow-opened-requires t c κs = search needs
@@ -153,13 +153,10 @@ follow-follow-requires : (t : ℕ) → follow-lts.Need-follow-requires (follow-r
 follow-follow-requires t c κs =
     let e = c .before .before .before .before .before .before .before .before in
     let s = e .before .before .before .before .before .before .before .before .before .before in
-    (omega arith, ready-next _ _ _ _ _ _ _ (s .pre .1) (e .before .before .before .before .before .if2 .left) (e .before .before .before .if3 .left) (c .before .before .before .opened .ensures))
+    (omega arith, ready-next _ _ _ _ _ _ _ (s .pre .1) (e .before .before .before .before .before .if2 .left) (e .before .before .before .if3 .left) (c .before .before .before .before .before .before .before .opened .ensures))
 
-follow-enum-known-o-2 : (t : ℕ) → follow-lts.Need-enum-known-o-2 (follow-reads t) (follow-at t) follow.Post
-follow-enum-known-o-2 t c = search needs
-
-follow-opened-requires-2 : (t : ℕ) → follow-lts.Need-opened-requires-2 (follow-reads t) (follow-at t) follow.Post
-follow-opened-requires-2 t c κs = search needs
+follow-enum-known-j : (t : ℕ) → follow-lts.Need-enum-known-j (follow-reads t) (follow-at t) follow.Post
+follow-enum-known-j t c = search needs
 
 follow-add-branch : (t : ℕ) → follow-lts.Need-add-branch (follow-reads t) (follow-at t) follow.Post
 follow-add-branch t c = search needs
@@ -171,18 +168,14 @@ follow-branch-requires : (t : ℕ) → follow-lts.Need-branch-requires (follow-r
 follow-branch-requires t c κs =
     let e = c .before .before .before .before .before .before .before in
     let s = e .before .before .before .before .before .before .before .before .before .before in
-    (omega arith, ready-next _ _ _ _ _ _ _ (s .pre .1) (e .before .before .before .before .before .if2 .left) (e .before .before .before .if3 .left) (c .before .before .opened2 .ensures))
+    (omega arith, ready-next _ _ _ _ _ _ _ (s .pre .1) (e .before .before .before .before .before .if2 .left) (e .before .before .before .if3 .left) (c .before .before .before .before .before .before .opened .ensures))
 
 follow-enum-told-2 : (t : ℕ) → follow-lts.Need-enum-told-2 (follow-reads t) (follow-at t) follow.Post
 follow-enum-told-2 t c = search needs
 
-follow-opened-requires-3 : (t : ℕ) → follow-lts.Need-opened-requires-3 (follow-reads t) (follow-at t) follow.Post
-follow-opened-requires-3 t c κs = search needs
-
 follow-same-length-2 : (t : ℕ) → follow-lts.Need-same-length-2 (follow-reads t) (follow-at t) follow.Post
 follow-same-length-2 t c =
-    let e = c .before .before .before .before .before .before .before .before in
-    let s = e .before .before .before .before .before .before .before .before .before .before in
+    let s = c .before .before .before .before .before .before .before .before .before .before .before .before .before .before .before .before .before .before .before in
     length-set (s .args .path .now) (s .args .n) (s .args .to)
 
 follow-same-length-3 : (t : ℕ) → follow-lts.Need-same-length-3 (follow-reads t) (follow-at t) follow.Post
@@ -190,15 +183,14 @@ follow-same-length-3 t c = c .before .before .arrived .kept .1 .1 .0
 
 follow-returns-5 : (t : ℕ) → follow-lts.Need-returns-5 (follow-reads t) (follow-at t) follow.Post
 follow-returns-5 t c =
-    let e = c .before .before .before .before .before .before .before .before in
+    let e = c .before .before .before .before .before .before .before .before .before in
     let s = e .before .before .before .before .before .before .before .before .before .before in
     let a = c .before .before .arrived in
     (take-set-le (s .args .n) (s .args .path .now) (s .args .n) (s .args .to) (omega arith), arrives _ _ _ _ _ _ _ _ _ (s .pre .1) (e .before .before .before .before .before .before .if1 .left) (e .before .before .before .before .before .if2 .left) (e .before .before .before .if3 .left) (sym (e .before .passed .ensures) ∙ e .if4 .left) _ _ _ (sym (c .before .before .before .before .before .before .before .object-at .ensures) ∙ c .before .before .before .before .before .enum-told .given .1) (a .ensures .0) (a .ensures .1))
 
 follow-same-length-4 : (t : ℕ) → follow-lts.Need-same-length-4 (follow-reads t) (follow-at t) follow.Post
 follow-same-length-4 t c =
-    let e = c .before .before .before .before .before .before .before .before .before .before .before .before .before in
-    let s = e .before .before .before .before .before .before .before .before .before .before in
+    let s = c .before .before .before .before .before .before .before .before .before .before .before .before .before .before .before .before .before .before .before .before .before .before .before in
     c .before .before .before .before .follow .kept .1 .1 .1 .1 .0 ∙ length-set (s .args .path .now) (s .args .n) (s .args .to)
 
 follow-same-length-5 : (t : ℕ) → follow-lts.Need-same-length-5 (follow-reads t) (follow-at t) follow.Post
@@ -209,12 +201,11 @@ follow-returns-6 t c =
     let e = c .before .before .before .before .before .before .before .before .before .before .before .before .before in
     let s = e .before .before .before .before .before .before .before .before .before .before in
     let h = c .before .before .before .before .follow in
-    (kept-below (h .last .1 .1 .1 .1 .0) (s .args .path .now) (s .args .n) (s .args .to) (h .ensures .0), goes-on _ _ _ _ _ _ _ _ _ (s .pre .1) (e .before .before .before .before .before .before .if1 .left) (e .before .before .before .before .before .if2 .left) (e .before .before .before .if3 .left) (sym (e .before .passed .ensures) ∙ e .if4 .left) _ _ _ (c .before .before .before .before .before .before .before .before .opened .ensures) _ _ (sym (c .before .before .before .before .before .before .before .before .before .before .before .before .object-at .ensures) ∙ c .before .before .before .before .before .before .before .before .before .before .o .given .1) (c .before .before .before .before .before .before .before .onward .ensures) (h .ensures .1))
+    (kept-below (h .last .1 .1 .1 .1 .0) (s .args .path .now) (s .args .n) (s .args .to) (h .ensures .0), goes-on _ _ _ _ _ _ _ _ _ (s .pre .1) (e .before .before .before .before .before .before .if1 .left) (e .before .before .before .before .before .if2 .left) (e .before .before .before .if3 .left) (sym (e .before .passed .ensures) ∙ e .if4 .left) _ _ _ (c .before .before .before .before .before .before .before .before .before .before .before .before .opened .ensures) _ _ (sym (c .before .before .before .before .before .before .before .before .before .before .before .object-at .ensures) ∙ c .before .before .before .before .before .before .before .before .before .p .given .1) (c .before .before .before .before .before .before .before .onward .ensures) (h .ensures .1))
 
 follow-same-length-6 : (t : ℕ) → follow-lts.Need-same-length-6 (follow-reads t) (follow-at t) follow.Post
 follow-same-length-6 t c =
-    let e = c .before .before .before .before .before .before .before .before .before .before .before .before in
-    let s = e .before .before .before .before .before .before .before .before .before .before in
+    let s = c .before .before .before .before .before .before .before .before .before .before .before .before .before .before .before .before .before .before .before .before .before .before in
     c .before .before .before .before .branch .kept .1 .1 .1 .1 .1 .0 ∙ length-set (s .args .path .now) (s .args .n) (s .args .to)
 
 follow-same-length-7 : (t : ℕ) → follow-lts.Need-same-length-7 (follow-reads t) (follow-at t) follow.Post
@@ -225,19 +216,18 @@ follow-returns-7 t c =
     let e = c .before .before .before .before .before .before .before .before .before .before .before .before in
     let s = e .before .before .before .before .before .before .before .before .before .before in
     let h = c .before .before .before .before .branch in
-    (kept-below (h .last .1 .1 .1 .1 .1 .0) (s .args .path .now) (s .args .n) (s .args .to) (h .ensures .0), goes-to-turnout _ _ _ _ _ _ _ _ _ (s .pre .1) (e .before .before .before .before .before .before .if1 .left) (e .before .before .before .before .before .if2 .left) (e .before .before .before .if3 .left) (sym (e .before .passed .ensures) ∙ e .if4 .left) _ _ _ (c .before .before .before .before .before .before .before .opened2 .ensures) _ (sym (c .before .before .before .before .before .before .before .before .before .before .before .object-at .ensures) ∙ c .before .before .before .before .before .before .before .before .before .o2 .given .1) (h .ensures .1))
+    (kept-below (h .last .1 .1 .1 .1 .1 .0) (s .args .path .now) (s .args .n) (s .args .to) (h .ensures .0), goes-to-turnout _ _ _ _ _ _ _ _ _ (s .pre .1) (e .before .before .before .before .before .before .if1 .left) (e .before .before .before .before .before .if2 .left) (e .before .before .before .if3 .left) (sym (e .before .passed .ensures) ∙ e .if4 .left) _ _ _ (c .before .before .before .before .before .before .before .before .before .before .before .opened .ensures) _ (sym (c .before .before .before .before .before .before .before .before .before .before .object-at .ensures) ∙ c .before .before .before .before .before .before .before .before .j .given .1) (h .ensures .1))
 
 follow-same-length-8 : (t : ℕ) → follow-lts.Need-same-length-8 (follow-reads t) (follow-at t) follow.Post
 follow-same-length-8 t c =
-    let e = c .before .before .before .before in
-    let s = e .before .before .before .before .before .before .before .before .before .before in
+    let s = c .before .before .before .before .before .before .before .before .before .before .before .before .before .before in
     length-set (s .args .path .now) (s .args .n) (s .args .to)
 
 follow-returns-8 : (t : ℕ) → follow-lts.Need-returns-8 (follow-reads t) (follow-at t) follow.Post
 follow-returns-8 t c =
     let e = c .before .before .before .before in
     let s = e .before .before .before .before .before .before .before .before .before .before in
-    (take-set-le (s .args .n) (s .args .path .now) (s .args .n) (s .args .to) (omega arith), stops _ _ _ _ _ _ _ _ _ (s .pre .1) (e .before .before .before .before .before .before .if1 .left) (e .before .before .before .before .before .if2 .left) (e .before .before .before .if3 .left) (sym (e .before .passed .ensures) ∙ e .if4 .left) _ (sym (c .before .before .before .object-at .ensures) ∙ c .before .enum-told2 .given .1) (c .opened3 .ensures))
+    (take-set-le (s .args .n) (s .args .path .now) (s .args .n) (s .args .to) (omega arith), stops _ _ _ _ _ _ _ _ _ (s .pre .1) (e .before .before .before .before .before .before .if1 .left) (e .before .before .before .before .before .if2 .left) (e .before .before .before .if3 .left) (sym (e .before .passed .ensures) ∙ e .if4 .left) _ (sym (c .before .before .object-at .ensures) ∙ c .enum-told2 .given .1) (c .before .before .before .opened .ensures))
 
 pub +branch+follow-spec : {M : Type 1} → statement M
 +branch+follow-spec =
@@ -268,23 +258,21 @@ pub +branch+follow-spec : {M : Type 1} → statement M
     (follow-returns-4 t)
     (follow-mul-path t)
     (follow-slice-write-path t)
+    (follow-opened-requires t)
     (follow-object-at-requires t)
     (follow-enum-told t)
     (follow-add-arrived t)
     (follow-arrived-requires t)
-    (follow-enum-known-o t)
-    (follow-opened-requires t)
+    (follow-enum-known-p t)
     (follow-onward-requires t)
     (follow-add-follow t)
     (follow-sub-follow t)
     (follow-follow-requires t)
-    (follow-enum-known-o-2 t)
-    (follow-opened-requires-2 t)
+    (follow-enum-known-j t)
     (follow-add-branch t)
     (follow-sub-branch t)
     (follow-branch-requires t)
     (follow-enum-told-2 t)
-    (follow-opened-requires-3 t)
     (follow-same-length-2 t)
     (follow-same-length-3 t)
     (follow-returns-5 t)

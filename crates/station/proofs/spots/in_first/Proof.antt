@@ -5,7 +5,7 @@ use Rattle.station.proofs.spots.in_first.Statement.{statement}
 use Rattle.station.proofs.spots.in_first.Tie as tie
 
 returns : tie.Need-returns
-returns c = simp (c .also-fact .ensures, c .before .present-in .ensures, c .before .before .byte-at .ensures .is)
+returns c = simp (c .also-fact .ensures, c .before .is-found .ensures, c .before .before .track-at .ensures)
 
 pub in-first-spec : {M : Type 1} → statement M
 in-first-spec =

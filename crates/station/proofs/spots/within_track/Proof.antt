@@ -5,13 +5,12 @@ use Rattle.station.proofs.spots.within_track.Statement.{statement}
 use Rattle.station.proofs.spots.within_track.Tie as tie
 
 returns : tie.Need-returns
-returns c = simp (c .also-fact .ensures, c .before .u32-at .ensures .is, c .before .before .reach-of .ensures, c .before .before .before .byte-at .ensures .is)
+returns c = simp (c .also-fact .ensures, c .before .is-within .ensures, c .before .before .track-at .ensures)
 
 pub within-track-spec : {M : Type 1} → statement M
 within-track-spec =
     tie.close
     (tie.spec
-    (λ c κs. search needs)
     (λ c κs. search needs)
     (λ c κs. search needs)
     (λ c κs. search needs)
