@@ -1,4 +1,10 @@
 pub mod Checks
 pub mod Found
 pub mod Obeys
+pub mod Speaks
+pub mod Numbers
+pub mod Marks
 pub mod Questions
+pub mod Values
+pub mod Asked
+pub mod Ranges

@@ -1,5 +1,9 @@
 pub mod Facts
 pub mod Obeys
+pub mod Checks
+pub mod Says
 pub mod Questions
 pub mod Answers
+pub mod Asked
 pub mod inner
+pub mod Values

@@ -37,7 +37,7 @@ module _ (f : List ℕ) (at : ℕ) where
   last-place : 16 < sizeByteOf f at → at + place.baliseMessage + (sizeByteOf f at - place.baliseSize) - 1 ≡ at + sizeByteOf f at - 1
   last-place h = omega arith
 
-  message-iff : AllHold (messageFields f at) ↔ MessageEnds f at
+  pub message-iff : AllHold (messageFields f at) ↔ MessageEnds f at
   unfolding messageFields AllHold
   message-iff = ⊎-elim small large (le-or-lt (sizeByteOf f at) 16)
     where
@@ -76,10 +76,10 @@ module _ (f : List ℕ) (at : ℕ) where
 -- ---- the fields of a file
 
 -- where the tracks of the header stand
-start-track : (i : ℕ) → headerTrackAt startEntriesAt i ≡ 24 + 3 * i
+pub start-track : (i : ℕ) → headerTrackAt startEntriesAt i ≡ 24 + 3 * i
 start-track i = omega arith
 
-end-track : (n j : ℕ) → headerTrackAt (endEntriesAt n) j ≡ 25 + 3 * n + 3 * j
+pub end-track : (n j : ℕ) → headerTrackAt (endEntriesAt n) j ≡ 25 + 3 * n + 3 * j
 end-track n j = omega arith
 
 entries-iff : (f : List ℕ) (entries count : ℕ) (at : ℕ → ℕ) → ((i : ℕ) → headerTrackAt entries i ≡ at i)
@@ -133,7 +133,7 @@ module _ (f : List ℕ) (l : Layout) where
 nothing-asked : {A B : Type 0} → (A → ⊥) → Unit {0} ↔ (A → B)
 nothing-asked n = (λ h a. absurd (n a), λ o. tt)
 
-rank-is : (f : List ℕ) (at : ℕ) → rankOf (groupByteOf f at) ≡ numAt 1 f (at + 15) % 8 + 1
+pub rank-is : (f : List ℕ) (at : ℕ) → rankOf (groupByteOf f at) ≡ numAt 1 f (at + 15) % 8 + 1
 rank-is f at = rw (low-bits (numAt 1 f (at + 15)) 8)
 
 rank-iff : (f : List ℕ) (at : ℕ) (k : Kind) → AllHold (kindAgrees f k at) ↔ (k ≡ kind.Balise → numAt 1 f (at + 15) % 8 + 1 ≤ numAt 1 f (at + 15) / 32 % 8 + 1)

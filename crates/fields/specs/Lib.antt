@@ -1,3 +1,5 @@
 pub mod Fields
 pub mod Agreement
 pub mod Obeys
+pub mod Faults
+pub mod Says

@@ -35,7 +35,7 @@ no-distance : (z : ℤ) → natAbs z ≡ 0 → z ≡ pos 0
 no-distance (pos n) e = ap pos e
 no-distance (negsuc n) e = absurd (omega arith)
 
-apart-iff : (a b : ℤ) → (natAbs (a -ℤ b) ≡ 0) ↔ (a ≡ b)
+pub apart-iff : (a b : ℤ) → (natAbs (a -ℤ b) ≡ 0) ↔ (a ≡ b)
 apart-iff a b = (
   λ e. sym (-ℤ-+ℤ-cancel a b) ∙ ap (λ (z : ℤ). z +ℤ b) (no-distance (a -ℤ b) e) ∙ +ℤ-idl b,
   λ e. ap (λ (z : ℤ). natAbs (z -ℤ b)) e ∙ ap natAbs (+ℤ-invr b),
@@ -62,7 +62,7 @@ module _ (f : List ℕ) where
 -- ---- layout
 
 -- a last offset, of the first one, for points of a size
-two-iff : (size first last : ℕ) → 0 < size → ((first + size ≤ last) × ((last - first) % size ≡ 0)) ↔ ((k : ℕ) × (last ≡ first + size * suc k))
+pub two-iff : (size first last : ℕ) → 0 < size → ((first + size ≤ last) × ((last - first) % size ≡ 0)) ↔ ((k : ℕ) × (last ≡ first + size * suc k))
 two-iff size first last positive = (λ h. steps ((last - first) / size) refl (h .0) (h .1), λ w. back (w .0) (w .1))
   where
     steps : (n : ℕ) → (last - first) / size ≡ n → first + size ≤ last → (last - first) % size ≡ 0 → (k : ℕ) × (last ≡ first + size * suc k)
@@ -83,15 +83,15 @@ two-iff size first last positive = (λ h. steps ((last - first) / size) refl (h 
         (omega arith, ap (λ (x : ℕ). x % size) s ∙ mul-mod-right size (suc k))
 
 module _ (f : List ℕ) (size : ℕ) (positive : 0 < size) where
-  due-first : dueAt f size (entryPlace 0) ≡ pointsAt f
+  pub due-first : dueAt f size (entryPlace 0) ≡ pointsAt f
   unfolding dueAt
   due-first = refl
 
-  due-next : (i : ℕ) → dueAt f size (entryPlace (suc i)) ≡ lastOf f (entryPlace i) + size
+  pub due-next : (i : ℕ) → dueAt f size (entryPlace (suc i)) ≡ lastOf f (entryPlace i) + size
   unfolding dueAt
   due-next i = rw (le-ltb (entryPlace (suc i)) (place.entriesAt + place.entrySize) (omega arith)) (ap (λ (p : ℕ). numAt 2 f p + size) (omega arith))
 
-  stop-last : (i : ℕ) → suc i ≡ countOf f → stopBefore f size (pointsAt f) ≡ lastOf f (entryPlace i) + size
+  pub stop-last : (i : ℕ) → suc i ≡ countOf f → stopBefore f size (pointsAt f) ≡ lastOf f (entryPlace i) + size
   stop-last i e = ap (λ (p : ℕ). numAt 2 f p + size) (omega arith)
 
   due-iff : ((i : ℕ) → i < countOf f → firstOf f (entryPlace i) ≡ dueAt f size (entryPlace i)) → 0 < countOf f
@@ -215,7 +215,7 @@ module _ (f : List ℕ) (size : ℕ) (positive : 0 < size) where
 
 module _ (f : List ℕ) (size e k : ℕ) (positive : 0 < size) (spread : lastOf f e ≡ pointPlace f size e (suc k)) where
   -- point j is one of the track's points exactly where it is not after the last one
-  in-track : (j : ℕ) → pointPlace f size e j < lastOf f e + size → pointPlace f size e j ≤ lastOf f e
+  pub in-track : (j : ℕ) → pointPlace f size e j < lastOf f e + size → pointPlace f size e j ≤ lastOf f e
   in-track j h =
       let a = mul-suc size k in
       let b = mul-suc size (suc k) in
@@ -236,38 +236,38 @@ module _ (f : List ℕ) (size e k : ℕ) (positive : 0 < size) (spread : lastOf 
       )
 
   -- the three parts of a point's facts
-  abbrev start-part : ℕ → List Fact
+  abbrev pub start-part : ℕ → List Fact
   start-part p = cond (ltb p (firstOf f e + size)) (opens f size p) (rises f size p)
 
-  abbrev end-part : ℕ → List Fact
+  abbrev pub end-part : ℕ → List Fact
   end-part p = cond (eqb p (lastOf f e)) (closes f e p) []
 
-  parts-iff : (p : ℕ) → AllHold (pointAgrees f size e p) ↔ (AllHold (start-part p) × (AllHold (stays f e p) × AllHold (end-part p)))
+  pub parts-iff : (p : ℕ) → AllHold (pointAgrees f size e p) ↔ (AllHold (start-part p) × (AllHold (stays f e p) × AllHold (end-part p)))
   parts-iff p =
       let a = all-append (start-part p) (stays f e p ++ end-part p) in
       let b = all-append (stays f e p) (end-part p) in
       (λ h. ((a .0 h) .0, b .0 ((a .0 h) .1)), λ h. a .1 (h .0, b .1 (h .1)))
 
-  opens-first : start-part (pointPlace f size e 0) ≡ opens f size (pointPlace f size e 0)
+  pub opens-first : start-part (pointPlace f size e 0) ≡ opens f size (pointPlace f size e 0)
   opens-first = let z = mul-zero size in rw (lt-ltb (pointPlace f size e 0) (firstOf f e + size) (omega arith))
 
-  rises-later : (j : ℕ) → start-part (pointPlace f size e (suc j)) ≡ rises f size (pointPlace f size e (suc j))
+  pub rises-later : (j : ℕ) → start-part (pointPlace f size e (suc j)) ≡ rises f size (pointPlace f size e (suc j))
   rises-later j = let z = mul-suc size j in rw (le-ltb (pointPlace f size e (suc j)) (firstOf f e + size) (omega arith))
 
-  closes-last : (p : ℕ) → p ≡ lastOf f e → end-part p ≡ closes f e p
+  pub closes-last : (p : ℕ) → p ≡ lastOf f e → end-part p ≡ closes f e p
   closes-last p q = rw (eq-eqb p (lastOf f e) q)
 
-  closes-none : (p : ℕ) → (p ≡ lastOf f e → ⊥) → end-part p ≡ []
+  pub closes-none : (p : ℕ) → (p ≡ lastOf f e → ⊥) → end-part p ≡ []
   closes-none p q = rw (ne-eqb p (lastOf f e) q)
 
   -- the place of the point before point j + 1
-  before : (j : ℕ) → pointPlace f size e (suc j) - size ≡ pointPlace f size e j
+  pub before : (j : ℕ) → pointPlace f size e (suc j) - size ≡ pointPlace f size e j
   before j = let z = mul-suc size j in omega arith
 
   first-in : pointPlace f size e 0 ≤ lastOf f e
   first-in = let z = mul-zero size in omega arith
 
-  next-near : fieldPlace (pointPlace f size e 0 + size) rows.near ≡ fieldPlace (pointPlace f size e 1) rows.near
+  pub next-near : fieldPlace (pointPlace f size e 0 + size) rows.near ≡ fieldPlace (pointPlace f size e 1) rows.near
   next-near = let z = mul-zero size in let s = mul-suc size 0 in omega arith
 
   track-iff : ((j : ℕ) → pointPlace f size e j ≤ lastOf f e → AllHold (pointAgrees f size e (pointPlace f size e j))) ↔ TrackAgrees f size e
@@ -330,7 +330,7 @@ module _ (f : List ℕ) (size e k : ℕ) (positive : 0 < size) (spread : lastOf 
 
 module _ (f : List ℕ) (size : ℕ) (positive : 0 < size) (laid : LayoutObeys f size) where
   -- a later track's number is above the one before it
-  numbers-iff : (i : ℕ) → AllHold (numberAgrees f (entryPlace (suc i))) ↔ (valueOf f (entryPlace i) rows.number < valueOf f (entryPlace (suc i)) rows.number)
+  pub numbers-iff : (i : ℕ) → AllHold (numberAgrees f (entryPlace (suc i))) ↔ (valueOf f (entryPlace i) rows.number < valueOf f (entryPlace (suc i)) rows.number)
   unfolding AllHold
   numbers-iff i =
       let e : entryPlace (suc i) - place.entrySize ≡ entryPlace i = omega arith in (

@@ -45,18 +45,18 @@ pub record SumOf (f : List ℕ) (axis : Axis) (e p : ℕ) (r : ℤ) : Type 0 whe
   pub small : mag r < 2 ^ 33
 
 -- the mark of a rule of the point at p
-abbrev pub pointMark : ℕ → ℕ → Rule → Mark
-pointMark p w r = record { reason = reason.Agreement; start = p; place = p; width = w; rule = r }
+abbrev pub pointMark : ℕ → Rule → Mark
+pointMark p r = record { reason = reason.Agreement; start = p; place = p; width = 0; rule = r }
 
 -- start plus increment is at most so far from 0
 abbrev pub sumWithin : List ℕ → ℕ → Row → ℕ → Row → ℕ → Fact
 sumWithin f e start p increment limit =
-    fact (atMost (natAbs (sumOf f e start p increment)) limit) (pointMark p (increment .width) (rule.SumWithin (fieldPlace p increment) (fieldPlace e start) limit))
+    fact (atMost (natAbs (sumOf f e start p increment)) limit) (pointMark p (rule.SumWithin (fieldPlace p increment) (fieldPlace e start) limit))
 
 -- start plus increment is the end: they are 0 apart
 abbrev pub sumIs : List ℕ → ℕ → Row → Row → ℕ → Row → Fact
 sumIs f e start end p increment =
-    fact (same (natAbs (sumOf f e start p increment -ℤ signedOf f e end)) 0) (pointMark p (increment .width) (rule.SumIs (fieldPlace p increment) (fieldPlace e start) (fieldPlace e end)))
+    fact (same (natAbs (sumOf f e start p increment -ℤ signedOf f e end)) 0) (pointMark p (rule.SumIs (fieldPlace p increment) (fieldPlace e start) (fieldPlace e end)))
 
 -- ---- the facts
 

@@ -49,20 +49,24 @@ stopBefore f size e = lastOf f (e - entrySize) + size
 unfoldable pub dueAt : List ℕ → ℕ → ℕ → ℕ
 dueAt f size e = cond (isFirst e) (pointsAt f) (stopBefore f size e)
 
+-- the last offset is the first plus a positive multiple of the size
+abbrev pub spread : List ℕ → ℕ → ℕ → List Fact
+spread f size e =
+    fits e (fieldPlace e rows.last) (rows.last .width) (firstOf f e + size) (fieldPlace e rows.first) (lastOf f e) (fieldPlace e rows.last)
+    ∷ whole e (fieldPlace e rows.last) (rows.last .width) (lastOf f e - firstOf f e) size (fieldPlace e rows.first)
+    ∷ []
+
 -- by track: the first offset is where due; the last offset is the first plus a positive multiple of the size, and its point fits
 abbrev pub entryLayout : List ℕ → ℕ → ℕ → List Fact
 entryLayout f size e =
     isNumber reason.Layout f e (fieldPlace e rows.first) Two (dueAt f size e)
-    ∷ fits e (fieldPlace e rows.last) (rows.last .width) (firstOf f e + size) (lastOf f e)
-    ∷ whole e (fieldPlace e rows.last) (rows.last .width) (lastOf f e - firstOf f e) size
-    ∷ fits e (fieldPlace e rows.last) (rows.last .width) (lastOf f e + size) (endOf f)
-    ∷ []
+    ∷ (spread f size e ++ (fits e (fieldPlace e rows.last) (rows.last .width) (lastOf f e + size) (fieldPlace e rows.last) (endOf f) (endOf f) ∷ []))
 
 -- n is not 0, and the entries fit
 abbrev pub countLayout : List ℕ → List Fact
 countLayout f =
     between reason.Layout f 0 (fieldPlace 0 rows.count) One 1 255
-    ∷ fits 0 (fieldPlace 0 rows.count) (rows.count .width) (pointsAt f) (endOf f)
+    ∷ fits 0 (fieldPlace 0 rows.count) (rows.count .width) (pointsAt f) (fieldPlace 0 rows.count) (endOf f) (endOf f)
     ∷ []
 
 -- at last, the points do not stop short of End

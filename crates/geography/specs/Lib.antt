@@ -3,3 +3,5 @@ pub mod Fields
 pub mod Agreement
 pub mod Facts
 pub mod Obeys
+pub mod Faults
+pub mod Says

@@ -60,12 +60,11 @@ pub fn sum_of(f: &[u8], axis: Axis, e: u32, p: u32) -> i64
 }
 
 // The verdict so far, then one rule of the point at p.
-fn ask(v: Judged, ok: bool, p: u32, k: Field, rule: Rule) -> Judged
-    ensures { λ r. ⌜ r ≡ also v ok (pointMark p (bytesOf (k .1)) rule) ⌝ }
+fn ask(v: Judged, ok: bool, p: u32, rule: Rule) -> Judged
+    ensures { λ r. ⌜ r ≡ also v ok (pointMark p rule) ⌝ }
 {
-    let width = k.1;
     let at = p as usize;
-    also_fact(v, ok, Reason::Agreement, at, at, width.bytes(), rule)
+    also_fact(v, ok, Reason::Agreement, at, at, 0, rule)
 }
 
 // A start plus the increment of the point at p is at most so far from 0.
@@ -85,7 +84,7 @@ fn sum_within(v: Judged, f: &[u8], axis: Axis, e: u32, p: u32, limit: usize) -> 
     let from = signed_of(f, e, start);
     let ok = sum_lies_within(f, from, p, increment, limit);
     let rule = Rule::SumWithin(place_of(p, increment), place_of(e, start), limit);
-    ask(v, ok, p, increment, rule)
+    ask(v, ok, p, rule)
 }
 
 // A start plus the increment of the point at p is the end.
@@ -107,7 +106,7 @@ fn sum_is(v: Judged, f: &[u8], axis: Axis, e: u32, p: u32) -> Judged
     let to = signed_of(f, e, end);
     let ok = sum_equals(f, from, to, p, increment);
     let rule = Rule::SumIs(place_of(p, increment), place_of(e, start), place_of(e, end));
-    ask(v, ok, p, increment, rule)
+    ask(v, ok, p, rule)
 }
 
 // ---- one field of a record against another

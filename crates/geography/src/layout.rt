@@ -4,9 +4,9 @@ ghost use mathlib.Core.List.{[], _∷_, flatMap};
 ghost use Prim.Native.Nat.{_+_, _-_, _≤_};
 ghost use Rattle.octets.specs.Octets.{bytesOf};
 ghost use Rattle.verdict.specs.Facts.{allTests, judge};
-ghost use Rattle.rules.specs.Rules.{fits, whole};
+ghost use Rattle.rules.specs.Rules.{fits};
 ghost use Rattle.tracks.specs.Places.{entrySize};
-ghost use Rattle.geography.specs.Layout.{pointsAt, pointsMost, isFirst, stopBefore, dueAt, entryLayout, entries, layoutFacts};
+ghost use Rattle.geography.specs.Layout.{pointsAt, pointsMost, isFirst, stopBefore, dueAt, spread, entryLayout, entries, layoutFacts};
 use octets::less;
 use rules::ends_at;
 use rules::fits;
@@ -64,27 +64,29 @@ fn due_at(f: &[u8], size: u8, e: u32) -> usize
     stop_before(f, size, e)
 }
 
-// What ends at `reach` fits into a room that ends at `room`; a fault is at the field.
-fn fits_at(v: Judged, at: u32, k: Field, reach: usize, room: usize) -> Judged
-    ensures { λ r. ⌜ r ≡ judge v (fits at (at + k .0) (bytesOf (k .1)) reach room ∷ []) ⌝ }
+// What ends at `reach`, which the field tells, is not beyond End; a fault is at the field.
+fn ends_by(v: Judged, at: u32, k: Field, reach: usize, end: usize) -> Judged
+    ensures { λ r. ⌜ r ≡ judge v (fits at (at + k .0) (bytesOf (k .1)) reach (at + k .0) end end ∷ []) ⌝ }
 {
     let width = k.1;
-    fits(v, at as usize, place_of(at, k), width.bytes(), reach, room)
+    let place = place_of(at, k);
+    fits(v, at as usize, place, width.bytes(), reach, place, end, end)
 }
 
-// So many bytes are whole records of a size; a fault is at the field.
-fn whole_at(v: Judged, at: u32, k: Field, bytes: usize, size: u8) -> Judged
-    ensures { λ r. ⌜ r ≡ judge v (whole at (at + k .0) (bytesOf (k .1)) bytes size ∷ []) ⌝ }
+// The last offset of the entry at e is its first plus a positive multiple of the size.
+fn spreads(v: Judged, f: &[u8], size: u8, e: u32) -> Judged
+    ensures { λ r. ⌜ r ≡ judge v (spread (now (f .entry)) size e) ⌝ }
 {
-    let width = k.1;
-    whole(
-        v,
-        at as usize,
-        place_of(at, k),
-        width.bytes(),
-        bytes,
-        size as usize,
-    )
+    let first = number_of(f, e, Track::FIRST);
+    let last = number_of(f, e, Track::LAST);
+    let step = size as usize;
+    let start = e as usize;
+    let from = place_of(e, Track::FIRST);
+    let place = place_of(e, Track::LAST);
+    let width = Track::LAST.1;
+    let bytes = width.bytes();
+    let w = fits(v, start, place, bytes, first + step, from, last, place);
+    whole(w, start, place, bytes, less(last, first), step, from)
 }
 
 // The offsets of the entry at e are what the layout asks.
@@ -101,17 +103,14 @@ fn offsets_obey(f: &[u8], size: u8, e: u32) -> bool
     due & (above & (apart & inside))
 }
 
-// The offsets of the entry at e.
+// The same, as facts.
 fn entry_layout(v: Judged, f: &[u8], size: u8, e: u32) -> Judged
     ensures { λ r. ⌜ r ≡ judge v (entryLayout (now (f .entry)) size e) ⌝ }
 {
-    let first = number_of(f, e, Track::FIRST);
     let last = number_of(f, e, Track::LAST);
-    let step = size as usize;
     let mut w = number_is(v, f, Reason::Layout, e, Track::FIRST, due_at(f, size, e));
-    w = fits_at(w, e, Track::LAST, first + step, last);
-    w = whole_at(w, e, Track::LAST, less(last, first), size);
-    fits_at(w, e, Track::LAST, last + step, end_of(f))
+    w = spreads(w, f, size, e);
+    ends_by(w, e, Track::LAST, last + size as usize, end_of(f))
 }
 
 // The offsets of every entry: those of the first entry that does not obey are the verdict.
@@ -136,7 +135,7 @@ pub fn check_layout(v: Judged, f: &[u8], size: u8) -> Judged
     let end = end_of(f);
     let points = points_at(f);
     let mut w = number_between(v, f, Reason::Layout, HEADER, COUNT, 1, 255);
-    w = fits_at(w, HEADER, COUNT, points as usize, end);
+    w = ends_by(w, HEADER, COUNT, points as usize, end);
     w = entries_layout(w, f, size);
     let last = number_of(f, entry_before(points), Track::LAST);
     ends_at(w, last, last + size as usize, end)

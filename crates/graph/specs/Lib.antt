@@ -1,3 +1,4 @@
 pub mod Objects
 pub mod Ways
 pub mod Links
+pub mod Read

@@ -15,7 +15,7 @@ use Rattle.verdict.specs.Walk.{startsFrom}
 use Rattle.verdict.proofs.Facts.{all-append, all-each}
 use Rattle.layout.specs.declared.Made.{Made}
 use Rattle.layout.specs.declared.Made.the-variants.{Fixed, Balises}
-use Rattle.layout.specs.Groups.{Group, groupStart, nextStart, groupEnd, groupLayout, baliseBytes, baliseLayout, walkLayout, madeFacts, oneGroup, groupFacts}
+use Rattle.layout.specs.Groups.{Group, groupStart, nextStart, nextField, groupEnd, groupLayout, baliseBytes, baliseLayout, walkLayout, madeFacts, oneGroup, groupFacts}
 use Rattle.layout.specs.Obeys.{BaliseFits, MadeOf, Grouped, none, empty, there}
 
 module _ (off due next : ℕ) where
@@ -58,38 +58,38 @@ unless-zero x fs A i = by-test (eqb x 0) refl
     by-test true e = (λ h n. absurd (n (eqb-true x 0 e)), λ h. tt)
     by-test false e = (λ h n. i .0 h, λ h. i .1 (h (eqb-false x 0 e)))
 
-balise-iff : (f : List ℕ) (until at : ℕ) → AllHold (baliseLayout f until at) ↔ BaliseFits f until at
+pub balise-iff : (f : List ℕ) (until next at : ℕ) → AllHold (baliseLayout f until next at) ↔ BaliseFits f until at
 unfolding AllHold
-balise-iff f until at = (λ h. record { left = h .0; size = h .1 .0; rest = h .1 .1 .0 }, λ h. (h .left, (h .size, (h .rest, tt))))
+balise-iff f until next at = (λ h. record { left = h .0; size = h .1 .0; rest = h .1 .1 .0 }, λ h. (h .left, (h .size, (h .rest, tt))))
 
-made-iff : (f : List ℕ) (field until : ℕ) (m : Made) → AllHold (madeFacts f field until m) ↔ MadeOf f (numAt 2 f field) until m
+made-iff : (f : List ℕ) (field until next : ℕ) (m : Made) → AllHold (madeFacts f field until next m) ↔ MadeOf f (numAt 2 f field) until m
 unfolding madeFacts MadeOf AllHold walkLayout
-made-iff f field until (Fixed size) = (λ h. h .0, λ h. (h, tt))
-made-iff f field until Balises =
-    let each = all-each (baliseLayout f until) (startsFrom (baliseBytes f) until (numAt 2 f field)) in
-    (λ h at i. (balise-iff f until at) .0 (each .0 h at i), λ h. each .1 (λ at i. (balise-iff f until at) .1 (h at i)))
+made-iff f field until next (Fixed size) = (λ h. h .0, λ h. (h, tt))
+made-iff f field until next Balises =
+    let each = all-each (baliseLayout f until next) (startsFrom (baliseBytes f) until (numAt 2 f field)) in
+    (λ h at i. (balise-iff f until next at) .0 (each .0 h at i), λ h. each .1 (λ at i. (balise-iff f until next at) .1 (h at i)))
 
 -- one group
-module _ (f : List ℕ) (end due until : ℕ) (g : Group) where
-  one-iff : AllHold (oneGroup f end due until g) ↔ ((groupStart f g ≡ 0 → ⊥) → (groupStart f g ≡ due) × (groupStart f g < until) × (until ≤ end) × MadeOf f (groupStart f g) until (g .made))
+module _ (f : List ℕ) (end due until next : ℕ) (g : Group) where
+  one-iff : AllHold (oneGroup f end due until next g) ↔ ((groupStart f g ≡ 0 → ⊥) → (groupStart f g ≡ due) × (groupStart f g < until) × (until ≤ end) × MadeOf f (groupStart f g) until (g .made))
   unfolding oneGroup AllHold
   one-iff =
-      let made = madeFacts f (g .field) until (g .made) in
-      let cut = all-append (groupLayout f (g .field) due until end) made in
-      let m = made-iff f (g .field) until (g .made) in
-      unless-zero (groupStart f g) (groupLayout f (g .field) due until end ++ made) ((groupStart f g ≡ due) × (groupStart f g < until) × (until ≤ end) × MadeOf f (groupStart f g) until (g .made)) (
+      let made = madeFacts f (g .field) until next (g .made) in
+      let cut = all-append (groupLayout f (g .field) due until next end) made in
+      let m = made-iff f (g .field) until next (g .made) in
+      unless-zero (groupStart f g) (groupLayout f (g .field) due until next end ++ made) ((groupStart f g ≡ due) × (groupStart f g < until) × (until ≤ end) × MadeOf f (groupStart f g) until (g .made)) (
         λ h. let k = (cut .0 h) .0 in let above = k .1 .0 in (k .0, omega arith, k .1 .1 .0, m .0 ((cut .0 h) .1)),
         λ h. let above = h .1 in cut .1 ((h .0, (omega arith, (h .2, tt))), m .1 (h .3)),
       )
 
 -- a group that is right does not end beyond End
-pub one-inside : (f : List ℕ) (end due next : ℕ) (g : Group)
-    → AllHold (oneGroup f end due (groupEnd (groupStart f g) due next) g) → (top : ℕ) → due ≤ top → end ≤ top → groupEnd (groupStart f g) due next ≤ top
-one-inside f end due next g h top p q = by-case (ℕ-discrete (groupStart f g) 0)
+pub one-inside : (f : List ℕ) (end due next field : ℕ) (g : Group)
+    → AllHold (oneGroup f end due (groupEnd (groupStart f g) due next) field g) → (top : ℕ) → due ≤ top → end ≤ top → groupEnd (groupStart f g) due next ≤ top
+one-inside f end due next field g h top p q = by-case (ℕ-discrete (groupStart f g) 0)
   where
     by-case : Dec (groupStart f g ≡ 0) → groupEnd (groupStart f g) due next ≤ top
     by-case (yes e) = let k = end-empty (groupStart f g) due next e in omega arith
-    by-case (no n) = let i = (one-iff f end due (groupEnd (groupStart f g) due next) g .0 h n) .2 in omega arith
+    by-case (no n) = let i = (one-iff f end due (groupEnd (groupStart f g) due next) field g .0 h n) .2 in omega arith
 
 -- all of them
 module _ (f : List ℕ) (last end : ℕ) where
@@ -98,8 +98,8 @@ module _ (f : List ℕ) (last end : ℕ) where
   facts-grouped [] due h = subst (λ (d : ℕ). Grouped f end d []) (sym (h .0)) none
   facts-grouped (g ∷ gs) due h =
       let until = groupEnd (groupStart f g) due (nextStart f end gs) in
-      let cut = (all-append (oneGroup f end due until g) (groupFacts f last end until gs)) .0 h in
-      by-case (ℕ-discrete (groupStart f g) 0) until refl (one-iff f end due until g .0 (cut .0)) (facts-grouped gs until (cut .1))
+      let cut = (all-append (oneGroup f end due until (nextField f end gs) g) (groupFacts f last end until gs)) .0 h in
+      by-case (ℕ-discrete (groupStart f g) 0) until refl (one-iff f end due until (nextField f end gs) g .0 (cut .0)) (facts-grouped gs until (cut .1))
     where
       by-case :
           Dec (groupStart f g ≡ 0) → (until : ℕ) → until ≡ groupEnd (groupStart f g) due (nextStart f end gs)
@@ -118,14 +118,14 @@ module _ (f : List ℕ) (last end : ℕ) where
   grouped-facts (empty {due = due} {g = g} {gs = gs} e r) =
       let next = nextStart f end gs in
       let until = groupEnd (groupStart f g) due next in
-      (all-append (oneGroup f end due until g) (groupFacts f last end until gs)) .1
-      (one-iff f end due until g .1 (λ n. absurd (n e)), rw (end-empty (groupStart f g) due next e) (grouped-facts r))
+      (all-append (oneGroup f end due until (nextField f end gs) g) (groupFacts f last end until gs)) .1
+      (one-iff f end due until (nextField f end gs) g .1 (λ n. absurd (n e)), rw (end-empty (groupStart f g) due next e) (grouped-facts r))
   grouped-facts (there {due = due} {g = g} {gs = gs} until n e b m r) =
       let next = nextStart f end gs in
       let ends : groupEnd (groupStart f g) due next ≡ until = end-there (groupStart f g) due next (λ z. n (sym e ∙ z)) ∙ sym (grouped-next f end r) in
       rw ends
-      ((all-append (oneGroup f end due until g) (groupFacts f last end until gs)) .1 (
-        one-iff f end due until g .1 (λ k. (e, omega arith, grouped-inside f end r, subst (λ (a : ℕ). MadeOf f a until (g .made)) (sym e) m)),
+      ((all-append (oneGroup f end due until (nextField f end gs) g) (groupFacts f last end until gs)) .1 (
+        one-iff f end due until (nextField f end gs) g .1 (λ k. (e, omega arith, grouped-inside f end r, subst (λ (a : ℕ). MadeOf f a until (g .made)) (sym e) m)),
         grouped-facts r,
       ))
 

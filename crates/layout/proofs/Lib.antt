@@ -10,3 +10,9 @@ pub mod Shapes
 pub mod Walking
 pub mod Grouped
 pub mod Loops
+pub mod Turns
+pub mod Speaks
+pub mod Entries
+pub mod Rising
+pub mod GroupPlaces
+pub mod Located

@@ -1,4 +1,4 @@
--- A loop over the records of a file that judges each of them: where it stands, one turn, and the end.
+-- A loop over the records of a file that tests each of them: where it stands, one turn, and the end.
 -- Assumes nothing.
 use Prim.Native.Nat.{ℕ, _+_, _≤_, _<_}
 use mathlib.Core.Path.{_≡_, _∙_, sym, ap}
@@ -7,36 +7,26 @@ use mathlib.Core.List.{List, flatMap}
 use Rattle.verdict.specs.declared.Judged.{Judged}
 use Rattle.verdict.specs.Facts.{Fact, allTests, judge}
 use Rattle.verdict.specs.Walk.{startsFrom}
-use Rattle.verdict.proofs.Checks.{judge-step, judge-stop, passes-over, fails-here}
+use Rattle.verdict.proofs.Checks.{judge-stop, passes-over, fails-here}
 use Rattle.records.specs.declared.Kind.{Kind}
 use Rattle.layout.specs.declared.Layout.{Layout}
 use Rattle.layout.specs.Records.{kindAt, IsSize, sizeOf, sizeAt, eachRecord}
 use Rattle.layout.proofs.Records.{sizeAt-pos}
 
--- The verdict so far, then the facts of the records from `at` on, is the verdict before the loop and then the facts of all records.
-pub record Walking (f : List ℕ) (l : Layout) (facts : Kind → ℕ → List Fact) (v w : Judged) (at : ℕ) : Type 0 where
-  pub so : judge w (flatMap (λ x. facts (kindAt l x) x) (startsFrom (sizeAt f l) (l .end) at)) ≡ judge v (eachRecord f l facts)
+-- The records before `at` are right: the facts of the records from `at` on give the verdict that the facts of all records give.
+pub record Walking (f : List ℕ) (l : Layout) (facts : Kind → ℕ → List Fact) (v : Judged) (at : ℕ) : Type 0 where
+  pub so : judge v (flatMap (λ x. facts (kindAt l x) x) (startsFrom (sizeAt f l) (l .end) at)) ≡ judge v (eachRecord f l facts)
 
-module _ {f : List ℕ} {l : Layout} {facts : Kind → ℕ → List Fact} {v w : Judged} {at : ℕ} (i : Walking f l facts v w at) where
-  -- k is the record's kind, r the verdict after it, and n its size
-  pub walking-step : {k : Kind} {r : Judged} {n : ℕ} → at < l .end → k ≡ kindAt l at → r ≡ judge w (facts k at) → IsSize f k at n → Walking f l facts v r (at + n)
-  walking-step {k} {r} {n} h kind judged size = record {
-    so =
-        judge-step (sizeAt f l) (l .end) (λ x. facts (kindAt l x) x) (sizeAt-pos f l) w r at (at + n) h
-        (judged ∙ ap (λ (k : Kind). judge w (facts k at)) kind) (ap (λ (m : ℕ). at + m) (size .is ∙ ap (λ (k : Kind). sizeOf f k at) kind))
-        ∙ i .so;
-  }
+module _ {f : List ℕ} {l : Layout} {facts : Kind → ℕ → List Fact} {v : Judged} {at : ℕ} (i : Walking f l facts v at) where
+  pub walking-stop : l .end ≤ at → v ≡ judge v (eachRecord f l facts)
+  walking-stop h = sym (judge-stop (sizeAt f l) (l .end) (λ x. facts (kindAt l x) x) v at h) ∙ i .so
 
-  pub walking-stop : l .end ≤ at → w ≡ judge v (eachRecord f l facts)
-  walking-stop h = sym (judge-stop (sizeAt f l) (l .end) (λ x. facts (kindAt l x) x) w at h) ∙ i .so
-
--- The same of a loop that only tests each record, so that the verdict stays as it was: t is the record's test.
-module _ {f : List ℕ} {l : Layout} {facts : Kind → ℕ → List Fact} {v : Judged} {at : ℕ} (i : Walking f l facts v v at) where
+  -- t is the record's test
   tested : {k : Kind} {t : Bool} → k ≡ kindAt l at → t ≡ allTests (facts k at) → t ≡ allTests (facts (kindAt l at) at)
   tested kind e = e ∙ ap (λ (k : Kind). allTests (facts k at)) kind
 
   -- a record whose tests pass is passed over
-  pub walking-over : {k : Kind} {t : Bool} {n : ℕ} → at < l .end → k ≡ kindAt l at → t ≡ allTests (facts k at) → not t ≡ false → IsSize f k at n → Walking f l facts v v (at + n)
+  pub walking-over : {k : Kind} {t : Bool} {n : ℕ} → at < l .end → k ≡ kindAt l at → t ≡ allTests (facts k at) → not t ≡ false → IsSize f k at n → Walking f l facts v (at + n)
   walking-over {k} {t} {n} h kind e holds size = record {
     so =
         passes-over (sizeAt f l) (l .end) (λ x. facts (kindAt l x) x) (sizeAt-pos f l) v at t h (tested kind e) (at + n) holds

@@ -23,9 +23,9 @@ use Rattle.layout.specs.Groups.{Group, groupsOf, groupFacts}
 abbrev pub countLayout : List ℕ → Layout → List Fact
 countLayout f l =
     between reason.Layout f 0 startCountAt One 1 255
-    ∷ fits 0 startCountAt 1 (endCountAt (l .n) + 1) (l .end)
+    ∷ fits 0 startCountAt 1 (endCountAt (l .n) + 1) startCountAt (l .end) (l .end)
     ∷ between reason.Layout f 0 (endCountAt (l .n)) One 1 255
-    ∷ fits 0 (endCountAt (l .n)) 1 (l .turnouts) (l .end)
+    ∷ fits 0 (endCountAt (l .n)) 1 (l .turnouts) (endCountAt (l .n)) (l .end) (l .end)
     ∷ []
 
 -- ---- the boundary offsets: each is where due

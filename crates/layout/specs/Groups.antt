@@ -63,6 +63,11 @@ unfoldable pub nextStart : List ℕ → ℕ → List Group → ℕ
 nextStart f end [] = end
 nextStart f end (g ∷ gs) = cond (eqb (groupStart f g) 0) (nextStart f end gs) (groupStart f g)
 
+-- where that is told: the field of the next nonzero offset, else End itself
+unfoldable pub nextField : List ℕ → ℕ → List Group → ℕ
+nextField f end [] = end
+nextField f end (g ∷ gs) = cond (eqb (groupStart f g) 0) (nextField f end gs) (g .field)
+
 -- where a group ends, which has an offset and is due at a place: it runs to the next nonzero offset, else to End; an empty one ends where it
 -- is due
 unfoldable pub groupEnd : ℕ → ℕ → ℕ → ℕ
@@ -81,10 +86,13 @@ endFrom f o i due = groupEnd (groupStart f (groupIn o i)) due (nextStart f (o .e
 -- ---- a nonzero group, whose offset is at `field`
 
 -- It starts where it is due. (This asks something of the first nonzero group alone: a later one is due where the group before it ends,
--- and that is defined as its offset.) Its end is above its start, and not over End.
-abbrev pub groupLayout : List ℕ → ℕ → ℕ → ℕ → ℕ → List Fact
-groupLayout f field due until end =
-    isNumber reason.Layout f 0 field Two due ∷ fits 0 field offsetSize (numAt 2 f field + 1) until ∷ fits 0 field offsetSize until end ∷ []
+-- and that is defined as its offset.) Its end `until`, which is told at `next`, is above its start, and not over End.
+abbrev pub groupLayout : List ℕ → ℕ → ℕ → ℕ → ℕ → ℕ → List Fact
+groupLayout f field due until next end =
+    isNumber reason.Layout f 0 field Two due
+    ∷ fits 0 field offsetSize (numAt 2 f field + 1) field until next
+    ∷ fits 0 field offsetSize until next end end
+    ∷ []
 
 -- ---- the balises of a group, one after the other
 
@@ -99,31 +107,34 @@ rightSize n = either (same n baliseSize) (liesBetween sizeLeast sizeMost n)
 abbrev pub sizeByte : List ℕ → ℕ → Fact
 sizeByte f at =
     fact (rightSize (numAt 1 f (at + baliseSizeByte)))
-    (record { reason = reason.Layout; start = at; place = at; width = 1; rule = rule.SizeByte (at + baliseSizeByte) sizeLeast sizeMost })
+    (record { reason = reason.Layout; start = at; place = at; width = 0; rule = rule.SizeByte (at + baliseSizeByte) sizeLeast sizeMost })
 
--- 16 bytes are left of the group, the size byte is right, and the balise is not too large for the rest. (Width 0: the first and the last
--- are about the whole balise and no field of it.)
-abbrev pub baliseLayout : List ℕ → ℕ → ℕ → List Fact
-baliseLayout f until at =
-    fits at at 0 (at + baliseSize) until ∷ sizeByte f at ∷ fits at at 0 (at + numAt 1 f (at + baliseSizeByte)) until ∷ []
+-- 16 bytes are left of the group, the size byte is right, and the balise is not too large for the rest. A fault is at the balise's start.
+abbrev pub baliseLayout : List ℕ → ℕ → ℕ → ℕ → List Fact
+baliseLayout f until next at =
+    fits at at 0 (at + baliseSize) at until next
+    ∷ sizeByte f at
+    ∷ fits at at 0 (at + numAt 1 f (at + baliseSizeByte)) (at + baliseSizeByte) until next
+    ∷ []
 
-unfoldable pub walkLayout : List ℕ → ℕ → ℕ → List Fact
-walkLayout f from until = flatMap (baliseLayout f until) (startsFrom (baliseBytes f) until from)
+unfoldable pub walkLayout : List ℕ → ℕ → ℕ → ℕ → List Fact
+walkLayout f from until next = flatMap (baliseLayout f until next) (startsFrom (baliseBytes f) until from)
 
 -- ---- the facts, in field order
 
-unfoldable pub madeFacts : List ℕ → ℕ → ℕ → Made → List Fact
-madeFacts f field until (Fixed size) = whole 0 field offsetSize (until - numAt 2 f field) size ∷ []
-madeFacts f field until Balises = walkLayout f (numAt 2 f field) until
+unfoldable pub madeFacts : List ℕ → ℕ → ℕ → ℕ → Made → List Fact
+madeFacts f field until next (Fixed size) = whole 0 field offsetSize (until - numAt 2 f field) size next ∷ []
+madeFacts f field until next Balises = walkLayout f (numAt 2 f field) until next
 
--- a nonzero group starts where due, its end `until` is above its start and not over End, and it is whole records
-unfoldable pub oneGroup : List ℕ → ℕ → ℕ → ℕ → Group → List Fact
-oneGroup f end due until g = cond (eqb (groupStart f g) 0) [] (groupLayout f (g .field) due until end ++ madeFacts f (g .field) until (g .made))
+-- a nonzero group starts where due, its end `until`, told at `next`, is above its start and not over End, and it is whole records
+unfoldable pub oneGroup : List ℕ → ℕ → ℕ → ℕ → ℕ → Group → List Fact
+oneGroup f end due until next g =
+    cond (eqb (groupStart f g) 0) [] (groupLayout f (g .field) due until next end ++ madeFacts f (g .field) until next (g .made))
 
 -- Each group in turn, from where it is due to its end. At last, what came ends at End; this asks something only where no group is there,
 -- since the end of a group is defined as the next offset or End. `last` is where the last record before the groups starts.
 unfoldable pub groupFacts : List ℕ → ℕ → ℕ → ℕ → List Group → List Fact
 groupFacts f last end due [] = endsAt last due end ∷ []
 groupFacts f last end due (g ∷ gs) =
-    oneGroup f end due (groupEnd (groupStart f g) due (nextStart f end gs)) g
+    oneGroup f end due (groupEnd (groupStart f g) due (nextStart f end gs)) (nextField f end gs) g
     ++ groupFacts f last end (groupEnd (groupStart f g) due (nextStart f end gs)) gs

@@ -4,4 +4,6 @@ pub mod Layout
 pub mod Facts
 pub mod Records
 pub mod Obeys
+pub mod Faults
+pub mod Says
 pub mod inner

@@ -31,39 +31,42 @@ fn size_byte(v: Judged, f: &[u8], at: usize) -> Judged
     let field = at + Balise::SIZE_BYTE.0 as usize;
     let ok = is_right_size(byte_at(f, field));
     let rule = Rule::SizeByte(field, SIZE_LEAST, SIZE_MOST);
-    also_fact(v, ok, Reason::Layout, at, at, 1, rule)
+    also_fact(v, ok, Reason::Layout, at, at, 0, rule)
 }
 
-// The balise at a place: 16 bytes are left of its group, its size byte is right, and it is not too large for the rest.
+// The balise at a place: 16 bytes are left of its group, its size byte is right, and it is not too large for the rest. (Where the group's end is
+// told, no test asks.)
 fn balise_obeys(f: &[u8], at: usize, until: usize) -> bool
     requires { ⌜ at < sliceOver ⌝ }
-    ensures { λ r. ⌜ r ≡ allTests (baliseLayout (now (f .entry)) until at) ⌝ }
+    ensures { λ r. ⌜ r ≡ allTests (baliseLayout (now (f .entry)) until 0 at) ⌝ }
 {
     let n = byte_at(f, at + Balise::SIZE_BYTE.0 as usize);
     let right = is_right_size(n);
     (at + Balise::SIZE <= until) & (right & (at + n <= until))
 }
 
-// The same, as facts.
-fn balise_layout(v: Judged, f: &[u8], at: usize, until: usize) -> Judged
+// The same, as facts; the end of its group is told at `next`.
+fn balise_layout(v: Judged, f: &[u8], at: usize, until: usize, next: usize) -> Judged
     requires { ⌜ at < sliceOver ⌝ }
-    ensures { λ r. ⌜ r ≡ judge v (baliseLayout (now (f .entry)) until at) ⌝ }
+    ensures { λ r. ⌜ r ≡ judge v (baliseLayout (now (f .entry)) until next at) ⌝ }
 {
-    let n = byte_at(f, at + Balise::SIZE_BYTE.0 as usize);
-    let mut w = fits(v, at, at, 0, at + Balise::SIZE, until);
+    let field = at + Balise::SIZE_BYTE.0 as usize;
+    let n = byte_at(f, field);
+    let mut w = fits(v, at, at, 0, at + Balise::SIZE, at, until, next);
     w = size_byte(w, f, at);
-    fits(w, at, at, 0, at + n, until)
+    fits(w, at, at, 0, at + n, field, until, next)
 }
 
-// The balises of the group that stands from a place to another: the facts of the first that does not obey are the verdict.
-pub fn walk_layout(v: Judged, f: &[u8], from: usize, until: usize) -> Judged
+// The balises of the group that stands from a place to another, which is told at `next`: the facts of the first that does not obey are the
+// verdict.
+pub fn walk_layout(v: Judged, f: &[u8], from: usize, until: usize, next: usize) -> Judged
     requires { ⌜ until < sliceOver ⌝ }
-    ensures { λ r. ⌜ r ≡ judge v (walkLayout (now (f .entry)) from until) ⌝ }
+    ensures { λ r. ⌜ r ≡ judge v (walkLayout (now (f .entry)) from until next) ⌝ }
 {
     let mut at = from;
     while at < until {
         if !balise_obeys(f, at, until) {
-            return balise_layout(v, f, at, until);
+            return balise_layout(v, f, at, until, next);
         }
         at = at + balise_bytes(f, at);
     }

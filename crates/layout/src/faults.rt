@@ -33,7 +33,16 @@ fn counts_layout(v: Judged, f: &[u8], l: Layout) -> Judged
     let start_count = place_of(HEADER, START_COUNT);
     let end_count = START_ENTRIES + ENTRY_SIZE * l.n;
     let mut w = number_between(v, f, Reason::Layout, HEADER, START_COUNT, 1, COUNT_MOST);
-    w = fits(w, 0, start_count, 1, end_count + 1, l.end);
+    w = fits(
+        w,
+        0,
+        start_count,
+        1,
+        end_count + 1,
+        start_count,
+        l.end,
+        l.end,
+    );
     w = between(
         w,
         f,
@@ -44,7 +53,7 @@ fn counts_layout(v: Judged, f: &[u8], l: Layout) -> Judged
         1,
         COUNT_MOST,
     );
-    fits(w, 0, end_count, 1, l.turnouts, l.end)
+    fits(w, 0, end_count, 1, l.turnouts, end_count, l.end, l.end)
 }
 
 // The offsets in so many entries from a place on: each boundary stands where it is due.

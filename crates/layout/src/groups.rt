@@ -4,7 +4,7 @@ ghost use mathlib.Core.Path.{_≡_};
 ghost use Prim.Native.Nat.{_-_, _≤_, _<_};
 ghost use Rattle.verdict.specs.Facts.{judge};
 ghost use Rattle.layout.specs.inner.Bounds.{groupsMost, sliceOver, Near};
-ghost use Rattle.layout.specs.Groups.{madeOf, groupIn, groupsFrom, groupsOf, nextStart, endFrom, groupLayout, madeFacts, oneGroup, groupFacts};
+ghost use Rattle.layout.specs.Groups.{madeOf, groupIn, groupsFrom, groupsOf, nextStart, nextField, endFrom, groupLayout, madeFacts, oneGroup, groupFacts};
 use crate::BALISES;
 use crate::ELEMENT_SIZE;
 use crate::Grouping;
@@ -51,21 +51,32 @@ fn made_of(file: Grouping, i: usize) -> Made
     Made::Fixed(Siding::SIZE)
 }
 
-// The first nonzero offset of the groups from an index on, else End.
-fn next_start(f: &[u8], o: Offsets, i: usize) -> usize
+// The next group: where its offset stands, and the offset.
+struct Next {
+    field: usize,
+    start: usize,
+}
+
+// The first nonzero offset of the groups from an index on, else End for both.
+fn next_group(f: &[u8], o: Offsets, i: usize) -> Next
     requires { ⌜ Near o ⌝ }
-    ensures { λ r. ⌜ r ≡ nextStart (now (f .entry)) (o .end) (groupsFrom o (o .count - i) i) ⌝ }
-    ensures { λ r. ⌜ r < sliceOver ⌝ }
+    ensures start { λ r. ⌜ r .start ≡ nextStart (now (f .entry)) (o .end) (groupsFrom o (o .count - i) i) ⌝ }
+    ensures below { λ r. ⌜ r .start < sliceOver ⌝ }
+    ensures field { λ r. ⌜ r .field ≡ nextField (now (f .entry)) (o .end) (groupsFrom o (o .count - i) i) ⌝ }
 {
     let mut j = i;
     while j < o.count {
-        let off = u16_at(f, o.base + OFFSET_SIZE * j);
-        if off != 0 {
-            return off;
+        let field = o.base + OFFSET_SIZE * j;
+        let start = u16_at(f, field);
+        if start != 0 {
+            return Next { field, start };
         }
         j = j + 1;
     }
-    o.end
+    Next {
+        field: o.end,
+        start: o.end,
+    }
 }
 
 // Where the group with an index ends, which is due at a place: it runs to the next nonzero offset, else to End; an empty one ends where it
@@ -78,43 +89,60 @@ pub fn group_end(f: &[u8], o: Offsets, i: usize, due: usize) -> usize
     if u16_at(f, o.base + OFFSET_SIZE * i) == 0 {
         return due;
     }
-    next_start(f, o, i + 1)
+    next_group(f, o, i + 1).start
 }
 
-// A nonzero group, with its offset at a field: it starts where it is due, and its end is above its start and not over End.
-fn group_layout(v: Judged, f: &[u8], field: usize, due: usize, until: usize, end: usize) -> Judged
-    ensures { λ r. ⌜ r ≡ judge v (groupLayout (now (f .entry)) field due until end) ⌝ }
+// A nonzero group, with its offset at a field: it starts where it is due, and its end, which is told at `next`, is above its start and not over
+// End.
+fn group_layout(
+    v: Judged,
+    f: &[u8],
+    field: usize,
+    due: usize,
+    until: usize,
+    next: usize,
+    end: usize,
+) -> Judged
+    ensures { λ r. ⌜ r ≡ judge v (groupLayout (now (f .entry)) field due until next end) ⌝ }
 {
     let off = u16_at(f, field);
     let mut w = is_number(v, f, Reason::Layout, 0, field, Width::Two, due);
-    w = fits(w, 0, field, OFFSET_SIZE, off + 1, until);
-    fits(w, 0, field, OFFSET_SIZE, until, end)
+    w = fits(w, 0, field, OFFSET_SIZE, off + 1, field, until, next);
+    fits(w, 0, field, OFFSET_SIZE, until, next, end, end)
 }
 
 // The records of a group, whose offset is at a field: whole ones.
-fn made_layout(v: Judged, f: &[u8], field: usize, until: usize, made: Made) -> Judged
+fn made_layout(v: Judged, f: &[u8], field: usize, until: usize, next: usize, made: Made) -> Judged
     requires { ⌜ until < sliceOver ⌝ }
-    ensures { λ r. ⌜ r ≡ judge v (madeFacts (now (f .entry)) field until made) ⌝ }
+    ensures { λ r. ⌜ r ≡ judge v (madeFacts (now (f .entry)) field until next made) ⌝ }
 {
     let off = u16_at(f, field);
     match made {
-        Made::Fixed(size) => whole(v, 0, field, OFFSET_SIZE, less(until, off), size),
-        Made::Balises => walk_layout(v, f, off, until),
+        Made::Fixed(size) => whole(v, 0, field, OFFSET_SIZE, less(until, off), size, next),
+        Made::Balises => walk_layout(v, f, off, until, next),
     }
 }
 
-// The group with an index, from where it is due to its end: if it is not empty, it is right and whole records.
-fn one_group(v: Judged, f: &[u8], o: Offsets, i: usize, due: usize, until: usize) -> Judged
+// The group with an index, from where it is due to its end, which is told at `next`: if it is not empty, it is right and whole records.
+fn one_group(
+    v: Judged,
+    f: &[u8],
+    o: Offsets,
+    i: usize,
+    due: usize,
+    until: usize,
+    next: usize,
+) -> Judged
     requires { ⌜ Near o × (i ≤ groupsMost) × (until < sliceOver) ⌝ }
-    ensures { λ r. ⌜ r ≡ judge v (oneGroup (now (f .entry)) (o .end) due until (groupIn o i)) ⌝ }
+    ensures { λ r. ⌜ r ≡ judge v (oneGroup (now (f .entry)) (o .end) due until next (groupIn o i)) ⌝ }
 {
     let field = o.base + OFFSET_SIZE * i;
     if u16_at(f, field) == 0 {
         return v;
     }
     let file = o.file;
-    let w = group_layout(v, f, field, due, until, o.end);
-    made_layout(w, f, field, until, made_of(file, i))
+    let w = group_layout(v, f, field, due, until, next, o.end);
+    made_layout(w, f, field, until, next, made_of(file, i))
 }
 
 // The groups in field order, the first due at a place; at last, what came ends at End. `last` is where the last record before the groups
@@ -128,7 +156,8 @@ pub fn check_groups(v: Judged, f: &[u8], o: Offsets, first: usize, last: usize) 
     let mut i = 0;
     while i < o.count {
         let until = group_end(f, o, i, due);
-        w = one_group(w, f, o, i, due, until);
+        let next = next_group(f, o, i + 1);
+        w = one_group(w, f, o, i, due, until, next.field);
         due = until;
         i = i + 1;
     }

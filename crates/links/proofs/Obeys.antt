@@ -89,7 +89,7 @@ module _ (f : List ℕ) (l : Layout) where
 
   -- ---- 9
 
-  links-iff : (k : Kind) (x at : ℕ) → Holds (linksTo f k x at) ↔ LinksTo f k x at
+  pub links-iff : (k : Kind) (x at : ℕ) → Holds (linksTo f k x at) ↔ LinksTo f k x at
   unfolding linksTo
   links-iff k x at = (λ h. record { place = h .0; its-link = h .1; names = h .2 }, λ h. (h .place, h .its-link, h .names))
 

@@ -25,7 +25,7 @@ use Rattle.layout.specs.inner.Bounds.{countMost}
 use Rattle.layout.specs.declared.Made.{Made}
 use Rattle.layout.specs.declared.Made.the-variants.{Fixed, Balises}
 use Rattle.layout.specs.declared.Offsets.{Offsets}
-use Rattle.layout.specs.Groups.{Group, groupIn, groupsFrom, groupStart, nextStart, groupEnd, groupLayout, baliseBytes, baliseLayout, walkLayout, madeFacts, oneGroup, groupFacts}
+use Rattle.layout.specs.Groups.{Group, groupIn, groupsFrom, groupStart, nextStart, nextField, groupEnd, groupLayout, baliseBytes, baliseLayout, walkLayout, madeFacts, oneGroup, groupFacts}
 use Rattle.layout.specs.Facts.{countLayout, indexes, offsetLayout, offsetsLayout, groupsIn, layoutFacts}
 use Rattle.layout.specs.Records.{kindAt, sizeAt, starts}
 use Rattle.layout.proofs.Grouped.{one-inside}
@@ -42,21 +42,21 @@ use Rattle.places.proofs.Lists.{below-append, below-both, below-each, b
 
 module _ (f : List ℕ) (last end : ℕ) (most : end ≤ mostLength) where
   -- each balise of a group starts before the group's end, which is not over End
-  made-below : (field until : ℕ) → field < placeOver → until ≤ mostLength → (m : Made) → PlacesBelow placeOver (madeFacts f field until m)
+  made-below : (field until next : ℕ) → field < placeOver → until ≤ mostLength → (m : Made) → PlacesBelow placeOver (madeFacts f field until next m)
   unfolding madeFacts walkLayout
-  made-below field until near inside (Fixed size) = omega arith
-  made-below field until near inside Balises =
-      below-each placeOver (baliseLayout f until) (startsFrom (baliseBytes f) until (numAt 2 f field)) (λ at m.
+  made-below field until next near inside (Fixed size) = omega arith
+  made-below field until next near inside Balises =
+      below-each placeOver (baliseLayout f until next) (startsFrom (baliseBytes f) until (numAt 2 f field)) (λ at m.
       let before = (starts-between (baliseBytes f) until at (numAt 2 f field) m) .below in
       omega arith)
 
-  one-below : (due until : ℕ) (g : Group) → g .field < placeOver → PlacesBelow placeOver (oneGroup f end due until g)
+  one-below : (due until next : ℕ) (g : Group) → g .field < placeOver → PlacesBelow placeOver (oneGroup f end due until next g)
   unfolding oneGroup AllHold
-  one-below due until g near =
-      let group = groupLayout f (g .field) due until end in
-      let made = madeFacts f (g .field) until (g .made) in
+  one-below due until next g near =
+      let group = groupLayout f (g .field) due until next end in
+      let made = madeFacts f (g .field) until next (g .made) in
       below-if placeOver (eqb (groupStart f g) 0) [] (group ++ made) tt
-      (below-append placeOver group made (omega arith) (λ h. made-below (g .field) until near (omega (arith, h .1 .1 .0)) (g .made)))
+      (below-append placeOver group made (omega arith) (λ h. made-below (g .field) until next near (omega (arith, h .1 .1 .0)) (g .made)))
 
   groups-below : (o : Offsets) (n i due : ℕ) → o .base + 2 * (i + n) < placeOver → due ≤ mostLength → PlacesBelow placeOver (groupFacts f last end due (groupsFrom o n i))
   unfolding groupFacts groupsFrom
@@ -66,8 +66,8 @@ module _ (f : List ℕ) (last end : ℕ) (most : end ≤ mostLength) where
       let g = groupIn o i in
       let next = nextStart f end rest in
       let until = groupEnd (groupStart f g) due next in
-      below-append placeOver (oneGroup f end due until g) (groupFacts f last end until rest) (one-below due until g (omega arith)) (λ h.
-      groups-below o n (i + 1) until (omega arith) (one-inside f end due next g h mostLength before most))
+      below-append placeOver (oneGroup f end due until (nextField f end rest) g) (groupFacts f last end until rest) (one-below due until (nextField f end rest) g (omega arith)) (λ h.
+      groups-below o n (i + 1) until (omega arith) (one-inside f end due next (nextField f end rest) g h mostLength before most))
 
 -- ---- a record of a kind, which starts before End
 

@@ -80,22 +80,24 @@ pub fn rest(x: usize, d: usize) -> usize
     if d == 0 { x } else { x % d }
 }
 
-// What ends at `reach` fits into a room that ends at `room`.
+// What ends at `reach`, which the field `from` tells, fits into a room that ends at `room`, which is `other` or the number there.
 pub fn fits(
     v: Judged,
     start: usize,
     place: usize,
     width: usize,
     reach: usize,
+    from: usize,
     room: usize,
+    other: usize,
 ) -> Judged
-    ensures { λ r. ⌜ r ≡ judge v (fits start place width reach room ∷ []) ⌝ }
+    ensures { λ r. ⌜ r ≡ judge v (fits start place width reach from room other ∷ []) ⌝ }
 {
-    let rule = Rule::Fits(reach, room);
+    let rule = Rule::Fits(reach, from, room, other);
     also_fact(v, reach <= room, Reason::Layout, start, place, width, rule)
 }
 
-// So many bytes are whole records of a size.
+// So many bytes, between what a place tells and what `other` does, are whole records of a size.
 pub fn whole(
     v: Judged,
     start: usize,
@@ -103,11 +105,12 @@ pub fn whole(
     width: usize,
     bytes: usize,
     size: usize,
+    other: usize,
 ) -> Judged
-    ensures { λ r. ⌜ r ≡ judge v (whole start place width bytes size ∷ []) ⌝ }
+    ensures { λ r. ⌜ r ≡ judge v (whole start place width bytes size other ∷ []) ⌝ }
 {
     let left = rest(bytes, size);
-    let rule = Rule::Whole(bytes, size);
+    let rule = Rule::Whole(bytes, size, other);
     also_fact(v, left == 0, Reason::Layout, start, place, width, rule)
 }
 
@@ -124,9 +127,8 @@ pub fn zero_at(v: Judged, f: &[u8], start: usize, place: usize, w: Width, field:
     ensures { λ r. ⌜ r ≡ judge v (zeroAt (now (f .entry)) start place w field ∷ []) ⌝ }
 {
     let n = num_at(f, field, w);
-    let width = w.bytes();
-    let rule = Rule::Zero(field);
-    also_fact(v, n == 0, Reason::Agreement, start, place, width, rule)
+    let rule = Rule::Zero(field, w.bytes());
+    also_fact(v, n == 0, Reason::Agreement, start, place, 0, rule)
 }
 
 // The number of a field is that of another field.
@@ -143,9 +145,8 @@ pub fn same_as(
 {
     let n = num_at(f, field, w);
     let m = num_at(f, other, w);
-    let width = w.bytes();
-    let rule = Rule::SameAs(field, other);
-    also_fact(v, n == m, Reason::Agreement, start, place, width, rule)
+    let rule = Rule::SameAs(field, other, w.bytes());
+    also_fact(v, n == m, Reason::Agreement, start, place, 0, rule)
 }
 
 // The number of a field is above that of another field.
@@ -162,7 +163,6 @@ pub fn above(
 {
     let n = num_at(f, field, w);
     let m = num_at(f, other, w);
-    let width = w.bytes();
-    let rule = Rule::Above(field, other);
-    also_fact(v, m < n, Reason::Agreement, start, place, width, rule)
+    let rule = Rule::Above(field, other, w.bytes());
+    also_fact(v, m < n, Reason::Agreement, start, place, 0, rule)
 }

@@ -31,7 +31,7 @@ use Rattle.station.specs.Obeys.{TrackIn, SpotObeys, PairObeys}
 
 module _ (f : List ℕ) (o : Obeys f) where
   -- a track that has a number is the one that is found
-  found-in : (number i : ℕ) → TrackIn f number i → findTrack f number ≡ At (entryPlace i)
+  pub found-in : (number i : ℕ) → TrackIn f number i → findTrack f number ≡ At (entryPlace i)
   found-in number i w = (lookup.found-iff f o number (entryPlace i)) .1 (record { track = i; in-file = w .in-file; there = refl; same = w .same })
 
   -- a track that is found has the number
@@ -40,14 +40,14 @@ module _ (f : List ℕ) (o : Obeys f) where
       let w = lookup.found-number f number e q in
       (w .track, record { in-file = w .in-file; same = subst (λ (x : ℕ). numAt 1 f (x + 0) ≡ number) (w .there) (w .same) }, w .there)
 
-  present-iff : (number : ℕ) → (present (findTrack f number) ≡ 1) ↔ ((i : ℕ) × TrackIn f number i)
+  pub present-iff : (number : ℕ) → (present (findTrack f number) ≡ 1) ↔ ((i : ℕ) × TrackIn f number i)
   present-iff number = (λ h. by-case (findTrack f number) refl h, λ w. ap present (found-in number (w .0) (w .1)))
     where
       by-case : (d : Found) → findTrack f number ≡ d → present d ≡ 1 → (i : ℕ) × TrackIn f number i
       by-case (At e) q h = let w = in-found number e q in (w .0, w .1)
       by-case Absent q h = absurd (omega arith)
 
-  within-iff : (number x : ℕ) → ((present (findTrack f number) ≡ 1) × (x ≤ reach f (findTrack f number))) ↔ ((i : ℕ) × TrackIn f number i × (x ≤ numAt 4 f (entryPlace i + 14)))
+  pub within-iff : (number x : ℕ) → ((present (findTrack f number) ≡ 1) × (x ≤ reach f (findTrack f number))) ↔ ((i : ℕ) × TrackIn f number i × (x ≤ numAt 4 f (entryPlace i + 14)))
   within-iff number x = (
     λ h. by-case (findTrack f number) refl (h .0) (h .1),
     λ w. let q = found-in number (w .0) (w .1) in (ap present q, subst (λ (d : Found). x ≤ reach f d) (sym q) (w .2)),

@@ -1,3 +1,5 @@
 pub mod Pair
 pub mod Obeys
+pub mod Faults
+pub mod Says
 pub mod inner

@@ -76,7 +76,7 @@ inFirst f g at t =
 -- 12: the position at p is at most the end of that track
 abbrev pub withinTrack : List ℕ → List ℕ → ℕ → ℕ → ℕ → Fact
 withinTrack f g at t p =
-    fact (atMost (numAt 4 g p) (reach f (findTrack f (numAt 1 g t)))) (record { reason = reason.Position; start = at; place = p; width = 4; rule = rule.WithinTrack })
+    fact (atMost (numAt 4 g p) (reach f (findTrack f (numAt 1 g t)))) (record { reason = reason.Position; start = at; place = p; width = 4; rule = rule.WithinTrack t })
 
 abbrev pub spotFacts : List ℕ → List ℕ → ℕ → Spot → List Fact
 spotFacts f g at (lies t p) = inFirst f g at t ∷ withinTrack f g at t p ∷ []

@@ -87,7 +87,7 @@ fn within_track(v: Judged, f: &[u8], g: &[u8], at: u32, t: usize, p: usize) -> J
     ensures { λ r. ⌜ r ≡ judge v (withinTrack (now (f .entry)) (now (g .entry)) at t p ∷ []) ⌝ }
 {
     let ok = is_within(f, g, track_at(f, g, t), p);
-    let rule = Rule::WithinTrack;
+    let rule = Rule::WithinTrack(t);
     also_fact(v, ok, Reason::Position, at as usize, p, POSITION_SIZE, rule)
 }
 

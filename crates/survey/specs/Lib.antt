@@ -2,4 +2,5 @@ pub mod Stretch
 pub mod Questions
 pub mod Answers
 pub mod Coordinate
+pub mod Asked
 pub mod inner

@@ -1,22 +1,15 @@
 -- The loops over records that stand without gaps: what one turn does, and the end, for each kind of check.
 -- Assumes nothing.
 use Prim.Native.Nat.{ℕ, _+_, _<_, _≤_}
-use mathlib.Core.Path.{_≡_, refl, sym, _∙_}
+use mathlib.Core.Path.{_≡_, sym, _∙_}
 use mathlib.Core.Bool.{Bool, true, false, not, _&&_, _||_, or-assoc, or-false, and-assoc, and-true}
 use mathlib.Core.List.{List, flatMap}
+use borrow.Author.Tests.{not-true, not-false}
 use Rattle.verdict.specs.declared.Judged.{Judged}
 use Rattle.verdict.specs.Facts.{anyOf, allOf, Fact, allTests, judge, along}
 use Rattle.verdict.specs.Walk.{startsFrom}
 use Rattle.verdict.proofs.Facts.{judge-append, tests-hold, tests-fail}
 use Rattle.verdict.proofs.Walk.{starts-step, starts-stop}
-
-denied-true : (t : Bool) → not t ≡ true → t ≡ false
-denied-true true n = sym n
-denied-true false n = refl
-
-denied-false : (t : Bool) → not t ≡ false → t ≡ true
-denied-false true n = refl
-denied-false false n = sym n
 
 -- One turn of a loop that judges each record: the record's own facts, then those of the records that follow.
 module _ (size : ℕ → ℕ) (end : ℕ) (facts : ℕ → List Fact) where
@@ -34,12 +27,12 @@ module _ (size : ℕ → ℕ) (end : ℕ) (facts : ℕ → List Fact) where
   -- a loop that only tests: a record whose tests pass is passed over, and at the first whose tests do not, its verdict is the answer
   module _ (pos : (x : ℕ) → 0 < size x) (v : Judged) (at : ℕ) (t : Bool) (h : at < end) (e : t ≡ allTests (facts at)) where
     pub passes-over : (next : ℕ) → not t ≡ false → next ≡ at + size at → judge v (flatMap facts (startsFrom size end next)) ≡ judge v (flatMap facts (startsFrom size end at))
-    passes-over next n q = judge-step pos v v at next h (sym (tests-hold v (facts at) (sym e ∙ denied-false t n))) q
+    passes-over next n q = judge-step pos v v at next h (sym (tests-hold v (facts at) (sym e ∙ not-false t n))) q
 
     pub fails-here : (r : Judged) → not t ≡ true → r ≡ judge v (facts at) → r ≡ judge v (flatMap facts (startsFrom size end at))
     unfolding flatMap
     fails-here r n p =
-        rw (starts-step size end pos at h) (p ∙ sym (tests-fail v (facts at) (flatMap facts (startsFrom size end (at + size at))) (sym e ∙ denied-true t n)))
+        rw (starts-step size end pos at h) (p ∙ sym (tests-fail v (facts at) (flatMap facts (startsFrom size end (at + size at))) (sym e ∙ not-true t n)))
 
 -- One turn of a loop that judges each record with the one before it.
 module _ (size : ℕ → ℕ) (end : ℕ) (facts : ℕ → ℕ → List Fact) where

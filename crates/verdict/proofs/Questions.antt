@@ -2,16 +2,24 @@
 -- answer of a fault, and w is the file's verdict.
 -- Assumes nothing.
 use Prim.Native.Nat.{ℕ}
+use mathlib.Core.Bool.{Bool, true, false, cond}
+use lib.IntN.{ℤ}
+use lib.Dec.{eqb}
+use borrow.Author.Tests.{eqb-true, eqb-false}
 use mathlib.Core.Path.{_≡_, refl, sym, ap, _∙_}
-use mathlib.Core.Logic.{_↔_}
+use mathlib.Core.Logic.{_⊎_, inl, inr, ⊎-elim, _↔_}
+use mathlib.Core.List.{List, [], _∷_}
 use native.Mathlib.Omega.{arith}
+use Rattle.verdict.specs.declared.Reason.{Reason}
+use Rattle.verdict.specs.declared.Reason.the-variants as why
 use Rattle.verdict.specs.declared.Fault.{Fault}
 use Rattle.verdict.specs.declared.Judged.{Judged}
 use Rattle.verdict.specs.declared.Judged.the-variants as judged
 use Rattle.verdict.specs.declared.Verdict.{Verdict}
 use Rattle.verdict.specs.declared.Verdict.the-variants.{Accepted, Refused}
-use Rattle.verdict.specs.Reasons.{shownOf}
-use Rattle.verdict.specs.Answers.{afterVerdict, faultIn}
+use Rattle.verdict.specs.Reasons.{numberOf, shownOf}
+use Rattle.verdict.specs.Answers.{Answer, answered, refused, answerNumber, answerPlace, refusal, afterVerdict, faultIn}
+use Rattle.verdict.specs.Order.{Check, check, Answered, Asked}
 
 pub shown-accepted : (v : Judged) → (shownOf v ≡ Accepted) ↔ (v ≡ judged.Accepted)
 shown-accepted judged.Accepted = (λ e. refl, λ e. refl)
@@ -35,3 +43,69 @@ module _ {A : Type 0} (say : Fault → A) (w : Verdict) where
       go : (v : Verdict) → afterVerdict say v a ≡ b → (v ≡ Accepted) × (a ≡ b)
       go Accepted e = (refl, e)
       go (Refused t) e = absurd (never t e)
+
+-- ---- the number and the place of an answer
+
+verdict-refused : (t : Fault) → Refused t ≡ Accepted → ⊥
+verdict-refused t e = let z : _≡_ {A = ℕ} 0 1 = cc in omega arith
+
+-- LAW: what is answered after a file's verdict is the file's own fault, or what the question's own checks say. `say` makes an answer of a
+-- fault and `shape` shows an answer.
+pub asked-is : {A : Type 0} (say : Fault → A) (shape : A → Answer) (v : Verdict) (a : A) (cs : List Check)
+    → ((t : Fault) → (answerNumber (shape (say t)) ≡ numberOf (t .reason)) × (answerPlace (shape (say t)) ≡ t .place))
+    → (v ≡ Accepted → (n p : ℕ) → ((answerNumber (shape a) ≡ n) × (answerPlace (shape a) ≡ p)) ↔ Answered cs n p)
+    → (n p : ℕ) → ((answerNumber (shape (afterVerdict say v a)) ≡ n) × (answerPlace (shape (afterVerdict say v a)) ≡ p)) ↔ Asked v cs n p
+asked-is say shape Accepted a cs own mine n p = (
+  λ h. inl (refl, (mine refl n p) .0 h),
+  λ h. ⊎-elim (λ (x : (Accepted ≡ Accepted) × Answered cs n p). (mine refl n p) .1 (x .1)) (λ (x : (Accepted ≡ Accepted → ⊥) × ((n ≡ 0) × (p ≡ 0))). absurd (x .0 refl)) h,
+)
+asked-is say shape (Refused t) a cs own mine n p =
+    let o = own t in (
+      λ h. inr (verdict-refused t, (sym (h .0) ∙ o .0, sym (h .1) ∙ o .1)),
+      λ h. ⊎-elim (λ (x : (Refused t ≡ Accepted) × Answered cs n p). absurd (verdict-refused t (x .0))) (λ (x : (Refused t ≡ Accepted → ⊥) × ((n ≡ numberOf (t .reason)) × (p ≡ t .place))). (o .0 ∙ sym (x .1 .0), o .1 ∙ sym (x .1 .1))) h,
+    )
+
+-- ---- a question's own checks, each with place 0
+
+-- what is answered is what the checks say
+pub record AnswerIs (a : Answer) (cs : List Check) : Type 0 where
+  pub exactly : (n p : ℕ) → ((answerNumber a ≡ n) × (answerPlace a ≡ p)) ↔ Answered cs n p
+
+-- no check is left
+pub all-passed : (values : List ℤ) → AnswerIs (answered values) []
+all-passed values = record { exactly = λ n p. (λ h. (sym (h .0), sym (h .1)), λ h. (sym (h .0), sym (h .1))) }
+
+module _ (A : Type 0) (cs : List Check) where
+  -- the first one is passed
+  pub passed : (k : ℕ) (a : Answer) → A → ¬ (answerNumber a ≡ k) → AnswerIs a cs → AnswerIs a (check k A (λ p. p ≡ 0) ∷ cs)
+  passed k a there other rest = record { exactly = λ n p. by-test n p (eqb n k) refl }
+    where
+      by-test : (n p : ℕ) (t : Bool) → eqb n k ≡ t → ((answerNumber a ≡ n) × (answerPlace a ≡ p)) ↔ cond t ((A → ⊥) × (p ≡ 0)) (A × Answered cs n p)
+      by-test n p true e = (λ h. absurd (other (h .0 ∙ eqb-true n k e)), λ h. absurd (h .0 there))
+      by-test n p false e = (λ h. (there, (rest .exactly n p) .0 h), λ h. (rest .exactly n p) .1 (h .1))
+
+  -- the first one is not
+  pub failed : (r : Reason) (values : ℕ) → ¬ A → AnswerIs (refused values (refusal r)) (check (numberOf r) A (λ p. p ≡ 0) ∷ cs)
+  failed r values none = record { exactly = λ n p. by-test n p (eqb n (numberOf r)) refl }
+    where
+      by-test : (n p : ℕ) (t : Bool) → eqb n (numberOf r) ≡ t → ((numberOf r ≡ n) × (0 ≡ p)) ↔ cond t ((A → ⊥) × (p ≡ 0)) (A × Answered cs n p)
+      by-test n p true e = (λ h. (none, sym (h .1)), λ h. (sym (eqb-true n (numberOf r) e), sym (h .1)))
+      by-test n p false e = (λ h. absurd (eqb-false n (numberOf r) e (sym (h .0))), λ h. absurd (none (h .0)))
+
+-- a refusal's number is not 0
+pub some-number : (u : Reason) → ¬ (numberOf u ≡ 0)
+some-number why.Length e = omega arith
+some-number why.Checksum e = omega arith
+some-number why.FileType e = omega arith
+some-number why.Structure e = omega arith
+some-number why.Layout e = omega arith
+some-number why.Field e = omega arith
+some-number why.Agreement e = omega arith
+some-number why.Target e = omega arith
+some-number why.Return e = omega arith
+some-number why.Station e = omega arith
+some-number why.Track e = omega arith
+some-number why.Position e = omega arith
+some-number why.Question e = omega arith
+some-number why.Steps e = omega arith
+some-number why.Room e = omega arith

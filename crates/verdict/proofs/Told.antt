@@ -1,6 +1,6 @@
 -- A list of facts in sections: the first section that does not hold gives the number, and its place is where the section's is.
 -- Assumes nothing.
-use Prim.Native.Nat.{ℕ}
+use Prim.Native.Nat.{ℕ, zero, suc}
 use mathlib.Core.Path.{_≡_, refl, sym, ap, subst, _∙_}
 use mathlib.Core.Bool.{Bool, true, false, cond, not, _&&_, true≢false}
 use mathlib.Core.Logic.{_⊎_, inl, inr, ⊎-elim, _↔_}
@@ -16,7 +16,7 @@ use Rattle.verdict.specs.Reasons.{numberOf, shownOf, numberIn, placeIn}
 use Rattle.verdict.proofs.Facts.{Agrees, agrees}
 use Rattle.verdict.specs.Order.{Check, check, Numbered, Answered, fresh}
 use Rattle.verdict.proofs.Sections.{Each, Speaks}
-use Rattle.verdict.proofs.Places.{Located, Only}
+use Rattle.verdict.proofs.Places.{Located, located-one, Only, only-at}
 
 abbrev numberFor : List Fact → ℕ
 numberFor fs = numberIn (shownOf (firstFault fs))
@@ -123,3 +123,24 @@ pub last-section : (says : Mark → Claim) (r : Reason) (a : List Fact) (A : Typ
     → Each (Speaks says r) a → fresh (numberOf r) [] ≡ true → Told a (check (numberOf r) A At ∷ [])
 last-section says r a A At iff at only k new =
     subst (λ (l : List Fact). Told l (check (numberOf r) A At ∷ [])) (append-nil a) (section says r a [] A At [] iff at only k new (λ _. no-more))
+
+-- ---- a check of one fact, which is reported at that fact's place
+
+abbrev pub claimIn : Fact → Claim
+claimIn (fact c m) = c
+
+abbrev pub markIn : Fact → Mark
+markIn (fact c m) = m
+
+pub one-fact : (says : Mark → Claim) (r : Reason) (x : Fact) (b : List Fact) (cs : List Check) → Each (Speaks says r) (x ∷ []) → fresh (numberOf r) cs ≡ true → Told b cs
+    → Told (x ∷ b) (check (numberOf r) (Holds (claimIn x)) (λ p. p ≡ markIn x .place) ∷ cs)
+unfolding AllHold
+one-fact says r (fact c m) b cs k new rest =
+    section says r (fact c m ∷ []) b (Holds c) (λ p. p ≡ m .place) cs (λ h. h .0, λ h. (h, tt)) (located-one (m .place) (fact c m ∷ []) (refl, tt))
+    (only-at (m .place)) k new (λ _. rest)
+
+-- the checks without the first k
+abbrev pub drop : ℕ → List Check → List Check
+drop zero cs = cs
+drop (suc k) [] = []
+drop (suc k) (c ∷ cs) = drop k cs

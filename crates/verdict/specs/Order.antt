@@ -7,6 +7,9 @@ use mathlib.Core.Bool.{Bool, cond, not, _&&_}
 use mathlib.Core.List.{List, [], _∷_}
 use mathlib.Core.Logic.{_⊎_}
 use lib.Dec.{eqb}
+use Rattle.verdict.specs.declared.Verdict.{Verdict}
+use Rattle.verdict.specs.declared.Verdict.the-variants.{Accepted}
+use Rattle.verdict.specs.Reasons.{numberIn, placeIn}
 
 -- A row of 01's table: the number, what holds of what passes the check, and what a place is that a refusal reports.
 pub data Check : Type 1 where
@@ -47,3 +50,10 @@ pub record InFirst (n : ℕ) (P : ℕ → ℕ → Type 0) (p : ℕ) : Type 0 whe
   pub counted : which < n
   pub before : (k : ℕ) → k < which → (q : ℕ) → P k q → ⊥
   pub lowest : Lowest (P which) p
+
+-- ---- a question on a file
+
+-- n is answered at the place p to a question on a file with the verdict v: the file's own fault first, and of an accepted file what the
+-- question's own checks say
+abbrev pub Asked : Verdict → List Check → ℕ → ℕ → Type 0
+Asked v cs n p = ((v ≡ Accepted) × Answered cs n p) ⊎ ((v ≡ Accepted → ⊥) × ((n ≡ numberIn v) × (p ≡ placeIn v)))

@@ -64,11 +64,13 @@ pub enum Rule {
     AmongFive(usize, usize, usize, usize, usize),
     // the number divided by the first, modulo the second, lies between the other two
     Part(usize, usize, usize, usize),
-    // the first number, where something ends, is at most the second, where its room ends
-    Fits(usize, usize),
-    // the first number is whole times the second
-    Whole(usize, usize),
-    // the mark's place is this one
+    // the first number, where something ends that the field at the second tells, is at most the third, where its room ends; that is the place
+    // in the fourth itself (End, where the checksum stands), or the number that stands there
+    Fits(usize, usize, usize, usize),
+    // the first number is whole times the second; it is how far the number at the mark's place is from the place in the third, or from the
+    // number that stands there
+    Whole(usize, usize, usize),
+    // the mark's place is this one: End, where the checksum stands
     EndsAt(usize),
     // the size byte at this field is 16, or lies between the two numbers
     SizeByte(usize, usize, usize),
@@ -78,12 +80,12 @@ pub enum Rule {
     ObjectName(usize),
     // a station's name
     StationName,
-    // the number at this field is 0
-    Zero(usize),
-    // the number at the first field is the one at the second
-    SameAs(usize, usize),
-    // the number at the first field is above the one at the second
-    Above(usize, usize),
+    // the number at this field, of so many bytes, is 0
+    Zero(usize, usize),
+    // the number at the first field is the one at the second, both of so many bytes
+    SameAs(usize, usize, usize),
+    // the number at the first field is above the one at the second, both of so many bytes
+    Above(usize, usize, usize),
     // the signed number at the first field, added to the one at the second, is at most this far from 0
     SumWithin(usize, usize, usize),
     // the signed number at the first field, added to the one at the second, is the one at the third
@@ -100,12 +102,12 @@ pub enum Rule {
     SameStation,
     // the track is in the first file
     InFirst,
-    // the position is at most the end of its track in the first file
-    WithinTrack,
+    // the position is at most the end, in the first file, of the track that the byte at this field names
+    WithinTrack(usize),
 }
 
 // What a fact is about: the reason it refuses for, the start of its record, the place that is reported, how many bytes
-// stand there, and the rule.
+// the field has that stands there, and the rule. Of 0 bytes: what is reported is the start or the end of a record, and the rule has the field.
 pub struct Mark {
     pub reason: Reason,
     pub start: usize,

@@ -1,3 +1,5 @@
 pub mod Ways
 pub mod Links
 pub mod Listed
+pub mod Range
+pub mod Asked

@@ -63,16 +63,16 @@ module _ (f : List ℕ) (e : verdictOf f ≡ verdict.Accepted) where
   obeys : Obeys f
   obeys = verdict-obeys f e
 
-  whole : Regions f (layoutOf f)
+  pub whole : Regions f (layoutOf f)
   whole = regions f (obeys .layout)
 
-  small : layoutOf f .end ≤ offsetMost
+  pub small : layoutOf f .end ≤ offsetMost
   small = regions-bounded f (layoutOf f) whole (obeys .most) .end
 
-  linked : Joined (objectAt f (layoutOf f)) (Target f (layoutOf f))
+  pub linked : Joined (objectAt f (layoutOf f)) (Target f (layoutOf f))
   linked = joined f (layoutOf f) whole (obeys .targets) (obeys .returns)
 
-  place : (x : ℕ) → boundaryStarts (layoutOf f) x ≡ true → Target f (layoutOf f) x
+  pub place : (x : ℕ) → boundaryStarts (layoutOf f) x ≡ true → Target f (layoutOf f) x
   place x b = boundary-place f (layoutOf f) whole (obeys .targets) (obeys .returns) small x b
 
   asked-is : (start limit budget room : ℕ) → routesAsked f start limit budget room ≡ answerIn f (layoutOf f) start limit budget room

@@ -5,11 +5,10 @@ use Rattle.geography.proofs.agreement.ask.Statement.{statement}
 use Rattle.geography.proofs.agreement.ask.Tie as tie
 
 returns : tie.Need-returns
-returns c = simp (c .also-fact .ensures, c .before .bytes .ensures)
+returns c = simp (c .also-fact .ensures)
 
 pub ask-spec : {M : Type 1} → statement M
 ask-spec = tie.close
     (tie.spec
-    (λ c κs. search needs)
     (λ c κs. search needs)
     returns)

@@ -15,11 +15,11 @@ returns c =
     let a = d .before .before .before .before .before .args in
     let end = d .before .before .before .end-of .ensures in
     let from = d .before .before .points-at .ensures .0 in
-    let count : d .fits-at .result ≡ judge (a .v) (countLayout (a .f .now)) = simp (d .fits-at .ensures, d .before .number-between .ensures, from, end) in
+    let count : d .ends-by .result ≡ judge (a .v) (countLayout (a .f .now)) = simp (d .ends-by .ensures, d .before .number-between .ensures, from, end) in
     let stop : c .ends-at .result ≡ judge (n .entries-layout .result) (stopLayout (a .f .now) (a .size)) =
     simp (c .ends-at .ensures, c .before .number-of .ensures .is, c .before .before .entry-before .ensures, from, end)
     in
-    layout-judged (a .f .now) (a .size) (a .v) (d .fits-at .result) (n .entries-layout .result) (c .ends-at .result) count (n .entries-layout .ensures) stop
+    layout-judged (a .f .now) (a .size) (a .v) (d .ends-by .result) (n .entries-layout .result) (c .ends-at .result) count (n .entries-layout .ensures) stop
 
 pub check-layout-spec : {M : Type 1} → statement M
 check-layout-spec =

@@ -15,11 +15,11 @@ use Rattle.layout.proofs.balises.walk_layout.Statement.{statement}
 use Rattle.layout.proofs.balises.walk_layout.Tie as tie
 
 abbrev Inv-loop : tie.InvT-loop
-Inv-loop v f from until at₀ at =
-    judge v (flatMap (baliseLayout f until) (startsFrom (baliseBytes f) until at)) ≡ judge v (walkLayout f from until)
+Inv-loop v f from until next at₀ at =
+    judge v (flatMap (baliseLayout f until next) (startsFrom (baliseBytes f) until at)) ≡ judge v (walkLayout f from until next)
 
 abbrev μ-loop : tie.MeasureT-loop
-μ-loop v f from until at₀ at = until - at
+μ-loop v f from until next at₀ at = until - at
 
 loop-holds : tie.Need-loop-holds Inv-loop μ-loop
 unfolding walkLayout
@@ -31,7 +31,7 @@ returns c =
     let h = tested .before .before .loop in
     let a = tested .before .before .before .before .args in
     let t = tested .balise-obeys in
-    fails-here (baliseBytes (a .f .now)) (a .until) (baliseLayout (a .f .now) (a .until)) (baliseBytes-pos (a .f .now)) (a .v) (h .at) (t .result) (omega arith) (t .ensures) _ (c .before .if1 .taken) (c .balise-layout .ensures)
+    fails-here (baliseBytes (a .f .now)) (a .until) (baliseLayout (a .f .now) (a .until) (a .next)) (baliseBytes-pos (a .f .now)) (a .v) (h .at) (t .result) (omega arith) (t .ensures) _ (c .before .if1 .taken) (c .balise-layout .ensures)
     ∙ h .inv
 
 loop-again : tie.Need-loop-again Inv-loop μ-loop
@@ -40,13 +40,13 @@ loop-again c =
     let h = tested .before .before .loop in
     let a = tested .before .before .before .before .args in
     let t = tested .balise-obeys in
-    passes-over (baliseBytes (a .f .now)) (a .until) (baliseLayout (a .f .now) (a .until)) (baliseBytes-pos (a .f .now)) (a .v) (h .at) (t .result) (omega arith) (t .ensures) _ (c .before .if1 .left) (simp (c .balise-bytes .ensures .0))
+    passes-over (baliseBytes (a .f .now)) (a .until) (baliseLayout (a .f .now) (a .until) (a .next)) (baliseBytes-pos (a .f .now)) (a .v) (h .at) (t .result) (omega arith) (t .ensures) _ (c .before .if1 .left) (simp (c .balise-bytes .ensures .0))
     ∙ h .inv
 
 returns-2 : tie.Need-returns-2 Inv-loop μ-loop
 returns-2 c =
     let a = c .before .before .before .args in
-    sym (judge-stop (baliseBytes (a .f .now)) (a .until) (baliseLayout (a .f .now) (a .until)) _ _ (omega arith)) ∙ c .before .loop .inv
+    sym (judge-stop (baliseBytes (a .f .now)) (a .until) (baliseLayout (a .f .now) (a .until) (a .next)) _ _ (omega arith)) ∙ c .before .loop .inv
 
 pub walk-layout-spec : {M : Type 1} → statement M
 walk-layout-spec = tie.close (tie.spec Inv-loop μ-loop loop-holds (λ c κs. search needs) (λ c κs. search needs) returns (λ c κs. search needs) (λ c. search needs) (λ c. search needs) loop-again returns-2)

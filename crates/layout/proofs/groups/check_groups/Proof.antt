@@ -24,11 +24,11 @@ loop-holds c = let e : c .before .args .o .count - 0 ≡ c .before .args .o .cou
 
 loop-again : tie.Need-loop-again Inv-loop μ-loop
 loop-again c =
-    let test = c .before .before in
+    let test = c .before .before .before in
     let h = test .before .before .loop in
     let a = test .before .before .before .before .args in
-    let until = c .before .group-end .ensures in
-    (until .1, groups-step (a .f .now) (a .last) (a .o) (h .i) (h .due) (test .if1 .taken) (h .w) _ _ (until .0) (c .one-group .ensures) ∙ h .inv .1)
+    let until = c .before .before .group-end .ensures in
+    (until .1, groups-step (a .f .now) (a .last) (a .o) (h .i) (h .due) (test .if1 .taken) (h .w) _ _ _ (until .0) (c .before .next-group .ensures .1 .1) (c .one-group .ensures) ∙ h .inv .1)
 
 returns : tie.Need-returns Inv-loop μ-loop
 returns c =
@@ -37,4 +37,4 @@ returns c =
     groups-stop (a .f .now) (a .last) (a .o) (h .i) (h .due) (c .before .if1 .left) (h .w) _ (c .ends-at .ensures) ∙ h .inv .1
 
 pub check-groups-spec : {M : Type 1} → statement M
-check-groups-spec = tie.close (tie.spec Inv-loop μ-loop loop-holds (λ c κs. search needs) (λ c κs. search needs) (λ c. search needs) (λ c. search needs) loop-again (λ c κs. search needs) returns)
+check-groups-spec = tie.close (tie.spec Inv-loop μ-loop loop-holds (λ c κs. search needs) (λ c. search needs) (λ c κs. search needs) (λ c κs. search needs) (λ c. search needs) (λ c. search needs) loop-again (λ c κs. search needs) returns)

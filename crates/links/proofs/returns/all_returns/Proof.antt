@@ -9,7 +9,7 @@ use Rattle.links.proofs.returns.all_returns.Statement.{statement}
 use Rattle.links.proofs.returns.all_returns.Tie as tie
 
 abbrev Inv-loop : tie.InvT-loop
-Inv-loop v f l stop at₀ at = Walking f l (recordReturns f l) v v at
+Inv-loop v f l stop at₀ at = Walking f l (recordReturns f l) v at
 
 abbrev μ-loop : tie.MeasureT-loop
 μ-loop v f l stop at₀ at = l .end - at

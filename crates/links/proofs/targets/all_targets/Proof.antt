@@ -9,7 +9,7 @@ use Rattle.links.proofs.targets.all_targets.Statement.{statement}
 use Rattle.links.proofs.targets.all_targets.Tie as tie
 
 abbrev Inv-loop : tie.InvT-loop
-Inv-loop v f l marks stop at₀ at = Walking f l (recordTargets f l) v v at
+Inv-loop v f l marks stop at₀ at = Walking f l (recordTargets f l) v at
 
 abbrev μ-loop : tie.MeasureT-loop
 μ-loop v f l marks stop at₀ at = l .end - at

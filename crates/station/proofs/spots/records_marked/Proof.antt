@@ -10,7 +10,7 @@ use Rattle.station.proofs.spots.records_marked.Statement.{statement}
 use Rattle.station.proofs.spots.records_marked.Tie as tie
 
 abbrev Inv-loop : tie.InvT-loop
-Inv-loop v f g l ends stop at₀ at = Walking g l (recordPair f g) v v at
+Inv-loop v f g l ends stop at₀ at = Walking g l (recordPair f g) v at
 
 abbrev μ-loop : tie.MeasureT-loop
 μ-loop v f g l ends stop at₀ at = l .end - at

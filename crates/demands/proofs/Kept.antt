@@ -1,0 +1,75 @@
+-- THEOREMS: the three promises are kept. Each part is a theorem of a crate below.
+-- Assumes nothing.
+use mathlib.Core.Path.{_≡_, refl}
+use mathlib.Core.List.{List}
+use Prim.Native.Nat.{ℕ}
+use Rattle.verdict.specs.Answers.{Answer, answered, refused, answerNumber}
+use Rattle.promises.proofs.OfExports.{yard-checksum-determined, yard-x1-determined, yard-x2-determined, yard-pair-determined, yard-header1-determined, yard-header2-determined, yard-track-determined, yard-point-determined, yard-coordinate-determined, yard-record-determined, yard-routes-determined}
+use Rattle.exports.specs.Shown.{leaves}
+use Rattle.exports.proofs.Fit.{track-back, point-back, coordinate-back, record-back}
+use Rattle.geography.specs.Obeys.{entryPlace}
+use Rattle.geography.proofs.Numbers as x1
+use Rattle.lookup.specs.Lookup.{numberAt}
+use Rattle.lookup.proofs.Lookup.{found-iff}
+use Rattle.survey.proofs.Asked as survey
+use Rattle.survey.proofs.Coordinates.{coordinate-nearest, coordinate-only-one}
+use Rattle.application.proofs.Numbers as x2
+use Rattle.application.proofs.Asked as application
+use Rattle.application.proofs.Values.{enums-kept}
+use Rattle.station.proofs.Whole.{pair-is}
+use Rattle.layout.specs.Layout.{layoutOf}
+use Rattle.graph.proofs.Read.{object-read}
+use Rattle.yard.proofs.Listed as yard
+use Rattle.yard.proofs.Range as range
+use Rattle.yard.proofs.Asked.{routes-asked}
+use Rattle.demands.specs.Demands.{Returns, Accepts, Lists}
+
+-- a refusal leaves every byte of an output
+output-kept : (a : Answer) (out : List ℕ) → (answerNumber a ≡ 0 → ⊥) → leaves a out ≡ out
+output-kept (answered values) out n = absurd (n refl)
+output-kept (refused k t) out n = refl
+
+-- PROMISE 1
+pub returns : Returns
+returns = record {
+  checksum = yard-checksum-determined;
+  first = yard-x1-determined;
+  second = yard-x2-determined;
+  pair = yard-pair-determined;
+  first-header = yard-header1-determined;
+  second-header = yard-header2-determined;
+  track = yard-track-determined;
+  point = yard-point-determined;
+  position = yard-coordinate-determined;
+  record-asked = yard-record-determined;
+  list = yard-routes-determined;
+  output-kept = output-kept;
+  words-kept = yard.refused-keeps;
+}
+
+-- PROMISE 2
+pub accepts : Accepts
+accepts = record {
+  first-accepted = x1.accepted-is;
+  first-answered = x1.answer-is;
+  second-accepted = x2.accepted-is;
+  second-answered = x2.answer-is;
+  pair-answered = pair-is;
+  first-header = survey.header-asked;
+  track = survey.track-asked;
+  point = survey.point-asked;
+  position = survey.coordinate-asked;
+  second-header = application.header-asked;
+  record-there = application.record-asked;
+  enums = enums-kept;
+  track-back = λ f out. track-back out f;
+  point-back = λ f out. point-back out f;
+  position-back = λ f out. coordinate-back out f;
+  record-back = λ f out. record-back out f;
+  nearest = λ f o i l x h. coordinate-nearest f o (numberAt f (entryPlace i)) (entryPlace i) ((found-iff f o (numberAt f (entryPlace i)) (entryPlace i)) .1 (record { track = i; in-file = l; there = refl; same = refl })) x h;
+  no-other = λ f o i l x r h. coordinate-only-one f o (numberAt f (entryPlace i)) (entryPlace i) ((found-iff f o (numberAt f (entryPlace i)) (entryPlace i)) .1 (record { track = i; in-file = l; there = refl; same = refl })) x r h;
+}
+
+-- PROMISE 3
+pub lists : Lists
+lists = record { which = routes-asked; listed = yard.listed; one-list = λ f e start b limit x y p q. range.one-list f e start b limit x y p q; objects = λ f at. object-read f (layoutOf f) at }
