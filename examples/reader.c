@@ -1,7 +1,7 @@
 /* An example of the C library: reads a station's two files and prints the verdict of the pair, the headers, the first track, the coordinate
  * in the middle of that track, the record after the header of the X.2, and the routes from it.
  *
- *     tools/library && target/staticlib/reader examples/1.1 examples/1.2 */
+ *     tools/library && target/libyard/reader examples/1.1 examples/1.2 */
 #include <inttypes.h>
 #include <stdint.h>
 #include <stdio.h>

@@ -14,6 +14,7 @@
 #include <string.h>
 #include <time.h>
 
+#include "generator/asked.h"
 #include "plain.h"
 #include "plain_cases.h"
 #include "sides.h"
@@ -32,7 +33,11 @@ enum {
     DIAMONDS = 13,
     /* Generated cases that the plain reader has to read as the core does. */
     PLAIN_SEED = 8,
-    PLAIN_CASES = 800
+    PLAIN_CASES = 800,
+    /* More than a tool that counts is asked for. */
+    TIMES_MOST = 1000000,
+    /* The exit status of a wrong command line. */
+    MISUSED = 2
 };
 
 enum {
@@ -423,16 +428,29 @@ static int print_rows(void)
     return 0;
 }
 
-static int repeat(const char *which, const char *of, const char *times)
+/* A number that a word says, below a limit; the limit if it says none. */
+static uint32_t number_in(const char *word, uint32_t limit)
 {
-    int i = atoi(which), s = atoi(of);
-    if (i < 0 || i >= ROWS || s < 0 || s >= SIDES_MOST
-        || rows[i].sides[s] == NULL) {
+    char *rest;
+    unsigned long number = strtoul(word, &rest, 10);
+    int right = *word >= '0' && *word <= '9' && *rest == '\0';
+    return right && number < limit ? (uint32_t)number : limit;
+}
+
+static int repeat(const char *which, const char *of, const char *often)
+{
+    uint32_t i = number_in(which, ROWS), s = number_in(of, SIDES_MOST);
+    uint32_t times = number_in(often, TIMES_MOST);
+    if (i == ROWS || s == SIDES_MOST || rows[i].sides[s] == NULL) {
         fputs("bench: no such row and side\n", stderr);
-        return 1;
+        return MISUSED;
+    }
+    if (times == TIMES_MOST) {
+        fputs("bench: TIMES is a number\n", stderr);
+        return MISUSED;
     }
     make_files(&rows[i]);
-    timed(rows[i].sides[s], (uint32_t)atoi(times));
+    timed(rows[i].sides[s], times);
     return 0;
 }
 
@@ -446,5 +464,5 @@ int main(int count, char **words)
     if (count == 1)
         return sides_agree() ? measure_all() : 1;
     fputs("usage: bench [rows | ROW SIDE TIMES]\n", stderr);
-    return 1;
+    return MISUSED;
 }

@@ -1,7 +1,7 @@
 /* What the library has to answer, by the independent core. */
 #include "expected.h"
 
-#include <string.h>
+#include "commands/answer.h"
 
 uint32_t values_size_of(uint32_t asked_for)
 {

@@ -2,7 +2,7 @@
 #ifndef EXPECTED_H
 #define EXPECTED_H
 
-#include "batch.h"
+#include "generator/asked.h"
 #include "yard.h"
 
 enum {

@@ -3,7 +3,8 @@
 
 #include <string.h>
 
-#include "make.h"
+#include "core/core.h"
+#include "generator/make.h"
 
 enum {
     VERSION = 1,

@@ -2,7 +2,7 @@
 #ifndef FILES_H
 #define FILES_H
 
-#include "batch.h"
+#include "generator/stored.h"
 
 /* Each file is filled up to at most so many bytes. */
 

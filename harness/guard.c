@@ -1,18 +1,21 @@
 /* The guarded run: every function of the library is called with generated,
  * damaged, random and bit-flipped files. Every lent buffer lies against an
- * unreadable page, before it and after it in turn. Each answer is compared
- * with the independent core, a file has to keep its bytes, and an output has
- * to hold the answer and after it its old bytes; on a refusal it keeps all of
- * them. */
+ * unreadable page, before it and after it in turn; one of no bytes is a null
+ * pointer too. Each answer is compared with the independent core, a file has
+ * to keep its bytes, and an output has to hold the answer and after it its
+ * old bytes; on a refusal it keeps all of them. */
+#define _XOPEN_SOURCE 700
 #include <signal.h>
 #include <stdio.h>
-#include <stdlib.h>
 #include <string.h>
 #include <unistd.h>
 
-#include "cases.h"
-#include "damage.h"
+#include "commands/commands.h"
+#include "commands/generation.h"
+#include "core/core.h"
 #include "expected.h"
+#include "generator/damage.h"
+#include "generator/random.h"
 #include "lent.h"
 
 enum {
@@ -20,7 +23,8 @@ enum {
     SPARE_LARGEST = 8,
     OUT_ROOM = VALUES_ROOM + SPARE_LARGEST,
     LENT_WORDS_ROOM = WORDS_ROOM + 1,
-    FAULT_STATUS = 2
+    /* The exit status after a signal. */
+    RUN_SIGNALLED = 3
 };
 
 /* What stands in an output before a call. */
@@ -40,33 +44,115 @@ typedef struct {
     uint64_t calls;
     uint64_t answers[QUESTIONS][IND_NUMBERS];
     uint64_t checksums;
+    uint64_t with_null;
     uint64_t differ;
     uint64_t changed;
 } figures;
 
 static room files[FILES], out_room, words_room;
-static volatile sig_atomic_t asked_last;
-static uint64_t case_last;
 
-/* A signal is a defect: say where, and stop. */
-static void caught(int number)
+/* ---- signals: a signal is a defect; say in which call, and stop */
+
+enum {
+    /* The checksum, which is no question, and no call at all. */
+    CHECKSUM = 0,
+    NO_CALL = -1
+};
+
+/* The call under way, and how its buffers are lent. */
+static volatile uint64_t case_now;
+static volatile sig_atomic_t question_now = NO_CALL, way_now;
+
+/* What is said. A handler may neither format nor allocate. */
+static char said[200];
+static size_t said_size;
+
+static void say(const char *text)
 {
-    char text[120];
-    int length = snprintf(text, sizeof text,
-                          "signal %d in case %llu, question %d\n", number,
-                          (unsigned long long)case_last, (int)asked_last);
-    if (write(STDOUT_FILENO, text, (size_t)length) < 0)
-        _exit(FAULT_STATUS + 1);
-    _exit(FAULT_STATUS);
+    while (*text != '\0' && said_size < sizeof said)
+        said[said_size++] = *text++;
 }
 
+static void say_number(uint64_t number)
+{
+    char digits[21];
+    size_t first = sizeof digits - 1;
+    digits[first] = '\0';
+    do {
+        digits[--first] = (char)('0' + number % 10);
+        number /= 10;
+    } while (number > 0);
+    say(digits + first);
+}
+
+static const char *signal_name(int number)
+{
+    switch (number) {
+    case SIGSEGV: return "SIGSEGV";
+    case SIGBUS: return "SIGBUS";
+    case SIGILL: return "SIGILL";
+    case SIGFPE: return "SIGFPE";
+    case SIGTRAP: return "SIGTRAP";
+    default: return "SIGABRT";
+    }
+}
+
+static const char *way_name(int lent)
+{
+    switch (lent) {
+    case PAGE_BEFORE: return "the unreadable page before each buffer";
+    case PAGE_AFTER: return "the unreadable page after each buffer";
+    default: return "a null pointer for each empty buffer";
+    }
+}
+
+/* Which call is under way. */
+static void say_call(void)
+{
+    if (question_now == NO_CALL) {
+        say(" outside the library");
+        return;
+    }
+    say(" in yard_");
+    say(question_now == CHECKSUM ? "checksum"
+                                 : question_name((uint32_t)question_now));
+    say(", with ");
+    say(way_name((int)way_now));
+}
+
+static void caught(int number)
+{
+    ssize_t written;
+    say("signal ");
+    say_number((uint64_t)number);
+    say(" (");
+    say(signal_name(number));
+    say(") in case ");
+    say_number(case_now);
+    say(",");
+    say_call();
+    say("\n");
+    written = write(STDOUT_FILENO, said, said_size);
+    (void)written;
+    _exit(RUN_SIGNALLED);
+}
+
+/* The handler has a stack of its own, for a library that overflows this
+ * one. */
 static void catch_signals(void)
 {
     static const int caught_ones[] = { SIGSEGV, SIGBUS, SIGILL, SIGFPE,
                                        SIGTRAP, SIGABRT };
+    static uint8_t bytes[65536];
+    stack_t own = { .ss_sp = bytes, .ss_size = sizeof bytes };
+    struct sigaction act = { .sa_handler = caught, .sa_flags = SA_ONSTACK };
+    sigemptyset(&act.sa_mask);
+    sigaltstack(&own, NULL);
     for (size_t i = 0; i < sizeof caught_ones / sizeof *caught_ones; i++)
-        signal(caught_ones[i], caught);
+        sigaction(caught_ones[i], &act, NULL);
 }
+
+/* ---- calls */
 
 static void fill(uint8_t *bytes, uint32_t length)
 {
@@ -74,12 +160,24 @@ static void fill(uint8_t *bytes, uint32_t length)
         bytes[i] = OLD_BYTE(i);
 }
 
+/* Neither memcmp nor memcpy may be given a null pointer. */
+static int alike(const uint8_t *bytes, const uint8_t *others, uint32_t length)
+{
+    return length == 0 || memcmp(bytes, others, length) == 0;
+}
+
+static void copy(uint8_t *to, const uint8_t *bytes, uint32_t length)
+{
+    if (length > 0)
+        memcpy(to, bytes, length);
+}
+
 /* How many bytes differ from the new ones in front and the old ones after
  * them. */
 static uint64_t changed_in(const uint8_t *bytes, uint32_t length,
                            const uint8_t *front, uint32_t front_size)
 {
-    uint64_t changed = memcmp(bytes, front, front_size) != 0;
+    uint64_t changed = !alike(bytes, front, front_size);
     for (uint32_t i = front_size; i < length; i++)
         changed += bytes[i] != OLD_BYTE(i);
     return changed;
@@ -127,36 +225,59 @@ static void tell_difference(const figures *seen, const call *of,
 {
     if (seen->differ + seen->changed > 1)
         return;
-    printf("first defect: case %llu, question %s, output of %lu bytes\n",
-           (unsigned long long)case_last, question_name(of->ask.question),
-           (unsigned long)of->out_length);
+    printf("first defect: case %llu, question %s, output of %lu bytes, with "
+           "%s\n",
+           (unsigned long long)case_now, question_name(of->ask.question),
+           (unsigned long)of->out_length, way_name((int)way_now));
     printf("library     %u at %lu, file %u\n", YARD_NUMBER(got),
            (unsigned long)YARD_PLACE(got), YARD_FILE(got));
     printf("independent %u at %lu, file %u\n", YARD_NUMBER(due->answer),
            (unsigned long)YARD_PLACE(due->answer), YARD_FILE(due->answer));
+    fflush(stdout);
 }
 
-/* One call with every buffer against the page on one side. */
-static void one_call(figures *seen, const call *of, const expected *due,
-                     side against)
+/* The files that a question is about. */
+static int files_of(uint32_t asked_for)
 {
-    const uint8_t *lent[FILES];
-    uint8_t *out = lend(out_room, of->out_length, against);
-    uint8_t *words = lend(words_room, of->words_length, against);
+    return asked_for == ASK_PAIR ? 2 : 1;
+}
+
+/* Some buffer that the call lends has no bytes. */
+static int lends_nothing(const call *of)
+{
+    uint32_t question = of->ask.question;
+    for (int i = 0; i < files_of(question); i++)
+        if (of->ask.length[i] == 0)
+            return 1;
+    return (values_size_of(question) > 0 && of->out_length == 0)
+        || (question == ASK_ROUTES && of->words_length == 0);
+}
+
+/* One call with every buffer lent in one way. */
+static void one_call(figures *seen, const call *of, const expected *due,
+                     way lent)
+{
+    const uint8_t *file[FILES];
+    uint8_t *out = lend(out_room, of->out_length, lent);
+    uint8_t *words = lend(words_room, of->words_length, lent);
     uint64_t got, changed;
     for (int i = 0; i < FILES; i++) {
-        uint8_t *bytes = lend(files[i], of->ask.length[i], against);
-        memcpy(bytes, of->ask.bytes[i], of->ask.length[i]);
-        lent[i] = bytes;
+        uint8_t *bytes = lend(files[i], of->ask.length[i], lent);
+        copy(bytes, of->ask.bytes[i], of->ask.length[i]);
+        file[i] = bytes;
     }
     fill(out, of->out_length);
     fill(words, of->words_length);
-    got = ask_library(of, lent, out, words);
+    question_now = (sig_atomic_t)of->ask.question;
+    way_now = (sig_atomic_t)lent;
+    got = ask_library(of, file, out, words);
+    question_now = NO_CALL;
     count_answer(seen, of->ask.question, got);
+    seen->with_null += lent == NULL_FOR_NOTHING;
     changed = changed_in(out, of->out_length, due->values, due->values_size)
         + changed_in(words, of->words_length, due->words, due->words_size);
     for (int i = 0; i < FILES; i++)
-        changed += memcmp(lent[i], of->ask.bytes[i], of->ask.length[i]) != 0;
+        changed += !alike(file[i], of->ask.bytes[i], of->ask.length[i]);
     seen->differ += got != due->answer;
     seen->changed += changed;
     if (got != due->answer || changed > 0)
@@ -193,10 +314,21 @@ static void raise_a_number(source *from, call *of)
     of->ask.numbers[which] = 0xFFFFFFFF;
 }
 
-/* The case, asked with its buffers against either page. */
-static void ask_both_sides(figures *seen, source *from, const asked *ask)
+/* The call with its buffers lent in each way. */
+static void call_each_way(figures *seen, const call *of)
 {
     static expected due;
+    expect(&of->ask, &due);
+    shorten(of, &due);
+    one_call(seen, of, &due, PAGE_BEFORE);
+    one_call(seen, of, &due, PAGE_AFTER);
+    if (lends_nothing(of))
+        one_call(seen, of, &due, NULL_FOR_NOTHING);
+}
+
+/* The call that asks a case, with outputs of some length. */
+static call call_of(source *from, const asked *ask)
+{
     call of;
     of.ask = pose(ask);
     of.out_length = some_length(from, values_size_of(ask->question));
@@ -206,43 +338,89 @@ static void ask_both_sides(figures *seen, source *from, const asked *ask)
     for (int i = 0; i < NUMBERS; i++)
         of.above[i] = ask->numbers[i];
     raise_a_number(from, &of);
-    expect(&of.ask, &due);
-    shorten(&of, &due);
-    asked_last = (sig_atomic_t)ask->question;
-    for (int against = PAGE_BEFORE; against < SIDES; against++)
-        one_call(seen, &of, &due, (side)against);
+    return of;
 }
 
-/* The checksum of a whole file, with its bytes against either page. */
-static void checksum_both_sides(figures *seen, const stored *file)
+/* Some or all of the buffers that the call lends have no bytes. */
+static void lend_nothing(source *from, call *of)
 {
-    uint32_t due = ind_checksum(file->bytes, file->length);
-    asked_last = 0;
-    for (int against = PAGE_BEFORE; against < SIDES; against++) {
-        uint8_t *bytes = lend(files[0], file->length, (side)against);
-        memcpy(bytes, file->bytes, file->length);
-        seen->differ += yard_checksum(bytes, file->length) != due;
+    uint32_t question = of->ask.question;
+    do {
+        for (int i = 0; i < files_of(question); i++)
+            if (once_in(from, 3))
+                of->ask.length[i] = 0;
+        if (once_in(from, 2))
+            of->out_length = 0;
+        if (question == ASK_ROUTES && once_in(from, 2)) {
+            of->words_length = 0;
+            of->ask.numbers[3] = 0;
+        }
+    } while (!lends_nothing(of));
+}
+
+static void tell_checksum(uint32_t length, uint32_t got, uint32_t due)
+{
+    printf("first defect: case %llu, checksum of %lu bytes, with %s\n",
+           (unsigned long long)case_now, (unsigned long)length,
+           way_name((int)way_now));
+    printf("library     %08lx\nindependent %08lx\n", (unsigned long)got,
+           (unsigned long)due);
+    fflush(stdout);
+}
+
+/* The checksum of a file's first bytes, lent in each way. */
+static void checksum_each_way(figures *seen, const stored *file,
+                              uint32_t length)
+{
+    uint32_t due = ind_checksum(file->bytes, length);
+    int ways = length == 0 ? WAYS : NULL_FOR_NOTHING;
+    for (int lent = PAGE_BEFORE; lent < ways; lent++) {
+        uint8_t *bytes = lend(files[0], length, (way)lent);
+        uint32_t got;
+        copy(bytes, file->bytes, length);
+        question_now = CHECKSUM;
+        way_now = lent;
+        got = yard_checksum(bytes, length);
+        question_now = NO_CALL;
+        seen->differ += got != due;
+        if (got != due && seen->differ + seen->changed == 1)
+            tell_checksum(length, got, due);
         seen->calls++;
         seen->checksums++;
+        seen->with_null += lent == NULL_FOR_NOTHING;
     }
 }
 
-/* A generated case, the same with some bits of a file flipped, and the
- * checksum of its first file. */
+/* A case's call and checksum, with buffers of no bytes. */
+static void run_with_nothing(figures *seen, source *from, const asked *ask)
+{
+    call of = call_of(from, ask);
+    lend_nothing(from, &of);
+    call_each_way(seen, &of);
+    checksum_each_way(seen, &ask->files[0], 0);
+}
+
+/* A generated case, the checksum of its first file, now and then the same
+ * with buffers of no bytes, and the case with some bits of a file flipped. */
 static void run_case(figures *seen, const generation *run, uint64_t index)
 {
     static asked ask;
     source from = source_from(run->seed ^ (index << 20));
     uint32_t which;
-    case_last = index;
+    call of;
+    case_now = index;
     build_case(run, index, &ask);
-    ask_both_sides(seen, &from, &ask);
-    checksum_both_sides(seen, &ask.files[0]);
+    of = call_of(&from, &ask);
+    call_each_way(seen, &of);
+    checksum_each_way(seen, &ask.files[0], ask.files[0].length);
+    if (once_in(&from, 4))
+        run_with_nothing(seen, &from, &ask);
     which = ask.question == ASK_PAIR ? draw(&from, FILES) : 0;
     flip_bits(&from, &ask.files[which]);
     if (!once_in(&from, 4))
         seal(&ask.files[which]);
-    ask_both_sides(seen, &from, &ask);
+    of = call_of(&from, &ask);
+    call_each_way(seen, &of);
 }
 
 static void print_figures(const figures *seen)
@@ -260,8 +438,10 @@ static void print_figures(const figures *seen)
                        (unsigned long long)seen->answers[q][n]);
         putchar('\n');
     }
-    printf("%llu calls, %llu differ, %llu bytes changed, no signal\n",
+    printf("%llu calls, %llu of them with a null pointer, %llu differ, %llu "
+           "bytes changed, no signal\n",
            (unsigned long long)seen->calls,
+           (unsigned long long)seen->with_null,
            (unsigned long long)seen->differ,
            (unsigned long long)seen->changed);
 }
@@ -273,10 +453,10 @@ int main(int count, char **words)
     uint64_t index = 0;
     if (count < 3) {
         fputs("usage: guard SEED COUNT [KIND..]\n", stderr);
-        return 1;
+        return RUN_MISUSED;
     }
     if (!read_generation(count - 1, words + 1, &run))
-        return 1;
+        return RUN_MISUSED;
     for (int i = 0; i < FILES; i++)
         files[i] = make_room(FILE_ROOM);
     out_room = make_room(OUT_ROOM);
@@ -285,5 +465,5 @@ int main(int count, char **words)
     while (seen.calls < run.count)
         run_case(&seen, &run, index++);
     print_figures(&seen);
-    return seen.differ + seen.changed > 0;
+    return seen.differ + seen.changed == 0 ? RUN_WELL : RUN_BAD;
 }

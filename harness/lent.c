@@ -21,7 +21,9 @@ room make_room(size_t bytes)
     return (room){ whole + page, whole + page + readable };
 }
 
-uint8_t *lend(room of, size_t bytes, side against)
+uint8_t *lend(room of, size_t bytes, way lent)
 {
-    return against == PAGE_BEFORE ? of.first : of.last - bytes;
+    if (lent == NULL_FOR_NOTHING && bytes == 0)
+        return NULL;
+    return lent == PAGE_BEFORE ? of.first : of.last - bytes;
 }

@@ -5,13 +5,14 @@
 #include <stddef.h>
 #include <stdint.h>
 
-/* The page that lent bytes lie against: the one before them or the one
- * after them. */
+/* How bytes are lent: against the page before them, against the one after
+ * them, or so too, but by a null pointer where there are none. */
 typedef enum {
     PAGE_BEFORE,
     PAGE_AFTER,
-    SIDES
-} side;
+    NULL_FOR_NOTHING,
+    WAYS
+} way;
 
 /* Readable bytes from first on, up to last, which is unreadable; so is the
  * byte before first. */
@@ -24,7 +25,7 @@ typedef struct {
  * is none. */
 room make_room(size_t bytes);
 
-/* So many bytes of the room, against the page on one side. */
-uint8_t *lend(room of, size_t bytes, side against);
+/* So many bytes of the room. */
+uint8_t *lend(room of, size_t bytes, way lent);
 
 #endif

@@ -1,7 +1,8 @@
 /* The plain reader held to the independent core on generated cases. */
 #include "plain_cases.h"
 
-#include "cases.h"
+#include "commands/answer.h"
+#include "generator/cases.h"
 #include "plain.h"
 
 /* What the plain reader says to a case: 1 accepted, 0 refused. */

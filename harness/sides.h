@@ -3,8 +3,7 @@
 #ifndef SIDES_H
 #define SIDES_H
 
-#include "core_application.h"
-#include "core_geography.h"
+#include "core/core.h"
 #include "files.h"
 
 /* A side's answer to a question about a file, or about two: the number. */

@@ -1,22 +1,23 @@
 /* The station files of T/VSTR 021-2024, for C and for whatever can call C: track geography (X.1) and fixed application data (X.2). Verdicts
- * of a file and of a pair, and the questions on them: header, track, point, coordinate, record, routes. The library is
- * target/staticlib/libexports.a; tools/library makes it, for x86-64 Linux. Nothing else is linked with it.
+ * of a file and of a pair, and the questions on them: header, track, point, coordinate, record, routes. The library is libyard.a;
+ * tools/library makes it, for x86-64 Linux, and lays it out beside this header in target/libyard. Nothing else is linked with it.
  *
  * What every function has in common
  *
  * - A file, and every output, is a pointer to bytes and after it their number. The pointer needs no alignment. Where the number is 0 the
- *   pointer may be null. Otherwise it points to so many bytes, which no one changes during the call; an output overlaps no other argument.
+ *   pointer may be null, and the answer is that of any other pointer. Otherwise it points to so many bytes, which no one changes during the
+ *   call; an output overlaps no other argument.
  * - No byte outside these is read or written. Nothing is kept between calls and nothing is shared, so that calls may run at the same time.
- *   There is no heap, and every call returns. A call takes about 10 KB of stack on an X.1 and 20 KB on an X.2; routes take about 250 KB at
- *   limit 512, half a kilobyte for each object of a walk.
+ *   There is no heap, and every call returns. A call takes at most 10 KB of stack on an X.1, 20 KB on an X.2 and 22 KB on a pair; routes
+ *   take at most 250 KB at limit 512, half a kilobyte for each object of a walk. tools/stack measures it.
  * - A function other than yard_checksum returns one number, made of the answer's number, its file and its place: take it apart by
  *   YARD_NUMBER, YARD_FILE and YARD_PLACE. Number 0 is accepted or answered. Any other is a refusal, with the byte place that it is about.
  * - An answer's values are put at the start of the output, four bytes each and low byte first, negative ones in two's complement: read them
  *   by yard_unsigned and yard_signed. The bytes of the output after the values are left as they were.
  * - A refusal leaves every byte of every output as it was. An output that is too short for the values is refused by YARD_ROOM at place 0,
  *   after every other refusal.
- * - Positions are in centimetres, latitude and longitude in milliarcseconds, indexes count from 0, and a place is a byte's distance from the
- *   file's start. */
+ * - Positions are in centimetres, latitude and longitude in milliarcseconds, indexes count from 0, and a place is a byte's distance from
+ *   the file's start. */
 #ifndef YARD_H
 #define YARD_H
 
@@ -143,8 +144,8 @@ enum yard_point_value {
 
 #define YARD_POINT_SIZE 20
 
-/* The coordinate at a position of the track with a number: exact to the nearest milliarcsecond, a half going north and east. No track of that
- * number: YARD_TRACK. A position beyond the track's end: YARD_POSITION. Both at place 0. */
+/* The coordinate at a position of the track with a number: exact to the nearest milliarcsecond, a half going north and east. No track of
+ * that number: YARD_TRACK. A position beyond the track's end: YARD_POSITION. Both at place 0. */
 uint64_t yard_coordinate(const uint8_t *file, size_t file_length, size_t number, size_t position, uint8_t *out, size_t out_length);
 
 enum yard_coordinate_value {
@@ -171,9 +172,9 @@ enum yard_header2_value {
 
 #define YARD_HEADER2_SIZE 20
 
-/* The record that starts at a place. No record starts there: YARD_QUESTION. Value 0 is the record's kind, and the kind's values stand after it;
- * those after the kind's last one are 0. A link is the place of another record, 0 for none. A name is the place of its 8 bytes in the file, of
- * which those from the first zero on do not count. */
+/* The record that starts at a place. No record starts there: YARD_QUESTION. Value 0 is the record's kind, and the kind's values stand after
+ * it; those after the kind's last one are 0. A link is the place of another record, 0 for none. A name is the place of its 8 bytes in the
+ * file, of which those from the first zero on do not count. */
 uint64_t yard_record(const uint8_t *file, size_t file_length, size_t offset, uint8_t *out, size_t out_length);
 
 #define YARD_RECORD_KIND 0
@@ -265,11 +266,11 @@ enum yard_siding_value {
  * partial walks (1 to 65,535). No boundary starts there, or the limit or the budget is out of range: YARD_QUESTION. More partial walks than
  * the budget: YARD_STEPS. The list does not fit in `words`, or the counts do not fit in `counts`: YARD_ROOM.
  *
- * The list is put at the start of `words`, in words of two bytes, low byte first: of each route its number of objects and then their places,
- * from the boundary on; normal before reverse where two routes part. There is room for half as many words as there are bytes, and an odd
- * last byte is never touched. Bytes after the list are left as they were. */
-uint64_t yard_routes(const uint8_t *file, size_t file_length, size_t start, size_t limit, size_t budget, uint8_t *counts, size_t counts_length,
-                     uint8_t *words, size_t words_length);
+ * The list is put at the start of `words`, in words of two bytes, low byte first: of each route its number of objects and then their
+ * places, from the boundary on; normal before reverse where two routes part. There is room for half as many words as there are bytes, and
+ * an odd last byte is never touched. Bytes after the list are left as they were. */
+uint64_t yard_routes(const uint8_t *file, size_t file_length, size_t start, size_t limit, size_t budget, uint8_t *counts,
+                     size_t counts_length, uint8_t *words, size_t words_length);
 
 enum yard_routes_value {
     YARD_ROUTES_ROUTES, /* how many routes there are */

@@ -1,6 +1,5 @@
 -- The number of an answer of any kind, which `shape` makes the one shape: `asked` is the answer that is due, `got` the one that a function gave, and
 -- `way` the case that it was found to be.
--- Assumes nothing.
 use Prim.Native.Nat.{ℕ}
 use mathlib.Core.Path.{_≡_, sym, ap, _∙_}
 use Rattle.verdict.specs.Answers.{Answer, answerNumber}

@@ -2,19 +2,20 @@
 ghost use mathlib.Core.Path.{_≡_};
 ghost use Rattle.verdict.specs.Reasons.{numberOf, numberIn};
 ghost use Rattle.verdict.specs.Answers.{answerNumber};
-ghost use Rattle.geography.specs.Facts.{verdictOf};
-ghost use Rattle.survey.specs.Questions.{trackOf, pointOf, coordinateAsked};
-ghost use Rattle.survey.specs.Answers.{trackAnswer, pointAnswer, coordinateAnswer};
-use survey::Coordinate;
-use survey::CoordinateAnswer;
-use survey::PointAnswer;
-use survey::TrackAnswer;
+ghost use Rattle.x1_verdict.specs.Facts.{verdictOf};
+ghost use Rattle.x1_questions.specs.Questions.{trackOf, pointOf, coordinateAsked};
+ghost use Rattle.x1_questions.specs.Answers.{trackAnswer, pointAnswer, coordinateAnswer};
 use text::head;
 use text::line;
+use text::lines;
 use text::signed_line;
-use tracks::Point;
-use tracks::Track;
 use verdict::Fault;
+use x1_questions::Coordinate;
+use x1_questions::CoordinateAnswer;
+use x1_questions::PointAnswer;
+use x1_questions::TrackAnswer;
+use x1_records::Point;
+use x1_records::Track;
 
 // A refusal.
 pub fn refused(fault: Fault) -> usize
@@ -26,36 +27,48 @@ pub fn refused(fault: Fault) -> usize
     n
 }
 
+// The first line of what is answered and not refused.
+pub fn answered() {
+    head(b"answer", 0, 0);
+}
+
 // The question x1.
 pub fn x1(f: &[u8]) -> usize
     ensures { λ r. ⌜ r ≡ numberIn (verdictOf (now (f .entry))) ⌝ }
 {
-    let v = geography::verdicts::verdict_of(f);
+    let v = x1_verdict::verdicts::verdict_of(f);
     let n = v.number();
     head(b"answer", n, v.place());
     n
 }
 
-fn track_lines(t: Track) {
-    head(b"answer", 0, 0);
-    line(b"number", t.number);
-    line(b"property", t.property);
+fn start_lines(t: Track) {
     line(b"start_position", t.start_position);
     signed_line(b"start_latitude", t.start_latitude);
     signed_line(b"start_longitude", t.start_longitude);
+}
+
+fn end_lines(t: Track) {
     line(b"end_position", t.end_position);
     signed_line(b"end_latitude", t.end_latitude);
     signed_line(b"end_longitude", t.end_longitude);
-    line(b"first_offset", t.first);
-    line(b"last_offset", t.last);
-    line(b"points", t.points());
+}
+
+fn track_lines(t: Track) {
+    answered();
+    let name = [t.number, t.property];
+    lines(b"number property", &name);
+    start_lines(t);
+    end_lines(t);
+    let points = [t.first, t.last, t.points()];
+    lines(b"first_offset last_offset points", &points);
 }
 
 // The question track.
 pub fn track(f: &[u8], index: usize) -> usize
     ensures { λ r. ⌜ r ≡ answerNumber (trackAnswer (trackOf (now (f .entry)) index)) ⌝ }
 {
-    match survey::track(f, index) {
+    match x1_questions::track(f, index) {
         TrackAnswer::Track(t) => {
             track_lines(t);
             0
@@ -65,7 +78,7 @@ pub fn track(f: &[u8], index: usize) -> usize
 }
 
 fn point_lines(p: Point) {
-    head(b"answer", 0, 0);
+    answered();
     line(b"position", p.position);
     signed_line(b"latitude_increment", p.latitude_increment);
     signed_line(b"longitude_increment", p.longitude_increment);
@@ -77,7 +90,7 @@ fn point_lines(p: Point) {
 pub fn point(f: &[u8], track: usize, index: usize) -> usize
     ensures { λ r. ⌜ r ≡ answerNumber (pointAnswer (pointOf (now (f .entry)) track index)) ⌝ }
 {
-    match survey::point(f, track, index) {
+    match x1_questions::point(f, track, index) {
         PointAnswer::Point(p) => {
             point_lines(p);
             0
@@ -87,7 +100,7 @@ pub fn point(f: &[u8], track: usize, index: usize) -> usize
 }
 
 fn coordinate_lines(c: Coordinate) {
-    head(b"answer", 0, 0);
+    answered();
     signed_line(b"latitude", c.latitude);
     signed_line(b"longitude", c.longitude);
 }
@@ -96,7 +109,7 @@ fn coordinate_lines(c: Coordinate) {
 pub fn coordinate(f: &[u8], number: usize, position: usize) -> usize
     ensures { λ r. ⌜ r ≡ answerNumber (coordinateAnswer (coordinateAsked (now (f .entry)) number position)) ⌝ }
 {
-    match survey::coordinate(f, number, position) {
+    match x1_questions::coordinate(f, number, position) {
         CoordinateAnswer::Coordinate(c) => {
             coordinate_lines(c);
             0

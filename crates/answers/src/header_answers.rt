@@ -1,31 +1,30 @@
 // The answers about the header of either file.
 ghost use mathlib.Core.Path.{_≡_};
 ghost use Rattle.verdict.specs.Answers.{answerNumber};
-ghost use Rattle.survey.specs.Answers.{headerAnswer};
-ghost use Rattle.survey.specs.Questions.{headerOf};
-ghost use Rattle.application.specs.Answers.{namedHeaderAnswer};
-ghost use Rattle.application.specs.Questions.{namedHeaderOf};
+ghost use Rattle.x1_questions.specs.Answers.{headerAnswer};
+ghost use Rattle.x1_questions.specs.Questions.{headerOf};
+ghost use Rattle.x2_verdict.specs.Answers.{namedHeaderAnswer};
+ghost use Rattle.x2_verdict.specs.Questions.{namedHeaderOf};
+use crate::geography_answers::answered;
 use crate::geography_answers::refused;
-use application::NamedHeader;
-use application::NamedHeaderAnswer;
-use seal::Header;
-use survey::HeaderAnswer;
-use text::head;
-use text::line;
+use envelope::Header;
+use text::lines;
 use text::message_line;
+use x1_questions::HeaderAnswer;
+use x2_verdict::NamedHeader;
+use x2_verdict::NamedHeaderAnswer;
 
 fn header_lines(h: Header) {
-    head(b"answer", 0, 0);
-    line(b"structure", h.structure);
-    line(b"data", h.data);
-    line(b"station", h.station);
+    answered();
+    let values = [h.structure, h.data, h.station];
+    lines(b"structure data station", &values);
 }
 
 // The question header1.
 pub fn header1(f: &[u8]) -> usize
     ensures { λ r. ⌜ r ≡ answerNumber (headerAnswer (headerOf (now (f .entry)))) ⌝ }
 {
-    match survey::header(f) {
+    match x1_questions::header(f) {
         HeaderAnswer::Header(h) => {
             header_lines(h);
             0
@@ -44,7 +43,7 @@ fn named_header_lines(f: &[u8], h: NamedHeader) {
 pub fn header2(f: &[u8]) -> usize
     ensures { λ r. ⌜ r ≡ answerNumber (namedHeaderAnswer (namedHeaderOf (now (f .entry)))) ⌝ }
 {
-    match application::header(f) {
+    match x2_verdict::header(f) {
         NamedHeaderAnswer::Header(h) => {
             named_header_lines(f, h);
             0

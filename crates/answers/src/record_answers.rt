@@ -2,60 +2,107 @@
 ghost use mathlib.Core.Path.{_≡_};
 ghost use Rattle.verdict.specs.Reasons.{numberIn};
 ghost use Rattle.verdict.specs.Answers.{answerNumber};
-ghost use Rattle.application.specs.Facts.{verdictOf};
-ghost use Rattle.application.specs.Questions.{recordOf};
-ghost use Rattle.application.specs.Answers.{recordAnswer};
+ghost use Rattle.x2_verdict.specs.Facts.{verdictOf};
+ghost use Rattle.x2_verdict.specs.Questions.{recordOf};
+ghost use Rattle.x2_verdict.specs.Answers.{recordAnswer};
+use crate::geography_answers::answered;
 use crate::geography_answers::refused;
-use application::RecordAnswer;
-use records::Balise;
-use records::Boundary;
-use records::Facing;
-use records::GroupDirection;
-use records::Joint;
-use records::Nature;
-use records::Record;
-use records::Siding;
-use records::Signal;
-use records::Turnout;
 use text::head;
 use text::line;
+use text::lines;
 use text::message_line;
 use text::name_line;
 use text::text_line;
+use x2_records::Balise;
+use x2_records::Boundary;
+use x2_records::Facing;
+use x2_records::GroupDirection;
+use x2_records::Joint;
+use x2_records::Nature;
+use x2_records::Record;
+use x2_records::Siding;
+use x2_records::Signal;
+use x2_records::Turnout;
+use x2_verdict::RecordAnswer;
 
 // The question x2.
 pub fn x2(f: &[u8]) -> usize
     ensures { λ r. ⌜ r ≡ numberIn (verdictOf (now (f .entry))) ⌝ }
 {
-    let v = application::verdict_of(f);
+    let v = x2_verdict::verdict_of(f);
     let n = v.number();
     head(b"answer", n, v.place());
     n
 }
 
-fn boundary_lines(b: Boundary) {
-    line(b"type", b.entry);
-    line(b"link", b.link);
-    line(b"neighbour_station", b.neighbour_station);
-    line(b"neighbour_type", b.neighbour_type);
-    line(b"neighbour_track", b.neighbour_track);
-    line(b"position", b.position);
-    line(b"track", b.track);
+// What every record's answer begins with.
+fn kind_line(kind: &[u8]) {
+    answered();
+    text_line(b"kind", kind);
+}
+
+// The two links of a record that lies in a track.
+fn link_lines(previous: usize, next: usize) {
+    line(b"previous", previous);
+    line(b"next", next);
+}
+
+// Where a record lies.
+fn place_lines(position: usize, track: usize) {
+    line(b"position", position);
+    line(b"track", track);
+}
+
+fn direction_line(direction: &[u8]) {
+    text_line(b"direction", direction);
+}
+
+fn boundary_lines(kind: &[u8], b: Boundary) {
+    kind_line(kind);
+    let values = [
+        b.entry,
+        b.link,
+        b.neighbour_station,
+        b.neighbour_type,
+        b.neighbour_track,
+        b.position,
+        b.track,
+    ];
+    lines(
+        b"type link neighbour_station neighbour_type neighbour_track position track",
+        &values,
+    );
+}
+
+fn start_boundary_lines(b: Boundary) {
+    boundary_lines(b"start_boundary", b);
+}
+
+fn end_boundary_lines(b: Boundary) {
+    boundary_lines(b"end_boundary", b);
 }
 
 fn turnout_lines(t: Turnout) {
+    kind_line(b"turnout");
     let direction = t.direction;
-    line(b"number", t.number);
-    line(b"direction", direction.number());
-    line(b"tip_position", t.tip_position);
-    line(b"normal_position", t.normal_position);
-    line(b"reverse_position", t.reverse_position);
-    line(b"front", t.front);
-    line(b"normal", t.normal);
-    line(b"reverse", t.reverse);
-    line(b"front_track", t.front_track);
-    line(b"normal_track", t.normal_track);
-    line(b"reverse_track", t.reverse_track);
+    let values = [
+        t.number,
+        direction.number(),
+        t.tip_position,
+        t.normal_position,
+        t.reverse_position,
+        t.front,
+        t.normal,
+        t.reverse,
+        t.front_track,
+        t.normal_track,
+        t.reverse_track,
+    ];
+    lines(
+        b"number direction tip_position normal_position reverse_position \
+        front normal reverse front_track normal_track reverse_track",
+        &values,
+    );
 }
 
 fn nature_line(nature: Nature) {
@@ -67,8 +114,8 @@ fn nature_line(nature: Nature) {
 
 fn group_direction_line(d: GroupDirection) {
     match d {
-        GroupDirection::Opposite => text_line(b"direction", b"opposite"),
-        GroupDirection::Same => text_line(b"direction", b"same"),
+        GroupDirection::Opposite => direction_line(b"opposite"),
+        GroupDirection::Same => direction_line(b"same"),
     }
 }
 
@@ -81,48 +128,49 @@ fn message_bytes(size: usize) -> usize {
     }
 }
 
-fn balise_lines(f: &[u8], b: Balise) {
+// What a balise is: its number and size, and its attribute byte.
+fn balise_attributes(b: Balise) {
     let nature = b.nature;
     let direction = b.direction;
-    line(b"previous", b.previous);
-    line(b"next", b.next);
     line(b"number", b.number);
     line(b"size", b.size);
     nature_line(nature);
     group_direction_line(direction);
-    line(b"position", b.position);
-    line(b"track", b.track);
-    line(b"place", b.rank);
-    line(b"count", b.count);
+}
+
+fn balise_lines(f: &[u8], b: Balise) {
+    kind_line(b"balise");
+    link_lines(b.previous, b.next);
+    balise_attributes(b);
+    let values = [b.position, b.track, b.rank, b.count];
+    lines(b"position track place count", &values);
     message_line(b"message", f, b.message, message_bytes(b.size));
 }
 
 fn facing_line(facing: Facing) {
     match facing {
-        Facing::Neither => text_line(b"direction", b"none"),
-        Facing::Down => text_line(b"direction", b"down"),
-        Facing::Up => text_line(b"direction", b"up"),
+        Facing::Neither => direction_line(b"none"),
+        Facing::Down => direction_line(b"down"),
+        Facing::Up => direction_line(b"up"),
     }
 }
 
 fn signal_lines(f: &[u8], s: Signal) {
-    let facing = s.direction;
-    let duty = s.duty;
-    line(b"previous", s.previous);
-    line(b"next", s.next);
+    kind_line(b"signal");
+    link_lines(s.previous, s.next);
     name_line(b"name", f, s.name);
-    line(b"position", s.position);
-    line(b"track", s.track);
+    place_lines(s.position, s.track);
+    let facing = s.direction;
     facing_line(facing);
+    let duty = s.duty;
     line(b"type", duty.number());
 }
 
 fn joint_lines(f: &[u8], j: Joint) {
-    line(b"previous", j.previous);
-    line(b"next", j.next);
+    kind_line(b"joint");
+    link_lines(j.previous, j.next);
     name_line(b"name", f, j.name);
-    line(b"position", j.position);
-    line(b"track", j.track);
+    place_lines(j.position, j.track);
 }
 
 // An exit balise; a dash for none.
@@ -135,6 +183,7 @@ fn exit_line(name: &[u8], n: usize) {
 }
 
 fn siding_lines(f: &[u8], s: Siding) {
+    kind_line(b"siding");
     name_line(b"name", f, s.name);
     line(b"track", s.track);
     exit_line(b"up_balise", s.up_balise);
@@ -144,36 +193,14 @@ fn siding_lines(f: &[u8], s: Siding) {
 }
 
 fn record_lines(f: &[u8], r: Record) {
-    head(b"answer", 0, 0);
     match r {
-        Record::StartBoundary(b) => {
-            text_line(b"kind", b"start_boundary");
-            boundary_lines(b)
-        }
-        Record::EndBoundary(b) => {
-            text_line(b"kind", b"end_boundary");
-            boundary_lines(b)
-        }
-        Record::Turnout(t) => {
-            text_line(b"kind", b"turnout");
-            turnout_lines(t)
-        }
-        Record::Balise(b) => {
-            text_line(b"kind", b"balise");
-            balise_lines(f, b)
-        }
-        Record::Signal(s) => {
-            text_line(b"kind", b"signal");
-            signal_lines(f, s)
-        }
-        Record::Joint(j) => {
-            text_line(b"kind", b"joint");
-            joint_lines(f, j)
-        }
-        Record::Siding(s) => {
-            text_line(b"kind", b"siding");
-            siding_lines(f, s)
-        }
+        Record::StartBoundary(b) => start_boundary_lines(b),
+        Record::EndBoundary(b) => end_boundary_lines(b),
+        Record::Turnout(t) => turnout_lines(t),
+        Record::Balise(b) => balise_lines(f, b),
+        Record::Signal(s) => signal_lines(f, s),
+        Record::Joint(j) => joint_lines(f, j),
+        Record::Siding(s) => siding_lines(f, s),
     }
 }
 
@@ -181,7 +208,7 @@ fn record_lines(f: &[u8], r: Record) {
 pub fn record(f: &[u8], offset: usize) -> usize
     ensures { λ r. ⌜ r ≡ answerNumber (recordAnswer (recordOf (now (f .entry)) offset)) ⌝ }
 {
-    match application::record_at(f, offset) {
+    match x2_verdict::record_at(f, offset) {
         RecordAnswer::Record(r) => {
             record_lines(f, r);
             0

@@ -1,5 +1,4 @@
 -- Two functions agree at each number below n, by one test that the prover computes, one number after the other.
--- Assumes nothing.
 use mathlib.Core.Path.{_≡_, sym, subst}
 use mathlib.Core.Logic.{⊎-elim}
 use mathlib.Core.Bool.{Bool, true, false}

@@ -2,7 +2,6 @@
 -- three: h entering over h leaves nothing (computed at each of the 256 bytes); the exclusive or of b and h entering over nothing is the
 -- table's entry; an empty byte over l only moves l up. So each of four bytes gives an entry, with the bytes after it as empty ones, and
 -- after four bytes nothing is left of the register.
--- Assumes nothing.
 use mathlib.Core.Path.{_≡_, sym, ap, ap₂, _∙_}
 use mathlib.Core.List.{List, [], _∷_}
 use Prim.Native.Nat.{ℕ, _+_, _*_, _/_, _%_, _^_, _<_}

@@ -1,6 +1,5 @@
 -- Empty bytes. They are linear, so what a register is made of can be taken apart: the bytes to come make of an exclusive or what they make
 -- of one part, and as many empty bytes of the other. So the bytes of a turn can enter in two halves, one beside the other.
--- Assumes nothing.
 use mathlib.Core.Path.{_≡_, refl, sym, ap, ap₂, _∙_}
 use mathlib.Core.List.{List, [], _∷_, _++_}
 use Prim.Native.Nat.{ℕ, zero, suc, _+_, _^_, _<_}

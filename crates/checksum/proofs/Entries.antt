@@ -1,7 +1,6 @@
 -- A table is right where two tests of its entries pass. The first 256 are what each byte makes of an empty register, bit by bit. Each
 -- later one is what an empty byte makes of the entry that stands 256 before it, by the first 256: so the entries of one more empty byte
 -- follow from those before them. The later entries are tested along the list, one after the other.
--- Assumes nothing.
 use mathlib.Core.Path.{_≡_, sym, ap, _∙_}
 use mathlib.Core.Bool.{Bool, true, false}
 use mathlib.Core.List.{List, [], _∷_}

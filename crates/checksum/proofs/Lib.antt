@@ -1,3 +1,4 @@
+pub mod Mask
 pub mod Xor
 pub mod Linear
 pub mod Agree

@@ -1,7 +1,6 @@
 -- The steps are linear in the register and the byte together: what two registers and two bytes make apart, their exclusive or makes at
 -- once. So it is with the move up by one place, with the polynomial that is taken off no times or once, and with the bit that enters;
 -- the bits follow one after the other, in whatever order. And while no one reaches the high end, an empty byte only moves the register up.
--- Assumes nothing.
 use mathlib.Core.Path.{_≡_, refl, sym, ap, ap₂, _∙_}
 use mathlib.Core.List.{List, [], _∷_}
 use Prim.Native.Nat.{ℕ, suc, _*_, _/_, _%_, _^_, _-_, _≤_, _<_}

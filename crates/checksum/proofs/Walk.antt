@@ -1,6 +1,5 @@
 -- The checksum by a walk along the bytes: in turns, the register is what the bytes before the place make of the first one; byte by byte,
 -- what the bytes to come make of the register stays the same. One law for each way on, and one for the end.
--- Assumes nothing.
 use mathlib.Core.Path.{_≡_, refl, sym, ap, _∙_}
 use mathlib.Core.List.{List, [], _∷_}
 use Prim.Native.Nat.{ℕ, zero, suc, _+_, _^_, _≤_, _<_}

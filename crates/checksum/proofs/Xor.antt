@@ -1,7 +1,6 @@
 -- Exclusive or, where the kit's laws of `bitXor` stop: it associates, products with a power of two pass through it, and so do the bit
 -- at a place and a number taken no times or once. It associates because the last digits of both sides have the same parity, and the
 -- digits before them follow by induction.
--- Assumes nothing.
 use mathlib.Core.Path.{_≡_, refl, sym, ap, ap₂, _∙_}
 use Prim.Native.Nat.{ℕ, zero, suc, _+_, _*_, _/_, _%_, _^_, _<_}
 use native.Mathlib.Nat.{add-assoc, add-zero, zero-mul}

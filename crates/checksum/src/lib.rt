@@ -1,4 +1,5 @@
-// The checksum of 6.6 (01, 'Bytes and checksum'), eight bytes a turn, by a table of what each byte makes of an empty register, alone and with empty bytes after it.
+// The checksum of 6.6 (01, 'Bytes and checksum'), eight bytes a turn, by a table of what each byte makes of an empty register, alone and
+// with empty bytes after it.
 mod table;
 
 ghost use mathlib.Core.Path.{_≡_};

@@ -1,27 +1,26 @@
 -- THEOREMS: the three promises are kept. Each part is a theorem of a crate below.
--- Assumes nothing.
 use mathlib.Core.Path.{_≡_, refl}
 use mathlib.Core.List.{List}
 use Prim.Native.Nat.{ℕ}
 use Rattle.verdict.specs.Answers.{Answer, answered, refused, answerNumber}
 use Rattle.promises.proofs.OfExports.{yard-checksum-determined, yard-x1-determined, yard-x2-determined, yard-pair-determined, yard-header1-determined, yard-header2-determined, yard-track-determined, yard-point-determined, yard-coordinate-determined, yard-record-determined, yard-routes-determined}
-use Rattle.exports.specs.Shown.{leaves}
-use Rattle.exports.proofs.Fit.{track-back, point-back, coordinate-back, record-back}
-use Rattle.geography.specs.Obeys.{entryPlace}
-use Rattle.geography.proofs.Numbers as x1
-use Rattle.lookup.specs.Lookup.{numberAt}
-use Rattle.lookup.proofs.Lookup.{found-iff}
-use Rattle.survey.proofs.Asked as survey
-use Rattle.survey.proofs.Coordinates.{coordinate-nearest, coordinate-only-one}
-use Rattle.application.proofs.Numbers as x2
-use Rattle.application.proofs.Asked as application
-use Rattle.application.proofs.Values.{enums-kept}
-use Rattle.station.proofs.Whole.{pair-is}
-use Rattle.layout.specs.Layout.{layoutOf}
-use Rattle.graph.proofs.Read.{object-read}
-use Rattle.yard.proofs.Listed as yard
-use Rattle.yard.proofs.Range as range
-use Rattle.yard.proofs.Asked.{routes-asked}
+use Rattle.c_values.specs.Shown.{leaves}
+use Rattle.export_theorems.proofs.Fit.{track-back, point-back, coordinate-back, record-back}
+use Rattle.x1_verdict.specs.Obeys.{entryPlace}
+use Rattle.x1_theorems.proofs.Numbers as x1
+use Rattle.x1_lookup.specs.Lookup.{numberAt}
+use Rattle.x1_lookup.proofs.Lookup.{found-iff}
+use Rattle.x1_theorems.proofs.Asked as survey
+use Rattle.x1_theorems.proofs.Coordinates.{coordinate-nearest, coordinate-only-one}
+use Rattle.x2_theorems.proofs.Numbers as x2
+use Rattle.x2_theorems.proofs.Asked as application
+use Rattle.x2_theorems.proofs.Values.{enums-kept}
+use Rattle.pair_theorems.proofs.Whole.{pair-is}
+use Rattle.x2_layout.specs.Layout.{layoutOf}
+use Rattle.route_graph.proofs.Read.{object-read}
+use Rattle.route_theorems.proofs.Listed as yard
+use Rattle.route_theorems.proofs.Range as range
+use Rattle.route_theorems.proofs.Asked.{routes-asked}
 use Rattle.demands.specs.Demands.{Returns, Accepts, Lists}
 
 -- a refusal leaves every byte of an output

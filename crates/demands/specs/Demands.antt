@@ -1,7 +1,7 @@
--- The three promises, each in its own words and then as what it needs. f is the bytes of an X.1 or X.2, and g those of the X.2 of a pair: any
--- bytes, since no caller vets input. `Answered checks n p` reads: in the order of 01's table the first check that is not passed has the number n, and p is
--- the place where 01 has it reported; 0 and 0 where all are passed. `Asked` puts a file's own fault before the question's own checks.
--- Assumes nothing.
+-- The three promises, each in its own words and then as what it needs. f is the bytes of an X.1 or X.2, and g those of the X.2 of a pair:
+-- any bytes, since no caller vets input. `Answered checks n p` reads: in the order of 01's table the first check that is not passed has
+-- the number n, and p is the place where 01 has it reported; 0 and 0 where all are passed. `Asked` puts a file's own fault before the
+-- question's own checks.
 use Prim.Native.Nat.{ℕ, _≤_, _<_}
 use mathlib.Core.Path.{_≡_}
 use mathlib.Core.Logic.{_↔_}
@@ -13,42 +13,42 @@ use Rattle.verdict.specs.Reasons.{numberIn, placeIn, pairNumberIn, pairPlaceIn,
 use Rattle.verdict.specs.Answers.{Answer, answerNumber, answerPlace}
 use Rattle.verdict.specs.Order.{Answered, Asked}
 use Rattle.promises.specs.Determined.{Determined}
-use Rattle.survey.specs.declared.answers.Coordinate.{Coordinate}
-use Rattle.geography.specs.Layout.{countOf}
-use Rattle.geography.specs.Facts.{verdictOf as x1Verdict}
-use Rattle.geography.specs.Obeys.{entryPlace, Obeys as X1Obeys}
-use Rattle.geography.specs.Faults.{checks as x1Checks}
-use Rattle.lookup.specs.Lookup.{numberAt}
-use Rattle.survey.specs.Answers.{headerAnswer, trackAnswer, pointAnswer, coordinateAnswer}
-use Rattle.survey.specs.Asked as survey
-use Rattle.survey.specs.Questions.{headerOf, trackOf, pointOf, coordinateAsked}
-use Rattle.survey.specs.Stretch.{endPositionOf}
-use Rattle.survey.specs.Coordinate.{CoordinateAt}
-use Rattle.survey.specs.declared.answers.CoordinateAnswer.the-variants as coordinate
-use Rattle.records.specs.Records.{recordAt}
-use Rattle.layout.specs.Layout.{layoutOf}
-use Rattle.layout.specs.Records.{kindAt, starts}
-use Rattle.application.specs.Facts.{verdictOf as x2Verdict}
-use Rattle.application.specs.Obeys.{Obeys as X2Obeys}
-use Rattle.application.specs.Checks.{checks as x2Checks}
-use Rattle.application.specs.Questions.{namedHeaderOf, recordOf}
-use Rattle.application.specs.Answers.{namedHeaderAnswer, recordAnswer}
-use Rattle.application.specs.Asked as application
-use Rattle.application.specs.Values.{EnumsKept}
-use Rattle.station.specs.Pair.{pairOf}
-use Rattle.station.specs.Faults.{PairAnswered}
-use Rattle.graph.specs.Objects.{objectAt}
-use Rattle.graph.specs.Read.{objectOf}
-use Rattle.walks.specs.declared.Tally.{Tally}
-use Rattle.walks.specs.Lent.{roomOf}
-use Rattle.walks.specs.All.{AllRoutes}
-use Rattle.routes.specs.declared.RoutesAnswer.the-variants as routes
-use Rattle.routes.specs.Answered.{limitOf, routesAnswer}
-use Rattle.routes.specs.Listing.{Listing}
-use Rattle.yard.specs.Routes.{routesAsked, leftAsked}
-use Rattle.yard.specs.Asked.{BoundaryHere, routesChecks}
-use Rattle.exports.specs.Shown.{leaves}
-use Rattle.exports.specs.Fit.{trackSigned, pointSigned, coordinateSigned, recordSigned, AnswerBack}
+use Rattle.x1_questions.specs.declared.answers.Coordinate.{Coordinate}
+use Rattle.x1_layout.specs.Layout.{countOf}
+use Rattle.x1_verdict.specs.Facts.{verdictOf as x1Verdict}
+use Rattle.x1_verdict.specs.Obeys.{entryPlace, Obeys as X1Obeys}
+use Rattle.x1_theorems.specs.Faults.{checks as x1Checks}
+use Rattle.x1_lookup.specs.Lookup.{numberAt}
+use Rattle.x1_questions.specs.Answers.{headerAnswer, trackAnswer, pointAnswer, coordinateAnswer}
+use Rattle.x1_theorems.specs.Asked as survey
+use Rattle.x1_questions.specs.Questions.{headerOf, trackOf, pointOf, coordinateAsked}
+use Rattle.x1_questions.specs.Stretch.{endPositionOf}
+use Rattle.x1_questions.specs.Coordinate.{CoordinateAt}
+use Rattle.x1_questions.specs.declared.answers.CoordinateAnswer.the-variants as coordinate
+use Rattle.x2_records.specs.Records.{recordAt}
+use Rattle.x2_layout.specs.Layout.{layoutOf}
+use Rattle.x2_layout.specs.Records.{kindAt, starts}
+use Rattle.x2_verdict.specs.Facts.{verdictOf as x2Verdict}
+use Rattle.x2_verdict.specs.Obeys.{Obeys as X2Obeys}
+use Rattle.x2_theorems.specs.Checks.{checks as x2Checks}
+use Rattle.x2_verdict.specs.Questions.{namedHeaderOf, recordOf}
+use Rattle.x2_verdict.specs.Answers.{namedHeaderAnswer, recordAnswer}
+use Rattle.x2_theorems.specs.Asked as application
+use Rattle.x2_theorems.specs.Values.{EnumsKept}
+use Rattle.pair.specs.Pair.{pairOf}
+use Rattle.pair_theorems.specs.Faults.{PairAnswered}
+use Rattle.route_graph.specs.Objects.{objectAt}
+use Rattle.route_graph.specs.Read.{objectOf}
+use Rattle.route_walks.specs.declared.Tally.{Tally}
+use Rattle.route_walks.specs.Lent.{roomOf}
+use Rattle.route_walks.specs.All.{AllRoutes}
+use Rattle.route_lister.specs.declared.RoutesAnswer.the-variants as routes
+use Rattle.route_lister.specs.Answered.{limitOf, routesAnswer}
+use Rattle.route_lister.specs.Listing.{Listing}
+use Rattle.route_question.specs.Routes.{routesAsked, leftAsked}
+use Rattle.route_theorems.specs.Asked.{BoundaryHere, routesChecks}
+use Rattle.c_values.specs.Shown.{leaves}
+use Rattle.export_theorems.specs.Fit.{trackSigned, pointSigned, coordinateSigned, recordSigned, AnswerBack}
 use Rattle.exports.proofs.yard_checksum.Kinds as checksum-kinds
 use Rattle.exports.proofs.yard_checksum.Reads as checksum-reads
 use Rattle.exports.proofs.yard_x1.Kinds as x1-kinds
@@ -76,11 +76,12 @@ use Rattle.exports.proofs.yard_routes.Reads as routes-reads
 abbrev pub Shows : Answer → ℕ → ℕ → Type 0
 Shows a n p = (answerNumber a ≡ n) × (answerPlace a ≡ p)
 
--- ---- 1. 'It returns for every file and every question, damaged or not, and reads no byte outside what it was lent. A refusal is a number and
--- a byte place by the fixed order of checks; lent memory keeps its contents.'
--- That a function returns and stays inside what it was lent is what the kit proves of every function before anything is said here. So what is
--- left: it asks nothing of its caller, every input determines its answer and what is left in lent memory (here for the functions that C can
--- call; crate promises has the same of every public function), and a refusal leaves every byte.
+-- ---- 1. 'It returns for every file and every question, damaged or not, and reads no byte outside what it was lent. A refusal is a
+-- number and a byte place by the fixed order of checks; lent memory keeps its contents.' That a function returns and stays inside what it
+-- was lent is what the kit proves of every function before anything is said here. So what is left: it asks nothing of its caller, every
+-- input determines its answer and what is left in lent memory (here for the functions that C can call; crate promises has the same of
+-- every public function), and a refusal leaves every byte.
+-- 01: Account.1
 pub record Returns : Type 0 where
   pub checksum : Determined 1 checksum-kinds.ps checksum-kinds.r checksum-reads.Pre checksum-reads.Post
   pub first : Determined 1 x1-kinds.ps x1-kinds.r x1-reads.Pre x1-reads.Post
@@ -94,27 +95,36 @@ pub record Returns : Type 0 where
   pub record-asked : Determined 2 record-kinds.ps record-kinds.r record-reads.Pre record-reads.Post
   pub list : Determined 3 routes-kinds.ps routes-kinds.r routes-reads.Pre routes-reads.Post
   -- an output after a refusal, and the words lent to a listing after one
+  -- 01: Ask.6
   pub output-kept : (a : Answer) (out : List ℕ) → (answerNumber a ≡ 0 → ⊥) → leaves a out ≡ out
-  pub words-kept : (f : List ℕ) (start limit budget : ℕ) (out : List ℕ) (t : Fault) → routesAsked f start limit budget (roomOf out) ≡ routes.Refused t → leftAsked f start limit budget out ≡ out
+  -- 01: Ask.6
+  pub words-kept : (f : List ℕ) (start limit budget : ℕ) (out : List ℕ) (t : Fault)
+      → routesAsked f start limit budget (roomOf out) ≡ routes.Refused t → leftAsked f start limit budget out ≡ out
 
--- ---- 2. 'A file is accepted exactly when it obeys the standard as document 01 reads it. Every record handed out has the value that its bytes mean; a
--- coordinate is the exact interpolated value to the nearest milliarcsecond.'
+-- ---- 2. 'A file is accepted exactly when it obeys the standard as document 01 reads it. Every record handed out has the value that its
+-- bytes mean; a coordinate is the exact interpolated value to the nearest milliarcsecond.'
+-- 01: Account.5
 pub record Accepts : Type 0 where
   -- accepted exactly, and refused exactly: by which number and where
   pub first-accepted : (f : List ℕ) → (numberIn (x1Verdict f) ≡ 0) ↔ X1Obeys f
   pub first-answered : (f : List ℕ) (n p : ℕ) → ((numberIn (x1Verdict f) ≡ n) × (placeIn (x1Verdict f) ≡ p)) ↔ Answered (x1Checks f) n p
   pub second-accepted : (f : List ℕ) → (numberIn (x2Verdict f) ≡ 0) ↔ X2Obeys f
   pub second-answered : (f : List ℕ) (n p : ℕ) → ((numberIn (x2Verdict f) ≡ n) × (placeIn (x2Verdict f) ≡ p)) ↔ Answered (x2Checks f) n p
-  pub pair-answered : (f g : List ℕ) (d n p : ℕ) → ((pairFileIn (pairOf f g) ≡ d) × ((pairNumberIn (pairOf f g) ≡ n) × (pairPlaceIn (pairOf f g) ≡ p))) ↔ PairAnswered f g d n p
+  pub pair-answered : (f g : List ℕ) (d n p : ℕ)
+      → ((pairFileIn (pairOf f g) ≡ d) × ((pairNumberIn (pairOf f g) ≡ n) × (pairPlaceIn (pairOf f g) ≡ p))) ↔ PairAnswered f g d n p
   -- each question: the file's own fault first, then its own refusals, and else an answer
   pub first-header : (f : List ℕ) (n p : ℕ) → Shows (headerAnswer (headerOf f)) n p ↔ Asked (x1Verdict f) survey.headerChecks n p
   pub track : (f : List ℕ) (i n p : ℕ) → Shows (trackAnswer (trackOf f i)) n p ↔ Asked (x1Verdict f) (survey.trackChecks f i) n p
   pub point : (f : List ℕ) (i j n p : ℕ) → Shows (pointAnswer (pointOf f i j)) n p ↔ Asked (x1Verdict f) (survey.pointChecks f i j) n p
-  pub position : (f : List ℕ) (number x n p : ℕ) → Shows (coordinateAnswer (coordinateAsked f number x)) n p ↔ Asked (x1Verdict f) (survey.coordinateChecks f number x) n p
-  pub second-header : (f : List ℕ) (n p : ℕ) → Shows (namedHeaderAnswer (namedHeaderOf f)) n p ↔ Asked (x2Verdict f) application.headerChecks n p
-  pub record-there : (f : List ℕ) (x n p : ℕ) → Shows (recordAnswer (recordOf f x)) n p ↔ Asked (x2Verdict f) (application.recordChecks f x) n p
+  pub position : (f : List ℕ) (number x n p : ℕ) → Shows (coordinateAnswer (coordinateAsked f number x)) n p
+      ↔ Asked (x1Verdict f) (survey.coordinateChecks f number x) n p
+  pub second-header : (f : List ℕ) (n p : ℕ) → Shows (namedHeaderAnswer (namedHeaderOf f)) n p
+      ↔ Asked (x2Verdict f) application.headerChecks n p
+  pub record-there : (f : List ℕ) (x n p : ℕ) → Shows (recordAnswer (recordOf f x)) n p
+      ↔ Asked (x2Verdict f) (application.recordChecks f x) n p
   -- what an enum stands for is the number that is stored; every byte of a file is below 256
-  pub enums : (f : List ℕ) → ((i : ℕ) → getD f i 0 < 256) → x2Verdict f ≡ verdict.Accepted → (at : ℕ) → List·Memᴰ at (starts f (layoutOf f)) → EnumsKept f at (recordAt f (kindAt (layoutOf f) at) at)
+  pub enums : (f : List ℕ) → ((i : ℕ) → getD f i 0 < 256) → x2Verdict f ≡ verdict.Accepted → (at : ℕ)
+      → List·Memᴰ at (starts f (layoutOf f)) → EnumsKept f at (recordAt f (kindAt (layoutOf f) at) at)
   -- each value of an answer comes back from its four bytes in a C caller's output, read as unsigned or signed
   pub track-back : (f out : List ℕ) (i : ℕ) → AnswerBack trackSigned (trackAnswer (trackOf f i)) out
   pub point-back : (f out : List ℕ) (i j : ℕ) → AnswerBack pointSigned (pointAnswer (pointOf f i j)) out
@@ -122,17 +132,21 @@ pub record Accepts : Type 0 where
   pub record-back : (f out : List ℕ) → ((i : ℕ) → getD f i 0 < 256) → (x : ℕ) → AnswerBack recordSigned (recordAnswer (recordOf f x)) out
   -- at each position up to the end of a track, the nearest to the exact value between two neighbouring points; and no other
   pub nearest : (f : List ℕ) → X1Obeys f → (i : ℕ) → i < countOf f → (x : ℕ) → x ≤ endPositionOf f (entryPlace i)
-      → (r : Coordinate) × (coordinateAsked f (numberAt f (entryPlace i)) x ≡ coordinate.Coordinate r) × CoordinateAt f 13 (entryPlace i) x r
+      → (r : Coordinate) × (coordinateAsked f (numberAt f (entryPlace i)) x ≡ coordinate.Coordinate r)
+      × CoordinateAt f 13 (entryPlace i) x r
   pub no-other : (f : List ℕ) → X1Obeys f → (i : ℕ) → i < countOf f → (x : ℕ) (r : Coordinate) → CoordinateAt f 13 (entryPlace i) x r
       → coordinateAsked f (numberAt f (entryPlace i)) x ≡ coordinate.Coordinate r
 
--- ---- 3. 'From a boundary of an accepted X.2, within a limit and a budget, every legal route is listed once and only once, normal before reverse,
--- and nothing else; refused as too many steps, else as no room, exactly when 01 says.'
+-- ---- 3. 'From a boundary of an accepted X.2, within a limit and a budget, every legal route is listed once and only once, normal before
+-- reverse, and nothing else; refused as too many steps, else as no room, exactly when 01 says.'
+-- 01: Account.6
 pub record Lists : Type 0 where
   -- which of the five it is, for every input: the file's own fault, 13, 14, 15, or a listing
-  pub which : (f : List ℕ) (start limit budget room n p : ℕ) → Shows (routesAnswer (routesAsked f start limit budget room)) n p ↔ Asked (x2Verdict f) (routesChecks f start limit budget room) n p
+  pub which : (f : List ℕ) (start limit budget room n p : ℕ) → Shows (routesAnswer (routesAsked f start limit budget room)) n p
+      ↔ Asked (x2Verdict f) (routesChecks f start limit budget room) n p
   -- what a listing is: all routes, each once and in their order, their words in the memory lent, and nothing else changed
-  pub listed : (f : List ℕ) → x2Verdict f ≡ verdict.Accepted → (start limit budget : ℕ) (out : List ℕ) (t : Tally) → routesAsked f start limit budget (roomOf out) ≡ routes.Listed t
+  pub listed : (f : List ℕ) → x2Verdict f ≡ verdict.Accepted → (start limit budget : ℕ) (out : List ℕ) (t : Tally)
+      → routesAsked f start limit budget (roomOf out) ≡ routes.Listed t
       → Listing (objectAt f (layoutOf f)) start (limitOf limit) budget t out (leftAsked f start limit budget out)
   -- there is no second such list
   pub one-list : (f : List ℕ) → x2Verdict f ≡ verdict.Accepted → (start : ℕ) → BoundaryHere f start → (limit : ℕ) (a b : List (List ℕ))

@@ -1,12 +1,10 @@
 -- The ways out of a question with an output, once for every kind of answer.
--- Assumes nothing.
-use Prim.Native.Nat.{ℕ, _*_, _≤_, _<_}
+use Prim.Native.Nat.{ℕ, _≤_, _<_}
 use mathlib.Core.Path.{_≡_, refl, sym, ap, _∙_}
 use mathlib.Core.Bool.{Bool, true, false}
 use mathlib.Core.List.{List}
 use lib.IntN.{ℤ}
 use lib.ListN.{length}
-use lib.Seq.{sets}
 use borrow.Author.Tests.{lt-ltb, le-ltb}
 use Rattle.verdict.specs.declared.Reason.the-variants.{Room}
 use Rattle.verdict.specs.Reasons.{numberOf}
@@ -14,36 +12,14 @@ use Rattle.verdict.specs.declared.Verdict.{Verdict}
 use Rattle.verdict.specs.declared.Verdict.the-variants as verdict
 use Rattle.verdict.specs.declared.Fault.{Fault}
 use Rattle.verdict.specs.Answers.{Answer, answered, refused, afterVerdict}
-use Rattle.application.specs.Facts.{verdictOf}
-use Rattle.walks.specs.declared.Tally.{Tally}
-use Rattle.routes.specs.declared.RoutesAnswer.{RoutesAnswer}
-use Rattle.routes.specs.declared.RoutesAnswer.the-variants.{Listed, Refused}
-use Rattle.routes.specs.Answered.{refusedFor, judged, answerAt, routesAnswer}
-use Rattle.yard.specs.Routes.{routesAsked}
-use Rattle.exports.specs.Words.{answerWord, valueSize, valueWords, laidBytes}
-use Rattle.exports.specs.Shown.{wordsShown, wordsLeave, shown, leaves, countsSize, wordsLeft}
-use Rattle.exports.proofs.Laid.{laid}
-
--- ---- an answer with values
-
-module _ (words out : List ℕ) where
-  module _ (h : length out < valueSize * length words) where
-    pub short-shown : (n : ℕ) → n ≡ numberOf Room → (r : ℕ) → r ≡ answerWord n 0 0 → r ≡ wordsShown words out
-    unfolding wordsShown
-    short-shown n k r e = e ∙ ap (λ (m : ℕ). answerWord m 0 0) k ∙ sym (rw (lt-ltb _ _ h) refl)
-
-    pub short-leaves : out ≡ wordsLeave words out
-    unfolding wordsLeave
-    short-leaves = sym (rw (lt-ltb _ _ h) refl)
-
-  module _ (h : valueSize * length words ≤ length out) where
-    pub room-shown : (r : ℕ) → r ≡ answerWord 0 0 0 → r ≡ wordsShown words out
-    unfolding wordsShown
-    room-shown r e = e ∙ sym (rw (le-ltb _ _ h) refl)
-
-    pub room-leaves : (out′ : List ℕ) → out′ ≡ sets out 0 (laidBytes words) → out′ ≡ wordsLeave words out
-    unfolding wordsLeave
-    room-leaves out′ e = e ∙ laid words out h ∙ sym (rw (le-ltb _ _ h) refl)
+use Rattle.x2_verdict.specs.Facts.{verdictOf}
+use Rattle.route_walks.specs.declared.Tally.{Tally}
+use Rattle.route_lister.specs.declared.RoutesAnswer.{RoutesAnswer}
+use Rattle.route_lister.specs.declared.RoutesAnswer.the-variants.{Listed, Refused}
+use Rattle.route_lister.specs.Answered.{refusedFor, judged, answerAt, routesAnswer}
+use Rattle.route_question.specs.Routes.{routesAsked}
+use Rattle.c_values.specs.Words.{answerWord, valueWords}
+use Rattle.c_values.specs.Shown.{wordsShown, wordsLeave, shown, leaves, countsSize, wordsLeft}
 
 -- ---- a question: an answer of any kind, which `shape` makes the one shape. `asked` is the answer that is due, `got` the one that a function gave,
 -- and `way` the case that it was found to be

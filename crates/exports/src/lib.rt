@@ -2,39 +2,35 @@
 // each argument and each result means.
 ghost use mathlib.Core.Path.{_≡_};
 ghost use Rattle.checksum.specs.Checksum.{checksumOf};
-ghost use Rattle.geography.specs.Facts as geography;
-ghost use Rattle.application.specs.Facts as application;
-ghost use Rattle.application.specs.Answers.{namedHeaderAnswer, recordAnswer};
-ghost use Rattle.application.specs.Questions.{namedHeaderOf, recordOf};
-ghost use Rattle.station.specs.Pair.{pairOf};
-ghost use Rattle.survey.specs.Answers.{headerAnswer, trackAnswer, pointAnswer, coordinateAnswer};
-ghost use Rattle.survey.specs.Questions.{headerOf, trackOf, pointOf, coordinateAsked};
-ghost use Rattle.walks.specs.Lent.{roomOf};
-ghost use Rattle.routes.specs.Answered.{routesAnswer};
-ghost use Rattle.yard.specs.Routes.{routesAsked, leftAsked};
-ghost use Rattle.exports.specs.Shown.{verdictShown, pairShown, shown, leaves, wordsLeft};
-
-mod values;
-mod words;
-
-use application::NamedHeaderAnswer;
-use application::RecordAnswer;
-use routes::RoutesAnswer;
-use survey::CoordinateAnswer;
-use survey::HeaderAnswer;
-use survey::PointAnswer;
-use survey::TrackAnswer;
-use values::coordinate_words;
-use values::header_words;
-use values::named_header_words;
-use values::point_words;
-use values::record_words;
-use values::routes_words;
-use values::track_words;
-use words::COUNTS_SIZE;
-use words::answer;
-use words::refused;
-use words::show;
+ghost use Rattle.x1_verdict.specs.Facts as geography;
+ghost use Rattle.x2_verdict.specs.Facts as application;
+ghost use Rattle.x2_verdict.specs.Answers.{namedHeaderAnswer, recordAnswer};
+ghost use Rattle.x2_verdict.specs.Questions.{namedHeaderOf, recordOf};
+ghost use Rattle.pair.specs.Pair.{pairOf};
+ghost use Rattle.x1_questions.specs.Answers.{headerAnswer, trackAnswer, pointAnswer, coordinateAnswer};
+ghost use Rattle.x1_questions.specs.Questions.{headerOf, trackOf, pointOf, coordinateAsked};
+ghost use Rattle.route_walks.specs.Lent.{roomOf};
+ghost use Rattle.route_lister.specs.Answered.{routesAnswer};
+ghost use Rattle.route_question.specs.Routes.{routesAsked, leftAsked};
+ghost use Rattle.c_values.specs.Shown.{verdictShown, pairShown, shown, leaves, wordsLeft};
+use c_values::values::coordinate_words;
+use c_values::values::header_words;
+use c_values::values::named_header_words;
+use c_values::values::point_words;
+use c_values::values::record_words;
+use c_values::values::routes_words;
+use c_values::values::track_words;
+use c_values::words::COUNTS_SIZE;
+use c_values::words::answer;
+use c_values::words::refused;
+use c_values::words::show;
+use route_lister::RoutesAnswer;
+use x1_questions::CoordinateAnswer;
+use x1_questions::HeaderAnswer;
+use x1_questions::PointAnswer;
+use x1_questions::TrackAnswer;
+use x2_verdict::NamedHeaderAnswer;
+use x2_verdict::RecordAnswer;
 
 // The checksum of some bytes.
 #[no_mangle]
@@ -49,7 +45,7 @@ pub extern "C" fn yard_checksum(bytes: &[u8]) -> u32
 pub extern "C" fn yard_x1(file: &[u8]) -> u64
     ensures { λ r. ⌜ r ≡ verdictShown (geography.verdictOf (now (file .entry))) ⌝ }
 {
-    let v = geography::verdicts::verdict_of(file);
+    let v = x1_verdict::verdicts::verdict_of(file);
     answer(v.number(), 0, v.place())
 }
 
@@ -58,7 +54,7 @@ pub extern "C" fn yard_x1(file: &[u8]) -> u64
 pub extern "C" fn yard_x2(file: &[u8]) -> u64
     ensures { λ r. ⌜ r ≡ verdictShown (application.verdictOf (now (file .entry))) ⌝ }
 {
-    let v = application::verdict_of(file);
+    let v = x2_verdict::verdict_of(file);
     answer(v.number(), 0, v.place())
 }
 
@@ -67,7 +63,7 @@ pub extern "C" fn yard_x2(file: &[u8]) -> u64
 pub extern "C" fn yard_pair(first: &[u8], second: &[u8]) -> u64
     ensures { λ r. ⌜ r ≡ pairShown (pairOf (now (first .entry)) (now (second .entry))) ⌝ }
 {
-    let v = station::pair_verdict(first, second);
+    let v = pair::pair_verdict(first, second);
     answer(v.number(), v.file(), v.place())
 }
 
@@ -77,7 +73,7 @@ pub extern "C" fn yard_header1(file: &[u8], out: &mut [u8]) -> u64
     ensures { λ r. ⌜ r ≡ shown (headerAnswer (headerOf (now (file .entry)))) (now (out .entry)) ⌝ }
     ensures { λ _. ⌜ now (out .exit) ≡ leaves (headerAnswer (headerOf (now (file .entry)))) (now (out .entry)) ⌝ }
 {
-    match survey::header(file) {
+    match x1_questions::header(file) {
         HeaderAnswer::Header(h) => show(&header_words(h), out),
         HeaderAnswer::Refused(fault) => refused(fault),
     }
@@ -89,7 +85,7 @@ pub extern "C" fn yard_header2(file: &[u8], out: &mut [u8]) -> u64
     ensures { λ r. ⌜ r ≡ shown (namedHeaderAnswer (namedHeaderOf (now (file .entry)))) (now (out .entry)) ⌝ }
     ensures { λ _. ⌜ now (out .exit) ≡ leaves (namedHeaderAnswer (namedHeaderOf (now (file .entry)))) (now (out .entry)) ⌝ }
 {
-    match application::header(file) {
+    match x2_verdict::header(file) {
         NamedHeaderAnswer::Header(h) => show(&named_header_words(h), out),
         NamedHeaderAnswer::Refused(fault) => refused(fault),
     }
@@ -101,7 +97,7 @@ pub extern "C" fn yard_track(file: &[u8], index: usize, out: &mut [u8]) -> u64
     ensures { λ r. ⌜ r ≡ shown (trackAnswer (trackOf (now (file .entry)) index)) (now (out .entry)) ⌝ }
     ensures { λ _. ⌜ now (out .exit) ≡ leaves (trackAnswer (trackOf (now (file .entry)) index)) (now (out .entry)) ⌝ }
 {
-    match survey::track(file, index) {
+    match x1_questions::track(file, index) {
         TrackAnswer::Track(t) => show(&track_words(t), out),
         TrackAnswer::Refused(fault) => refused(fault),
     }
@@ -113,7 +109,7 @@ pub extern "C" fn yard_point(file: &[u8], track: usize, index: usize, out: &mut 
     ensures { λ r. ⌜ r ≡ shown (pointAnswer (pointOf (now (file .entry)) track index)) (now (out .entry)) ⌝ }
     ensures { λ _. ⌜ now (out .exit) ≡ leaves (pointAnswer (pointOf (now (file .entry)) track index)) (now (out .entry)) ⌝ }
 {
-    match survey::point(file, track, index) {
+    match x1_questions::point(file, track, index) {
         PointAnswer::Point(p) => show(&point_words(p), out),
         PointAnswer::Refused(fault) => refused(fault),
     }
@@ -130,7 +126,7 @@ pub extern "C" fn yard_coordinate(
     ensures { λ r. ⌜ r ≡ shown (coordinateAnswer (coordinateAsked (now (file .entry)) number position)) (now (out .entry)) ⌝ }
     ensures { λ _. ⌜ now (out .exit) ≡ leaves (coordinateAnswer (coordinateAsked (now (file .entry)) number position)) (now (out .entry)) ⌝ }
 {
-    match survey::coordinate(file, number, position) {
+    match x1_questions::coordinate(file, number, position) {
         CoordinateAnswer::Coordinate(c) => show(&coordinate_words(c), out),
         CoordinateAnswer::Refused(fault) => refused(fault),
     }
@@ -142,7 +138,7 @@ pub extern "C" fn yard_record(file: &[u8], offset: usize, out: &mut [u8]) -> u64
     ensures { λ r. ⌜ r ≡ shown (recordAnswer (recordOf (now (file .entry)) offset)) (now (out .entry)) ⌝ }
     ensures { λ _. ⌜ now (out .exit) ≡ leaves (recordAnswer (recordOf (now (file .entry)) offset)) (now (out .entry)) ⌝ }
 {
-    match application::record_at(file, offset) {
+    match x2_verdict::record_at(file, offset) {
         RecordAnswer::Record(r) => show(&record_words(r), out),
         RecordAnswer::Refused(fault) => refused(fault),
     }
@@ -176,9 +172,9 @@ pub extern "C" fn yard_routes(
 {
     if counts.len() < COUNTS_SIZE {
         let mut scrap = [0u8; 1];
-        let a = yard::routes(file, start, limit, budget, &mut scrap);
+        let a = route_question::routes(file, start, limit, budget, &mut scrap);
         return show_counts(a, counts);
     }
-    let a = yard::routes(file, start, limit, budget, words);
+    let a = route_question::routes(file, start, limit, budget, words);
     show_counts(a, counts)
 }

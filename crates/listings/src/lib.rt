@@ -1,34 +1,39 @@
 // What the programs print about routes (01, 'Routes'): the answer to one question, and the list of a whole station. A route is a line with
-// the offsets of its objects. The answers are those of crate yard; here they become text.
+// the offsets of its objects. The answers are those of crate route_question; here they become text.
 ghost use mathlib.Core.Path.{_≡_};
 ghost use Prim.Native.Nat.{min};
 ghost use Rattle.verdict.specs.Reasons.{numberIn};
 ghost use Rattle.verdict.specs.Answers.{answerNumber};
-ghost use Rattle.application.specs.Facts.{verdictOf};
-ghost use Rattle.walks.specs.Lent.{roomOf};
-ghost use Rattle.routes.specs.Answered.{routesAnswer};
-ghost use Rattle.yard.specs.Routes.{routesAsked};
-use layout::ENTRY_OFFSET;
-use layout::ENTRY_SIZE;
-use layout::Layout;
-use layout::START_ENTRIES;
-use layout::layout_of;
+ghost use Rattle.x2_verdict.specs.Facts.{verdictOf};
+ghost use Rattle.route_walks.specs.Lent.{roomOf};
+ghost use Rattle.route_lister.specs.Answered.{routesAnswer};
+ghost use Rattle.route_question.specs.Routes.{routesAsked};
 use octets::least;
 use octets::u16_at;
-use routes::RoutesAnswer;
+use route_lister::RoutesAnswer;
+use route_walks::Tally;
+use route_walks::WORD_SIZE;
 use tables::number_of;
 use text::head;
 use text::line;
+use text::lines;
 use text::write;
 use text::write_number;
+use verdict::Fault;
 use verdict::Verdict;
-use walks::Tally;
-use walks::WORD_SIZE;
+use x2_layout::ENTRY_OFFSET;
+use x2_layout::ENTRY_SIZE;
+use x2_layout::Layout;
+use x2_layout::START_ENTRIES;
+use x2_layout::layout_of;
 
 // As many words may be lent for one question, and these are their bytes.
-const MOST_ROOM: usize = 65535;
+pub const MOST_ROOM: usize = 65535;
 
 const MOST_BYTES: usize = WORD_SIZE * MOST_ROOM;
+
+// The number of the answer where the list has no room.
+pub const NO_ROOM: usize = 15;
 
 // What the list of a station asks with: the limit, the budget, and as many words, in these bytes.
 const LIST_LIMIT: usize = 0;
@@ -73,71 +78,105 @@ fn route_lines(lent: &[u8], n: usize) {
 
 // The values of an answer, and its routes.
 fn tally_lines(t: Tally, lent: &[u8]) {
-    line(b"routes", t.routes);
-    line(b"words", t.words);
-    line(b"walks", t.walks);
+    let values = [t.routes, t.words, t.walks];
+    lines(b"routes words walks", &values);
     route_lines(lent, t.words);
 }
 
-// The question routes, with the bytes that are lent. It answers the number of the answer.
-fn answer_lines(f: &[u8], start: usize, limit: usize, budget: usize, lent: &mut [u8]) -> usize
-    ensures { λ r. ⌜ r ≡ answerNumber (routesAnswer (routesAsked (now (f .entry)) start limit budget (roomOf (now (lent .entry))))) ⌝ }
-{
-    let answer = yard::routes(f, start, limit, budget, lent);
-    let n = answer.number();
-    head(b"answer", n, answer.place());
+// Prints an answer with its routes.
+fn answer_lines(answer: RoutesAnswer, lent: &[u8]) {
+    head(b"answer", answer.number(), answer.place());
     match answer {
         RoutesAnswer::Listed(t) => tally_lines(t, lent),
         RoutesAnswer::Refused(_) => {}
     }
-    n
 }
 
-// The question routes, with room for as many words. It answers the number of the answer, 0 where the routes are listed.
+// The same for a question with as much room; nothing where that is more than is here and the list does not fit what is here.
+fn answer_within(answer: RoutesAnswer, room: usize, lent: &[u8]) {
+    if MOST_ROOM < room && answer.number() == NO_ROOM {
+        return;
+    }
+    answer_lines(answer, lent);
+}
+
+// The question routes, with the bytes that are lent of its room. It answers the number of the answer.
+fn answered(
+    f: &[u8],
+    start: usize,
+    limit: usize,
+    budget: usize,
+    room: usize,
+    lent: &mut [u8],
+) -> usize
+    ensures { λ r. ⌜ r ≡ answerNumber (routesAnswer (routesAsked (now (f .entry)) start limit budget (roomOf (now (lent .entry))))) ⌝ }
+{
+    let answer = route_question::routes(f, start, limit, budget, lent);
+    answer_within(answer, room, lent);
+    answer.number()
+}
+
+// The question routes, with room for as many words. It answers the number of the answer, 0 where the routes are listed. Where the question has
+// more words than are here and the list does not fit those that are, it answers 15 and prints nothing: what the answer is, it cannot say.
 pub fn routes(f: &[u8], start: usize, limit: usize, budget: usize, room: usize) -> usize
     ensures { λ r. ⌜ r ≡ answerNumber (routesAnswer (routesAsked (now (f .entry)) start limit budget (min room 65535))) ⌝ }
 {
     let mut bytes = [0u8; MOST_BYTES];
     let lent = WORD_SIZE * least(room, MOST_ROOM);
-    answer_lines(f, start, limit, budget, &mut bytes[..lent])
+    answered(f, start, limit, budget, room, &mut bytes[..lent])
+}
+
+// How many routes there are from a start boundary, how many partial walks, and the routes.
+fn listed_lines(t: Tally, lent: &[u8]) {
+    write(b" routes ");
+    write_number(t.routes);
+    line(b" walks", t.walks);
+    route_lines(lent, t.words);
+}
+
+// Why routes are refused.
+fn refused_line(fault: Fault) {
+    let reason = fault.reason;
+    line(b" refused", reason.number());
+}
+
+fn start_line(start: usize) {
+    write(b"from ");
+    write_number(start);
 }
 
 // The routes from a start boundary, or why they are refused.
 fn start_lines(f: &[u8], l: Layout, start: usize) {
-    write(b"from ");
-    write_number(start);
+    start_line(start);
     let mut bytes = [0u8; LIST_BYTES];
-    let answer = routes::list(f, l, start, LIST_LIMIT, LIST_BUDGET, &mut bytes);
+    let answer = route_lister::list(f, l, start, LIST_LIMIT, LIST_BUDGET, &mut bytes);
     match answer {
-        RoutesAnswer::Listed(t) => {
-            write(b" routes ");
-            write_number(t.routes);
-            line(b" walks", t.walks);
-            route_lines(&bytes, t.words);
-        }
-        RoutesAnswer::Refused(fault) => {
-            let reason = fault.reason;
-            line(b" refused", reason.number());
-        }
+        RoutesAnswer::Listed(t) => listed_lines(t, &bytes),
+        RoutesAnswer::Refused(fault) => refused_line(fault),
     }
 }
 
-// The list of a station: the verdict of its X.2 file and, where that is accepted, the routes from each start boundary, in the header's order.
-// It answers the number of the verdict.
-pub fn list(f: &[u8]) -> usize
-    ensures { λ r. ⌜ r ≡ numberIn (verdictOf (now (f .entry))) ⌝ }
-{
-    let v = application::verdict_of(f);
-    let number = v.number();
-    head(b"verdict", number, v.place());
-    let Verdict::Accepted = v else {
-        return number;
-    };
+// The routes from each start boundary, in the header's order.
+fn every_start(f: &[u8]) {
     let l = layout_of(f);
     let n = l.n;
     for i in 0..n {
         let entry = (START_ENTRIES + ENTRY_SIZE * i) as u32;
         start_lines(f, l, number_of(f, entry, ENTRY_OFFSET));
     }
+}
+
+// The list of a station: the verdict of its X.2 file and, where that is accepted, the routes from each start boundary. It answers the number of
+// the verdict.
+pub fn list(f: &[u8]) -> usize
+    ensures { λ r. ⌜ r ≡ numberIn (verdictOf (now (f .entry))) ⌝ }
+{
+    let v = x2_verdict::verdict_of(f);
+    let number = v.number();
+    head(b"verdict", number, v.place());
+    let Verdict::Accepted = v else {
+        return number;
+    };
+    every_start(f);
     number
 }

@@ -1,6 +1,5 @@
 -- The laws of counting. `lead` is the one count m with no zero among the first m numbers and, where m is not all of them, a zero next.
 -- The numbers from one up to another are those that lie there; a loop tests them one by one.
--- Assumes nothing.
 use Prim.Native.Nat.{ℕ, zero, suc, _+_, _-_, _≤_, _<_}
 use mathlib.Core.Path.{_≡_, refl, subst, subst⁻¹}
 use mathlib.Core.Bool.{Bool, true, false, cond, _&&_}

@@ -1,6 +1,5 @@
 -- What the name rules say, in plain facts: a name's claim holds exactly where the record of its facts does. The record's number is the
 -- one that is counted, since no byte before it is 0 and the next one is.
--- Assumes nothing.
 use Prim.Native.Nat.{ℕ, _+_, _*_, _/_, _%_, _≤_, _<_}
 use mathlib.Core.Path.{_≡_}
 use mathlib.Core.List.{List}

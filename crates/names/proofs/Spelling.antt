@@ -1,6 +1,5 @@
 -- Names by the bytes that lie inside the file: past the end every byte is 0. The bytes 0x21 to 0x7E are counted up to the first that is
 -- none; where only zeros follow, the count is the name's length, and where something else follows, there is no name at all.
--- Assumes nothing.
 use Prim.Native.Nat.{ℕ, _+_, _-_, min, _≤_, _<_}
 use mathlib.Core.Path.{_≡_, refl, sym, _∙_}
 use mathlib.Core.Bool.{Bool, true, false, _&&_}

@@ -2,7 +2,6 @@
 -- Each rule stands here twice: as a claim, which can be computed, and as a record of plain facts with the numbers that 01 prints.
 -- proofs/Names has the theorems that the two say the same. Past the end of the file a byte counts as 0.
 -- `lead` counts down how many numbers there are at most.
--- Assumes nothing.
 use Prim.Native.Nat.{ℕ, zero, suc, _+_, _*_, _≤_, _<_}
 use mathlib.Core.Path.{_≡_}
 use mathlib.Core.Bool.{cond}
@@ -76,6 +75,7 @@ objectName f p least =
     (both (bytesBetween f p 0 (nameLength f p) leastByte greatestByte) (zeros f p (nameLength f p) objectBytes))
 
 -- the same in plain facts: the name has `count` bytes
+-- 01: X2.fields.15
 pub record ObjectName (f : List ℕ) (p least : ℕ) : Type 0 where
   pub count : ℕ
   pub enough : least ≤ count
@@ -110,6 +110,7 @@ unfoldable pub stationName : List ℕ → ℕ → Claim
 stationName f p = both (atMost 1 (codeCount f p)) (both (codes f p (codeCount f p)) (zeros f p (stationNameLength f p) stationBytes))
 
 -- the same in plain facts: the name has `count` codes
+-- 01: X2.fields.19
 pub record StationName (f : List ℕ) (p : ℕ) : Type 0 where
   pub count : ℕ
   pub enough : 1 ≤ count
@@ -117,7 +118,8 @@ pub record StationName (f : List ℕ) (p : ℕ) : Type 0 where
   pub first : (k : ℕ) → k < count → (0x81 ≤ byteAfter f p (2 * k)) × (byteAfter f p (2 * k) ≤ 0xFE)
   pub second :
       (k : ℕ) → k < count
-      → ((0x40 ≤ byteAfter f p (2 * k + 1)) × (byteAfter f p (2 * k + 1) ≤ 0x7E)) ⊎ ((0x80 ≤ byteAfter f p (2 * k + 1)) × (byteAfter f p (2 * k + 1) ≤ 0xFE))
+      → ((0x40 ≤ byteAfter f p (2 * k + 1)) × (byteAfter f p (2 * k + 1) ≤ 0x7E))
+      ⊎ ((0x80 ≤ byteAfter f p (2 * k + 1)) × (byteAfter f p (2 * k + 1) ≤ 0xFE))
   pub rest : (k : ℕ) → 2 * count ≤ k → k < 16 → byteAfter f p k ≡ 0
 
 -- ---- the constructors of facts; `start` is where the record starts
@@ -125,7 +127,8 @@ pub record StationName (f : List ℕ) (p : ℕ) : Type 0 where
 -- the 8 bytes at a place are an object's name of at least so many bytes
 abbrev pub objectNameFact : List ℕ → ℕ → ℕ → ℕ → Fact
 objectNameFact f start place least =
-    fact (objectName f place least) (record { reason = Field; start = start; place = place; width = objectBytes; rule = rule.ObjectName least })
+    fact (objectName f place least)
+    (record { reason = Field; start = start; place = place; width = objectBytes; rule = rule.ObjectName least })
 
 -- the 16 bytes at a place are a station's name
 abbrev pub stationNameFact : List ℕ → ℕ → ℕ → Fact

@@ -1,6 +1,5 @@
 -- One law for every width: a number is its first byte and the number after it. Past the end there is nothing but 0, so a number whose last
 -- byte lies there is that of one byte fewer.
--- Assumes nothing.
 use mathlib.Core.Path.{_≡_, refl, sym, ap, ap₂, _∙_, subst, subst⁻¹}
 use mathlib.Core.List.{List}
 use Prim.Native.Nat.{ℕ, zero, suc, _+_, _*_, _^_, _≤_, _<_}

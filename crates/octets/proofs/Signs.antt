@@ -1,5 +1,4 @@
 -- Signed numbers as the machine has them: the two halves of two's complement, for every width at once.
--- Assumes nothing.
 use mathlib.Core.Path.{_≡_, refl, sym, ap, ap₂, _∙_, subst}
 use mathlib.Core.List.{List}
 use mathlib.Core.Bool.{true, false}

@@ -1,6 +1,5 @@
 -- How large a sum and a difference of signed numbers can be, and that the machine computes them as they are. `mag` is n both for n and
 -- for -(n + 1).
--- Assumes nothing.
 use mathlib.Core.Path.{_≡_, ap, ap₂, _∙_, subst⁻¹}
 use mathlib.Core.Bool.{Bool, true, false, cond}
 use Prim.Native.Nat.{ℕ, zero, suc, _+_, _-_, _^_, _≤_, _<_, zero-le}

@@ -1,5 +1,4 @@
 -- Numbers in a list of bytes, low byte first (01, 'Bytes and checksum'). Past the end a byte counts as 0, so each definition is total.
--- Assumes nothing.
 use mathlib.Core.Path.{_≡_}
 use mathlib.Core.Bool.{cond}
 use mathlib.Core.List.{List}
@@ -19,6 +18,7 @@ bytesOf Three = 3
 bytesOf Four = 4
 
 -- the number that the n bytes from place i on make
+-- 01: Bytes.1
 unfoldable pub numAt : ℕ → List ℕ → ℕ → ℕ
 numAt zero s i = 0
 numAt (suc n) s i = getD s i 0 + 256 * numAt n s (i + 1)
@@ -32,6 +32,7 @@ abbrev pub halfOf : ℕ → ℕ
 halfOf n = 2 ^ (8 * n - 1)
 
 -- the signed number that the n bytes from place i on make
+-- 01: Bytes.3
 unfoldable pub signedAt : ℕ → List ℕ → ℕ → ℤ
 signedAt n s i = signed (halfOf n) (numAt n s i)
 

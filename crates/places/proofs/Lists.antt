@@ -1,6 +1,5 @@
 -- The places of a list of facts, part by part: of two lists, of the facts of each number of a list, of one list or another. What is reported of
 -- such a list, the first fact that fails, has its place below the number.
--- Assumes nothing.
 use Prim.Native.Nat.{ℕ, _<_}
 use mathlib.Core.Path.{refl}
 use mathlib.Core.Bool.{Bool, true, false, cond}

@@ -1,6 +1,5 @@
 -- THEOREM: the place of every verdict on a pair is below the bound, whatever the files are. It is that of X.1, or that of X.2, or, both being
 -- accepted, the station's or one in a record of X.2, which starts before End.
--- Assumes nothing.
 use Prim.Native.Nat.{ℕ, _≤_, _<_}
 use mathlib.Core.Path.{_≡_, refl}
 use mathlib.Core.List.{List}
@@ -12,16 +11,16 @@ use Rattle.verdict.specs.declared.Verdict.the-variants as verdict
 use Rattle.verdict.specs.declared.PairVerdict.{PairVerdict}
 use Rattle.verdict.specs.Facts.{firstFault}
 use Rattle.verdict.specs.Reasons.{shownOf, placeIn, pairPlaceIn}
-use Rattle.seal.specs.Seal.{mostLength}
-use Rattle.records.specs.declared.Kind.{Kind}
-use Rattle.records.specs.declared.Kind.the-variants as kind
-use Rattle.layout.specs.declared.Layout.{Layout}
-use Rattle.layout.specs.Layout.{layoutOf}
-use Rattle.layout.specs.Records.{kindAt}
-use Rattle.geography.specs.Facts as geography
-use Rattle.application.specs.Facts as application
-use Rattle.application.proofs.Obeys.{accepted-obeys}
-use Rattle.station.specs.Pair.{spots, spotsFacts, recordPair, recordsPair, pairFacts, ofFirst, ofSecond, ofPair, pairOf}
+use Rattle.envelope.specs.Seal.{mostLength}
+use Rattle.x2_records.specs.declared.Kind.{Kind}
+use Rattle.x2_records.specs.declared.Kind.the-variants as kind
+use Rattle.x2_layout.specs.declared.Layout.{Layout}
+use Rattle.x2_layout.specs.Layout.{layoutOf}
+use Rattle.x2_layout.specs.Records.{kindAt}
+use Rattle.x1_verdict.specs.Facts as geography
+use Rattle.x2_verdict.specs.Facts as application
+use Rattle.x2_verdict.proofs.Obeys.{accepted-obeys}
+use Rattle.pair.specs.Pair.{spots, spotsFacts, recordPair, recordsPair, pairFacts, ofFirst, ofSecond, ofPair, pairOf}
 use Rattle.places.specs.Places.{placeOver, PlacesBelow}
 use Rattle.places.proofs.Lists.{fault-below}
 use Rattle.places.proofs.X1.{x1-place}

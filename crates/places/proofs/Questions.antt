@@ -1,5 +1,4 @@
 -- THEOREM: the place of every answer to a question is below the bound: it is that of the file's own fault, or 0.
--- Assumes nothing.
 use Prim.Native.Nat.{ℕ, _<_}
 use mathlib.Core.Path.{_≡_, refl}
 use mathlib.Core.Bool.{Bool, true, false, cond}
@@ -13,33 +12,33 @@ use Rattle.verdict.specs.declared.Verdict.the-variants as verdict
 use Rattle.verdict.specs.Facts.{test}
 use Rattle.verdict.specs.Reasons.{placeIn}
 use Rattle.verdict.specs.Answers.{Answer, answerPlace, refusal, afterVerdict}
-use Rattle.seal.specs.Header.{headerIn}
-use Rattle.tracks.specs.Places.{pointSize}
-use Rattle.tracks.specs.Tracks.{trackAt, pointAt, pointsIn}
-use Rattle.geography.specs.Layout.{countOf, firstOf, lastOf}
-use Rattle.geography.specs.Obeys.{entryPlace, pointPlace}
-use Rattle.geography.specs.Facts as geography
-use Rattle.lookup.specs.Lookup.{findTrack}
-use Rattle.lookup.specs.declared.Found.{Found}
-use Rattle.lookup.specs.declared.Found.the-variants.{At, Absent}
-use Rattle.survey.specs.declared.answers.HeaderAnswer.the-variants as header
-use Rattle.survey.specs.declared.answers.TrackAnswer.the-variants as track
-use Rattle.survey.specs.declared.answers.PointAnswer.the-variants as point
-use Rattle.survey.specs.declared.answers.CoordinateAnswer.the-variants as coordinate
-use Rattle.survey.specs.Stretch.{endPositionOf, stretchOf}
-use Rattle.survey.specs.Answers.{headerAnswer, trackAnswer, pointAnswer, coordinateAnswer}
-use Rattle.survey.specs.Questions.{headerOf, trackIn, trackOf, pointIn, pointOf, onStretch, onTrack, onFound, coordinateAsked}
-use Rattle.layout.specs.Layout.{layoutOf}
-use Rattle.layout.specs.Records.{isStart}
-use Rattle.application.specs.Facts as application
-use Rattle.application.specs.declared.NamedHeaderAnswer.the-variants as named
-use Rattle.application.specs.declared.RecordAnswer.the-variants as record-answer
-use Rattle.application.specs.Answers.{namedHeaderAnswer, recordAnswer}
-use Rattle.application.specs.Questions.{namedHeaderIn, namedHeaderOf, recordIf, recordOf}
-use Rattle.walks.specs.declared.Tally.{Tally}
-use Rattle.routes.specs.declared.RoutesAnswer.the-variants as routes-answer
-use Rattle.routes.specs.Answered.{judged, answerAt, answerIn, routesAnswer}
-use Rattle.yard.specs.Routes.{routesAsked}
+use Rattle.envelope.specs.Header.{headerIn}
+use Rattle.x1_records.specs.Places.{pointSize}
+use Rattle.x1_records.specs.Tracks.{trackAt, pointAt, pointsIn}
+use Rattle.x1_layout.specs.Layout.{countOf, firstOf, lastOf}
+use Rattle.x1_verdict.specs.Obeys.{entryPlace, pointPlace}
+use Rattle.x1_verdict.specs.Facts as geography
+use Rattle.x1_lookup.specs.Lookup.{findTrack}
+use Rattle.x1_lookup.specs.declared.Found.{Found}
+use Rattle.x1_lookup.specs.declared.Found.the-variants.{At, Absent}
+use Rattle.x1_questions.specs.declared.answers.HeaderAnswer.the-variants as header
+use Rattle.x1_questions.specs.declared.answers.TrackAnswer.the-variants as track
+use Rattle.x1_questions.specs.declared.answers.PointAnswer.the-variants as point
+use Rattle.x1_questions.specs.declared.answers.CoordinateAnswer.the-variants as coordinate
+use Rattle.x1_questions.specs.Stretch.{endPositionOf, stretchOf}
+use Rattle.x1_questions.specs.Answers.{headerAnswer, trackAnswer, pointAnswer, coordinateAnswer}
+use Rattle.x1_questions.specs.Questions.{headerOf, trackIn, trackOf, pointIn, pointOf, onStretch, onTrack, onFound, coordinateAsked}
+use Rattle.x2_layout.specs.Layout.{layoutOf}
+use Rattle.x2_layout.specs.Records.{isStart}
+use Rattle.x2_verdict.specs.Facts as application
+use Rattle.x2_verdict.specs.declared.NamedHeaderAnswer.the-variants as named
+use Rattle.x2_verdict.specs.declared.RecordAnswer.the-variants as record-answer
+use Rattle.x2_verdict.specs.Answers.{namedHeaderAnswer, recordAnswer}
+use Rattle.x2_verdict.specs.Questions.{namedHeaderIn, namedHeaderOf, recordIf, recordOf}
+use Rattle.route_walks.specs.declared.Tally.{Tally}
+use Rattle.route_lister.specs.declared.RoutesAnswer.the-variants as routes-answer
+use Rattle.route_lister.specs.Answered.{judged, answerAt, answerIn, routesAnswer}
+use Rattle.route_question.specs.Routes.{routesAsked}
 use Rattle.places.specs.Places.{placeOver}
 use Rattle.places.proofs.X1.{x1-place}
 use Rattle.places.proofs.X2.{x2-place}

@@ -1,7 +1,6 @@
 -- THEOREM: the place of every X.1 verdict is below the bound, whatever the file is. One of more than 65,535 bytes is refused for its length, at
 -- place 0. In another every place is in an entry or a point, or is where the points stop; the entries end before the points, and those at End or
 -- before, by the facts of the layout that come first.
--- Assumes nothing.
 use Prim.Native.Nat.{ℕ, _+_, _-_, _≤_, _<_}
 use mathlib.Core.Path.{_≡_, sym, subst}
 use mathlib.Core.Bool.{cond}
@@ -11,15 +10,16 @@ use lib.ListN.{length}
 use native.Mathlib.Omega.{arith}
 use Rattle.verdict.specs.Facts.{AllHold}
 use Rattle.verdict.specs.Reasons.{placeIn}
-use Rattle.seal.specs.Seal.{mostLength, sealFacts}
-use Rattle.tracks.specs.Places.{entriesAt, entrySize, pointSize}
-use Rattle.geography.specs.Layout.{endOf, countOf, pointsAt, entries, firstOf, lastOf, isFirst, stopBefore, entryLayout, countLayout, stopLayout, layoutFacts}
-use Rattle.geography.specs.Fields.{headerFields, entryFields, pointFields, allPoints, fieldFacts}
-use Rattle.geography.specs.Agreement.{numberAgrees, opens, rises, stays, closes, pointAgrees, pointsOf, trackAgrees, agreementFacts}
-use Rattle.geography.specs.Facts.{fileType, checkFacts, facts, verdictOf}
-use Rattle.geography.specs.Obeys.{entryPlace, LayoutObeys}
-use Rattle.geography.proofs.Obeys.{start-entry, entries-iff, layout-iff}
-use Rattle.layout.proofs.Walks.{starts-between}
+use Rattle.envelope.specs.Seal.{mostLength, sealFacts}
+use Rattle.x1_records.specs.Places.{entriesAt, entrySize, pointSize}
+use Rattle.x1_layout.specs.Layout.{endOf, countOf, pointsAt, entries, firstOf, lastOf, isFirst, stopBefore, entryLayout, countLayout, stopLayout, layoutFacts}
+use Rattle.x1_fields.specs.Fields.{headerFields, entryFields, pointFields}
+use Rattle.x1_verdict.specs.Fields.{allPoints, fieldFacts}
+use Rattle.x1_verdict.specs.Agreement.{numberAgrees, opens, rises, stays, closes, pointAgrees, pointsOf, trackAgrees, agreementFacts}
+use Rattle.x1_verdict.specs.Facts.{fileType, checkFacts, facts, verdictOf}
+use Rattle.x1_verdict.specs.Obeys.{entryPlace, LayoutObeys}
+use Rattle.x1_verdict.proofs.Obeys.{start-entry, entries-iff, layout-iff}
+use Rattle.x2_layout.proofs.Walks.{starts-between}
 use Rattle.places.specs.Places.{placeOver, PlacesBelow}
 use Rattle.places.proofs.Lists.{below-append, below-both, below-each, below-if, fault-below}
 

@@ -1,7 +1,6 @@
 -- THEOREM: the place of every X.2 verdict is below the bound, whatever the file is. One of more than 65,535 bytes is refused for its length, at
 -- place 0. In another every place is in the header, whose two counts are at most 255 by the first facts of the layout, or is where the
 -- boundaries end, or stands in a record, which starts before End.
--- Assumes nothing.
 use Prim.Native.Nat.{ℕ, suc, zero, _+_, _-_, _*_, _≤_, _<_}
 use mathlib.Core.Path.{_≡_, refl}
 use mathlib.Core.List.{List, [], _∷_, _++_, flatMap}
@@ -12,29 +11,30 @@ use Rattle.octets.specs.Octets.{numAt}
 use Rattle.verdict.specs.Facts.{AllHold, Fact}
 use Rattle.verdict.specs.Reasons.{placeIn}
 use Rattle.verdict.specs.Walk.{startsFrom}
-use Rattle.seal.specs.Seal.{mostLength, sealFacts}
-use Rattle.records.specs.declared.Kind.{Kind}
-use Rattle.records.specs.declared.Kind.the-variants as kind
+use Rattle.envelope.specs.Seal.{mostLength, sealFacts}
+use Rattle.x2_records.specs.declared.Kind.{Kind}
+use Rattle.x2_records.specs.declared.Kind.the-variants as kind
 use Rattle.tables.specs.Rows.{tableFacts}
-use Rattle.records.specs.Places.{boundarySize, baliseSize, baliseMessage}
-use Rattle.records.specs.Rows.{baliseTable}
-use Rattle.layout.specs.declared.Layout.{Layout}
-use Rattle.layout.specs.Places.{startCountAt, startEntriesAt, endCountAt, endEntriesAt, groupsAt, yardCount}
-use Rattle.layout.specs.Layout.{layoutOf, yardOffsets}
-use Rattle.layout.specs.inner.Bounds.{countMost}
-use Rattle.layout.specs.declared.Made.{Made}
-use Rattle.layout.specs.declared.Made.the-variants.{Fixed, Balises}
-use Rattle.layout.specs.declared.Offsets.{Offsets}
-use Rattle.layout.specs.Groups.{Group, groupIn, groupsFrom, groupStart, nextStart, nextField, groupEnd, groupLayout, baliseBytes, baliseLayout, walkLayout, madeFacts, oneGroup, groupFacts}
-use Rattle.layout.specs.Facts.{countLayout, indexes, offsetLayout, offsetsLayout, groupsIn, layoutFacts}
-use Rattle.layout.specs.Records.{kindAt, sizeAt, starts}
-use Rattle.layout.proofs.Grouped.{one-inside}
-use Rattle.layout.proofs.Obeys.{layout-obeyed}
-use Rattle.layout.proofs.Walks.{starts-between, index-iff}
-use Rattle.fields.specs.Fields.{headerFields, entryFields, entriesFields, sizeByteOf, lastByte, messageEnd, messageFields, kindFields, recordFields, fieldFacts}
-use Rattle.fields.specs.Agreement.{entryAgrees, entriesAgree, kindAgrees, recordAgrees, agreementFacts}
-use Rattle.links.specs.Links.{recordTargets, targetFacts, recordReturns, returnFacts}
-use Rattle.application.specs.Facts.{fileType, recordFacts, checkFacts, facts, verdictOf}
+use Rattle.x2_records.specs.Places.{boundarySize, baliseSize, baliseMessage}
+use Rattle.x2_records.specs.Rows.{baliseTable}
+use Rattle.x2_layout.specs.declared.Layout.{Layout}
+use Rattle.x2_layout.specs.Places.{startCountAt, startEntriesAt, endCountAt, endEntriesAt, groupsAt, yardCount}
+use Rattle.x2_layout.specs.Layout.{layoutOf, yardOffsets}
+use Rattle.x2_layout.specs.inner.Bounds.{countMost}
+use Rattle.x2_layout.specs.declared.Made.{Made}
+use Rattle.x2_layout.specs.declared.Made.the-variants.{Fixed, Balises}
+use Rattle.x2_layout.specs.declared.Offsets.{Offsets}
+use Rattle.x2_layout.specs.Groups.{Group, groupIn, groupsFrom, groupStart, nextStart, nextField, groupEnd, groupLayout, baliseBytes, baliseLayout, walkLayout, madeFacts, oneGroup, groupFacts}
+use Rattle.x2_layout.specs.Facts.{countLayout, indexes, offsetLayout, offsetsLayout, groupsIn, layoutFacts}
+use Rattle.x2_layout.specs.Records.{kindAt, sizeAt, starts}
+use Rattle.x2_layout.proofs.Grouped.{one-inside}
+use Rattle.x2_layout.proofs.Obeys.{layout-obeyed}
+use Rattle.x2_layout.proofs.Walks.{starts-between, index-iff}
+use Rattle.x2_fields.specs.Fields.{headerFields, entryFields, entriesFields, recordFields, fieldFacts}
+use Rattle.x2_kinds.specs.KindFields.{sizeByteOf, lastByte, messageEnd, messageFields, kindFields}
+use Rattle.x2_fields.specs.Agreement.{entryAgrees, entriesAgree, kindAgrees, recordAgrees, agreementFacts}
+use Rattle.x2_links.specs.Links.{recordTargets, targetFacts, recordReturns, returnFacts}
+use Rattle.x2_verdict.specs.Facts.{fileType, recordFacts, checkFacts, facts, verdictOf}
 use Rattle.places.specs.Places.{placeOver, PlacesBelow}
 use Rattle.places.proofs.Lists.{below-append, below-both, below-each, below-if, fault-below}
 

@@ -1,6 +1,5 @@
 -- How far the places of a list of facts reach. A later fact may lean on the earlier ones: where one of those fails, the later one is never
 -- reported, and its place is not asked for.
--- Assumes nothing.
 use Prim.Native.Nat.{ℕ, _^_, _<_}
 use mathlib.Core.List.{List, [], _∷_}
 use Rattle.verdict.specs.Facts.{Holds, Fact, fact}

@@ -1,6 +1,5 @@
 -- What a contract allows is one answer, where one equation gives the result and no memory is lent: `u` is the result that it gives; `v` and `w`,
 -- what is left in each `&mut`, hold nothing then, so they are equal. This is the proof for nearly every public function.
--- Assumes nothing.
 use mathlib.Core.Path.{_≡_, sym, _∙_}
 
 -- a part of the contract is the equation

@@ -1,5 +1,4 @@
 -- Each public function of crate exports: what its own contract allows is one answer.
--- Assumes nothing.
 use mathlib.Core.Path.{refl, sym, ap, ap₂, _∙_}
 use mathlib.Core.List.{List}
 use Prim.Native.Nat.{ℕ}

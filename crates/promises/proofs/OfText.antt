@@ -1,5 +1,4 @@
 -- Each public function of crate text: what its own contract allows is one answer.
--- Assumes nothing.
 use mathlib.Core.Path.{refl}
 use Rattle.promises.specs.Determined.{Determined}
 use Rattle.promises.proofs.Equations.{by-equation}
@@ -13,6 +12,8 @@ use Rattle.text.proofs.text_line.Kinds as text-line-kinds
 use Rattle.text.proofs.text_line.Reads as text-line-reads
 use Rattle.text.proofs.line.Kinds as line-kinds
 use Rattle.text.proofs.line.Reads as line-reads
+use Rattle.text.proofs.lines.Kinds as lines-kinds
+use Rattle.text.proofs.lines.Reads as lines-reads
 use Rattle.text.proofs.signed_line.Kinds as signed-line-kinds
 use Rattle.text.proofs.signed_line.Reads as signed-line-reads
 use Rattle.text.proofs.name_line.Kinds as name-line-kinds
@@ -34,6 +35,9 @@ text-line-determined κs a = by-equation (λ v w. refl)
 
 pub line-determined : Determined 1 line-kinds.ps line-kinds.r line-reads.Pre line-reads.Post
 line-determined κs a = by-equation (λ v w. refl)
+
+pub lines-determined : Determined 2 lines-kinds.ps lines-kinds.r lines-reads.Pre lines-reads.Post
+lines-determined κs a = by-equation (λ v w. refl)
 
 pub signed-line-determined : Determined 1 signed-line-kinds.ps signed-line-kinds.r signed-line-reads.Pre signed-line-reads.Post
 signed-line-determined κs a = by-equation (λ v w. refl)

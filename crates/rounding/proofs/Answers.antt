@@ -1,5 +1,4 @@
 -- What `coordinate` answers: the coordinate exactly where the limits are kept; and what a caller who keeps them knows of the answer.
--- Assumes nothing.
 use mathlib.Core.Path.{_≡_, refl, sym, ap, ap₂, _∙_, subst}
 use mathlib.Core.Bool.{Bool, true, false, _&&_}
 use Prim.Native.Nat.{ℕ}

@@ -1,7 +1,6 @@
 -- The coordinate on the way is the nearest to the exact one, and no other number is. At the start it is the first end, at the end the second,
 -- and on the way it lies between the two: it is at most what both are at most, and at least what both are at least. The idea: the exact
 -- one is the mean of the two ends, weighted by what is left of the way and what is after.
--- Assumes nothing.
 use mathlib.Core.Path.{_≡_, sym, ap, ap₂, _∙_, subst, subst⁻¹}
 use Prim.Native.Nat.{ℕ, _+_, _-_, _*_, _≤_, _<_}
 use native.Mathlib.Nat.{sub-self}

@@ -1,5 +1,4 @@
 -- `shrZ z d` is the largest whole number that is at most z / d, and there is no other.
--- Assumes nothing.
 use mathlib.Core.Path.{_≡_, refl, sym, ap, _∙_, subst, subst⁻¹}
 use Prim.Native.Nat.{ℕ, zero, suc, _+_, _*_, _/_, _≤_, _<_}
 use native.Mathlib.Nat.{mul-div-le, lt-mul-div-succ, div-eq-of-lt-le, mul-comm, le-div-iff-mul-le, div-mul-le-self, le-trans}

@@ -1,7 +1,6 @@
 -- `nearestOf num den` is the whole number nearest num / den, a half going up, and there is no other: `Nearest` says that it is a fraction
 -- rounded down, and proofs/Quotients.antt that this is one number. A larger fraction is not rounded to a smaller number, and a whole
 -- number is rounded to itself.
--- Assumes nothing.
 use mathlib.Core.Path.{_≡_, refl, sym, ap, ap₂, _∙_, subst, subst⁻¹}
 use Prim.Native.Nat.{ℕ, suc, _+_, _*_, _≤_, _<_}
 use native.Mathlib.Omega.{arith}

@@ -1,6 +1,5 @@
 -- The machine's steps on signed numbers. Each operation reads its operands back from their bits, and each step is right: it gives the number
 -- that the definition has, and that number is in the machine's range.
--- Assumes nothing.
 use mathlib.Core.Path.{_≡_, refl, sym, ap, ap₂, _∙_, subst, subst⁻¹}
 use mathlib.Core.Bool.{true, false}
 use Prim.Native.Nat.{ℕ, _*_, _/_, _^_, _≤_, _<_}

@@ -1,6 +1,5 @@
 -- Laws of the whole numbers that the kit lacks: a sum is multiplied term by term, and x ≤ y exactly where y is x and a natural number more,
 -- so that sums and products keep the order.
--- Assumes nothing.
 use mathlib.Core.Path.{_≡_, refl, sym, ap, ap₂, _∙_, subst, subst⁻¹}
 use mathlib.Core.Bool.{Bool, true, false, cond}
 use mathlib.Core.Logic.{⊎-elim}

@@ -1,6 +1,5 @@
 -- What `coordinate` answers for every two numbers and every way between them: the coordinate where the numbers are inside the limits, and
 -- else that they are outside. The limits hold all that 01 allows: coordinates within ±648000000, positions at most 2147483647.
--- Assumes nothing.
 use Prim.Native.Nat.{ℕ, _≤_, _<_}
 use mathlib.Core.Bool.{Bool, cond, _&&_}
 use lib.Dec.{leb, ltb}

@@ -1,5 +1,4 @@
 -- A file that passed the check of its length has a length between the two numbers.
--- Assumes nothing.
 use Prim.Native.Nat.{ℕ, _≤_}
 use mathlib.Core.Path.{_≡_, _∙_, sym}
 use mathlib.Core.List.{List, [], _∷_}

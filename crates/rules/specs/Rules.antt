@@ -1,6 +1,5 @@
 -- The constructors of facts that both files have: one for each shape of rule, one relation each. `start` is where the record starts and
 -- `place` the byte place that a refusal reports. The claim of each is what its mark says (`says`).
--- Assumes nothing.
 use Prim.Native.Nat.{ℕ, suc, _-_, _/_, _%_, _≤_}
 use mathlib.Core.Path.{_≡_}
 use mathlib.Core.Logic.{_⊎_}
@@ -46,17 +45,20 @@ isNumber r f start place w x =
 -- the number at a place lies between two numbers
 abbrev pub between : Reason → List ℕ → ℕ → ℕ → Width → ℕ → ℕ → Fact
 between r f start place w low high =
-    fact (liesBetween low high (numAt (bytesOf w) f place)) (record { reason = r; start = start; place = place; width = bytesOf w; rule = rule.Between low high })
+    fact (liesBetween low high (numAt (bytesOf w) f place))
+    (record { reason = r; start = start; place = place; width = bytesOf w; rule = rule.Between low high })
 
 -- what ends at `reach`, which the field `from` tells, fits into a room that ends at `room`, which is `other` or the number there
 abbrev pub fits : ℕ → ℕ → ℕ → ℕ → ℕ → ℕ → ℕ → Fact
 fits start place width reach from room other =
-    fact (atMost reach room) (record { reason = Layout; start = start; place = place; width = width; rule = rule.Fits reach from room other })
+    fact (atMost reach room)
+    (record { reason = Layout; start = start; place = place; width = width; rule = rule.Fits reach from room other })
 
 -- so many bytes, between what the place tells and what `other` does, are whole records of a size
 abbrev pub whole : ℕ → ℕ → ℕ → ℕ → ℕ → ℕ → Fact
 whole start place width bytes size other =
-    fact (same (bytes % size) 0) (record { reason = Layout; start = start; place = place; width = width; rule = rule.Whole bytes size other })
+    fact (same (bytes % size) 0)
+    (record { reason = Layout; start = start; place = place; width = width; rule = rule.Whole bytes size other })
 
 -- what stops at a place stops at the end that is due
 abbrev pub endsAt : ℕ → ℕ → ℕ → Fact
@@ -66,17 +68,20 @@ endsAt start place end =
 -- the number of a field is 0
 abbrev pub zeroAt : List ℕ → ℕ → ℕ → Width → ℕ → Fact
 zeroAt f start place w field =
-    fact (same (numAt (bytesOf w) f field) 0) (record { reason = Agreement; start = start; place = place; width = 0; rule = rule.Zero field (bytesOf w) })
+    fact (same (numAt (bytesOf w) f field) 0)
+    (record { reason = Agreement; start = start; place = place; width = 0; rule = rule.Zero field (bytesOf w) })
 
 -- the number of a field is that of another field
 abbrev pub sameAs : List ℕ → ℕ → ℕ → Width → ℕ → ℕ → Fact
 sameAs f start place w field other =
-    fact (same (numAt (bytesOf w) f field) (numAt (bytesOf w) f other)) (record { reason = Agreement; start = start; place = place; width = 0; rule = rule.SameAs field other (bytesOf w) })
+    fact (same (numAt (bytesOf w) f field) (numAt (bytesOf w) f other))
+    (record { reason = Agreement; start = start; place = place; width = 0; rule = rule.SameAs field other (bytesOf w) })
 
 -- the number of a field is above that of another field
 abbrev pub above : List ℕ → ℕ → ℕ → Width → ℕ → ℕ → Fact
 above f start place w field other =
-    fact (atMost (suc (numAt (bytesOf w) f other)) (numAt (bytesOf w) f field)) (record { reason = Agreement; start = start; place = place; width = 0; rule = rule.Above field other (bytesOf w) })
+    fact (atMost (suc (numAt (bytesOf w) f other)) (numAt (bytesOf w) f field))
+    (record { reason = Agreement; start = start; place = place; width = 0; rule = rule.Above field other (bytesOf w) })
 
 -- ---- what a mark says; `other` is the claim of a shape that one file alone has
 

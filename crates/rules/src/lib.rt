@@ -1,5 +1,6 @@
-// The shapes of rules (01, 'Verdicts and their order'). One function for each shape that both files have: the verdict so far, then the one fact that the constructor of the same name
-// in specs/ makes. `start` is where the record starts, `place` the byte place that a refusal reports.
+// The shapes of rules (01, 'Verdicts and their order'). One function for each shape that both files have: the verdict so far, then the
+// one fact that the constructor of the same name in specs/ makes. `start` is where the record starts, `place` the byte place that a
+// refusal reports.
 ghost use mathlib.Core.Path.{_≡_};
 ghost use mathlib.Core.List.{[], _∷_};
 ghost use Prim.Native.Nat.{_/_, _%_};

@@ -1,6 +1,5 @@
 -- The laws of tables of fields, each proved once for any table: the facts hold exactly where the fields obey; a refusal is at the lowest
 -- field at fault; each fact's claim is what its mark says; a table that passes the test `tiles` leaves no gap.
--- Assumes nothing.
 use Prim.Native.Nat.{ℕ, _+_, _≤_, _<_}
 use mathlib.Core.Path.{_≡_, refl, ap, sym, subst, _∙_}
 use mathlib.Core.Bool.{Bool, true, false, cond}

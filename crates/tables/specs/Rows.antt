@@ -1,6 +1,5 @@
 -- What a table of fields means, for any table: the facts that a check goes through, and the statement that the fields obey. f is the file
 -- and `at` the start of the record. proofs/Rows has the laws that join the two.
--- Assumes nothing.
 use Prim.Native.Nat.{ℕ, _+_, _/_, _%_, _≤_}
 use mathlib.Core.Path.{_≡_}
 use mathlib.Core.Logic.{_⊎_}
@@ -64,7 +63,8 @@ Allowed f p w (exactly n) = numAt w f p ≡ n
 Allowed f p w (between low high) = Between low high (numAt w f p)
 Allowed f p w (within limit) = natAbs (signedAt w f p) ≤ limit
 Allowed f p w (amongFour a b c d) = (numAt w f p ≡ a) ⊎ ((numAt w f p ≡ b) ⊎ ((numAt w f p ≡ c) ⊎ (numAt w f p ≡ d)))
-Allowed f p w (amongFive a b c d e) = (numAt w f p ≡ a) ⊎ ((numAt w f p ≡ b) ⊎ ((numAt w f p ≡ c) ⊎ ((numAt w f p ≡ d) ⊎ (numAt w f p ≡ e))))
+Allowed f p w (amongFive a b c d e) =
+    (numAt w f p ≡ a) ⊎ ((numAt w f p ≡ b) ⊎ ((numAt w f p ≡ c) ⊎ ((numAt w f p ≡ d) ⊎ (numAt w f p ≡ e))))
 Allowed f p w (named least) = ObjectName f p least
 Allowed f p w (parts ps) = HasParts (numAt w f p) ps
 
@@ -77,6 +77,7 @@ pub record TableObeys (f : List ℕ) (at : ℕ) (t : List Row) : Type 0 where
   pub each : (r : Row) → List·Memᴰ r t → RowObeys f at r
 
 -- p is the place of a field of the table that has none of its values
+-- 01: No.5
 pub record RowAtFault (f : List ℕ) (at : ℕ) (t : List Row) (p : ℕ) : Type 0 where
   pub which : Row
   pub there : List·Memᴰ which t

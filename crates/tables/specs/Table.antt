@@ -1,7 +1,6 @@
 -- The fields of a record as one table: a row for each field in the page's order, with its name, its offset in the record, how many bytes it
 -- has, whether it is signed, and what may stand in it. What the rows mean as values, as facts and as statements follows from the table by
 -- one definition each.
--- Assumes nothing.
 use Prim.Native.Nat.{ℕ, _+_, _/_, _%_}
 use Prim.Native.String.{String}
 use mathlib.Core.Bool.{Bool, _&&_}

@@ -1,7 +1,7 @@
-// The fields of a record (01, 'Fields'; the standard's tables 2, 3 and 6 to 12). A field is where it stands in its record and how many bytes
-// it has. For each sort of values that a row of a table allows there are two functions here: one tests the field, and one is the verdict so far,
-// then the facts of that row. A check tests a record as a whole, and goes fact by fact only where that fails.
-// `at` is where the record starts, a number of 32 bits, so that a field's place never overflows and nothing is asked of a caller.
+// The fields of a record (01, 'Fields'; the standard's tables 2, 3 and 6 to 12). A field is where it stands in its record and how many
+// bytes it has. For each sort of values that a row of a table allows there are two functions here: one tests the field, and one is the
+// verdict so far, then the facts of that row. A check tests a record as a whole, and goes fact by fact only where that fails. `at` is
+// where the record starts, a number of 32 bits, so that a field's place never overflows and nothing is asked of a caller.
 ghost use mathlib.Core.Path.{_≡_};
 ghost use mathlib.Core.List.{[], _∷_};
 ghost use Prim.Native.Nat.{_+_, _/_, _%_};

@@ -3,10 +3,14 @@ ghost use mathlib.Core.Path.{_≡_};
 ghost use Prim.Native.Nat.{_<_};
 use libc::STDOUT_FILENO;
 use octets::byte_after;
+use octets::byte_at;
 use octets::distance;
 
 // How many hexadecimal digits a byte has.
 const BYTE_DIGITS: usize = 2;
+
+// What parts the names of several lines.
+const SPACE: usize = 0x20;
 
 // Some text.
 pub fn write(text: &[u8])
@@ -22,6 +26,13 @@ pub fn write_number(n: usize)
     io::print_decimal(STDOUT_FILENO, n as u64);
 }
 
+// The last number of a line.
+fn end_line(n: usize) {
+    write(b" ");
+    write_number(n);
+    write(b"\n");
+}
+
 // A name, a number and a place.
 pub fn head(name: &[u8], number: usize, place: usize)
     ensures { λ r. ⌜ r ≡ tt ⌝ }
@@ -29,9 +40,7 @@ pub fn head(name: &[u8], number: usize, place: usize)
     write(name);
     write(b" ");
     write_number(number);
-    write(b" ");
-    write_number(place);
-    write(b"\n");
+    end_line(place);
 }
 
 // A name and a text.
@@ -49,9 +58,42 @@ pub fn line(name: &[u8], n: usize)
     ensures { λ r. ⌜ r ≡ tt ⌝ }
 {
     write(name);
-    write(b" ");
-    write_number(n);
-    write(b"\n");
+    end_line(n);
+}
+
+// Where the name that begins at a place ends: before a space, or with the text.
+fn name_end(names: &[u8], at: usize) -> usize {
+    for k in at..names.len() {
+        if byte_at(names, k) == SPACE {
+            return k;
+        }
+    }
+    names.len()
+}
+
+// What stands between two places of a text.
+fn write_part(text: &[u8], from: usize, to: usize) {
+    if from <= to && to <= text.len() {
+        write(&text[from..to]);
+    }
+}
+
+// The name that begins at a place, and a number. It answers where the next name begins.
+fn next_line(names: &[u8], at: usize, n: usize) -> usize {
+    let end = name_end(names, at);
+    write_part(names, at, end);
+    end_line(n);
+    if end < names.len() { end + 1 } else { end }
+}
+
+// Names, with a space between each two, and as many numbers: a line for each.
+pub fn lines(names: &[u8], values: &[usize])
+    ensures { λ r. ⌜ r ≡ tt ⌝ }
+{
+    let mut at = 0;
+    for k in 0..values.len() {
+        at = next_line(names, at, values[k]);
+    }
 }
 
 // A name and a signed number.

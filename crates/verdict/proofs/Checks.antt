@@ -1,5 +1,4 @@
 -- The loops over records that stand without gaps: what one turn does, and the end, for each kind of check.
--- Assumes nothing.
 use Prim.Native.Nat.{ℕ, _+_, _<_, _≤_}
 use mathlib.Core.Path.{_≡_, sym, _∙_}
 use mathlib.Core.Bool.{Bool, true, false, not, _&&_, _||_, or-assoc, or-false, and-assoc, and-true}

@@ -1,6 +1,5 @@
 -- The laws of facts, each proved once: a claim's test says whether it holds; accepted is 'every fact holds'; a refusal is the first
 -- fact that fails, and its mark is the true reason; a list is judged part by part.
--- Assumes nothing.
 use Prim.Native.Nat.{ℕ, _≤_}
 use mathlib.Core.Path.{_≡_, refl, ap, ap₂, sym, subst, _∙_}
 use mathlib.Core.Bool.{Bool, true, false, cond, not, _&&_, _||_, true≢false, and-assoc}

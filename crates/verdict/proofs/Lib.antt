@@ -4,6 +4,3 @@ pub mod Checks
 pub mod Steps
 pub mod Orders
 pub mod Questions
-pub mod Sections
-pub mod Places
-pub mod Told

@@ -1,6 +1,5 @@
 -- Small laws that the kit lacks: two numbers are in one order or the other; 'x is 0, or ..' is 'x is not 0, so ..'; what tests joined by
 -- `&&` and `||` say of each of them.
--- Assumes nothing.
 use Prim.Native.Nat.{ℕ, _≤_, _<_}
 use mathlib.Core.Path.{_≡_, refl, sym}
 use mathlib.Core.Bool.{Bool, true, false, _&&_, _||_, true≢false}

@@ -1,6 +1,5 @@
 -- What is answered of a file: its verdict is accepted where no fact fails, and a question first gives the file's own fault. `say` makes an
 -- answer of a fault, and w is the file's verdict.
--- Assumes nothing.
 use Prim.Native.Nat.{ℕ}
 use mathlib.Core.Bool.{Bool, true, false, cond}
 use lib.IntN.{ℤ}

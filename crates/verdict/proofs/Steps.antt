@@ -1,6 +1,5 @@
 -- A walk whose records all have one size: x is one of its starts exactly where it is a whole number of sizes after the first, and
 -- before the end.
--- Assumes nothing.
 use Prim.Native.Nat.{ℕ, suc, zero, _+_, _*_, _<_}
 use mathlib.Core.Path.{_≡_, refl, sym, subst}
 use mathlib.Core.Bool.{Bool, true, false, cond}

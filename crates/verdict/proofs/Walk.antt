@@ -1,5 +1,4 @@
 -- The laws of walks without gaps: one step, the stop, what is reached, and how a place is found or missed among the starts.
--- Assumes nothing.
 use Prim.Native.Nat.{ℕ, suc, zero, _+_, _-_, _*_, _/_, _%_, _≤_, _<_}
 use mathlib.Core.Path.{_≡_, refl, ap, sym, subst, _∙_}
 use mathlib.Core.Bool.{Bool, true, false, cond, _&&_, or-false}

@@ -1,7 +1,6 @@
 -- Claims, facts, and the verdict on a list of facts: the first that fails, in the list's order.
 -- A claim is what a rule says of some numbers; it can be tested and it can be stated. A fact is a claim with the mark of the refusal
 -- that it gives where it is the first to fail.
--- Assumes nothing.
 use Prim.Native.Nat.{ℕ, _≤_}
 use mathlib.Core.Path.{_≡_}
 use mathlib.Core.Bool.{Bool, true, false, cond, not, _&&_, _||_}

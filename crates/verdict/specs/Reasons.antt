@@ -1,9 +1,9 @@
 -- The table of 01, 'Verdicts and their order': the paper's number of each reason, and the numbers of an answer.
 -- A refused answer has the reason's number and its place (and, for the pair, the file); an accepted one has 0 in each.
--- Assumes nothing.
 use Prim.Native.Nat.{ℕ}
 use Rattle.verdict.specs.declared.Reason.{Reason}
-use Rattle.verdict.specs.declared.Reason.the-variants.{Length, Checksum, FileType, Structure, Layout, Field, Agreement, Target, Return, Station, Track, Position, Question, Steps, Room}
+use Rattle.verdict.specs.declared.Reason.the-variants.{Length, Checksum, FileType, Structure, Layout, Field, Agreement, Target}
+use Rattle.verdict.specs.declared.Reason.the-variants.{Return, Station, Track, Position, Question, Steps, Room}
 use Rattle.verdict.specs.declared.Fault.{Fault}
 use Rattle.verdict.specs.declared.File.{File}
 use Rattle.verdict.specs.declared.File.the-variants.{First, Second}
@@ -16,6 +16,7 @@ use Rattle.verdict.specs.declared.Judged.{Judged}
 use Rattle.verdict.specs.declared.Judged.the-variants as judged
 
 -- the paper's number of a reason
+-- 01: Form.10
 abbrev pub numberOf : Reason → ℕ
 numberOf Length = 1
 numberOf Checksum = 2
@@ -34,6 +35,7 @@ numberOf Steps = 14
 numberOf Room = 15
 
 -- the paper's number of a file of the pair
+-- 01: Pair.5
 abbrev pub fileOf : File → ℕ
 fileOf First = 1
 fileOf Second = 2
@@ -48,23 +50,28 @@ shownOf judged.Accepted = verdict.Accepted
 shownOf (judged.Refused m) = verdict.Refused (faultOf m)
 
 -- the answer's number and place, for a file
+-- 01: No.0, Form.10
 abbrev pub numberIn : Verdict → ℕ
 numberIn verdict.Accepted = 0
 numberIn (verdict.Refused t) = numberOf (t .reason)
 
+-- 01: Form.10
 abbrev pub placeIn : Verdict → ℕ
 placeIn verdict.Accepted = 0
 placeIn (verdict.Refused t) = t .place
 
 -- the answer's number, place and file, for a pair
+-- 01: Ask.4, Form.10
 abbrev pub pairNumberIn : PairVerdict → ℕ
 pairNumberIn pair.Accepted = 0
 pairNumberIn (pair.Refused d t) = numberOf (t .reason)
 
+-- 01: Ask.4, Form.10
 abbrev pub pairPlaceIn : PairVerdict → ℕ
 pairPlaceIn pair.Accepted = 0
 pairPlaceIn (pair.Refused d t) = t .place
 
+-- 01: Pair.5, Ask.4, Form.10
 abbrev pub pairFileIn : PairVerdict → ℕ
 pairFileIn pair.Accepted = 0
 pairFileIn (pair.Refused d t) = fileOf d

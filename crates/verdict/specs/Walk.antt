@@ -1,6 +1,5 @@
 -- What stands without gaps from a place to an end, each as long as its size: the places where they start.
 -- `walk` counts down the number of records that there can be at most; each is a byte long or more, so `end` are enough.
--- Assumes nothing.
 use Prim.Native.Nat.{ℕ, suc, zero, _+_}
 use mathlib.Core.Bool.{cond}
 use mathlib.Core.List.{List, [], _∷_}

@@ -64,8 +64,8 @@ pub enum Rule {
     AmongFive(usize, usize, usize, usize, usize),
     // the number divided by the first, modulo the second, lies between the other two
     Part(usize, usize, usize, usize),
-    // the first number, where something ends that the field at the second tells, is at most the third, where its room ends; that is the place
-    // in the fourth itself (End, where the checksum stands), or the number that stands there
+    // the first number, where something ends that the field at the second tells, is at most the third, where its room ends; that is the
+    // place in the fourth itself (End, where the checksum stands), or the number that stands there
     Fits(usize, usize, usize, usize),
     // the first number is whole times the second; it is how far the number at the mark's place is from the place in the third, or from the
     // number that stands there
@@ -106,8 +106,8 @@ pub enum Rule {
     WithinTrack(usize),
 }
 
-// What a fact is about: the reason it refuses for, the start of its record, the place that is reported, how many bytes
-// the field has that stands there, and the rule. Of 0 bytes: what is reported is the start or the end of a record, and the rule has the field.
+// What a fact is about: the reason it refuses for, the start of its record, the place that is reported, how many bytes the field has that
+// stands there, and the rule. Of 0 bytes: what is reported is the start or the end of a record, and the rule has the field.
 pub struct Mark {
     pub reason: Reason,
     pub start: usize,
@@ -183,8 +183,8 @@ impl Verdict {
         }
     }
 
-    // The fault of a file that is refused, which each question on it answers. An accepted file has none: that arm is never reached, and stands
-    // because an `else` cannot bind the fault.
+    // The fault of a file that is refused, which each question on it answers. An accepted file has none: that arm is never reached, and
+    // stands because an `else` cannot bind the fault.
     pub fn fault(self) -> Fault
         ensures { λ r. ⌜ r ≡ faultIn self ⌝ }
     {

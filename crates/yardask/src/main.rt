@@ -1,32 +1,59 @@
 // A question about station map files that are named on the command line, answered on standard output. What is wrong with the command is
-// said in one line on standard error, with the usage, and then nothing stands on standard output. The answers are those of the library;
-// here words become questions, numbers and files.
+// said in one line on standard error, and then nothing stands on standard output. The answers are those of the library; here words become
+// questions, numbers and files.
 ghost use Prim.Native.Nat.{_≤_, _<_};
 use libc::STDERR_FILENO;
+use libc::STDOUT_FILENO;
+use listings::MOST_ROOM;
+use listings::NO_ROOM;
+use octets::byte_after;
 use octets::byte_at;
+use octets::u16_at;
 
-// The questions.
+// The questions, a line for each: the words of its command and, after two spaces or more, what it answers. Help is these lines; a question is
+// known by its word, and its number is that of its line.
+const QUESTIONS: [u8; 965] = *b"\
+yardask x1 FILE                                the verdict of an X.1 file: its number and the place of the fault\n\
+yardask x2 FILE                                the verdict of an X.2 file\n\
+yardask pair FILE1 FILE2                       the verdict of a station's two files\n\
+yardask header1 FILE                           the versions and the station of an X.1\n\
+yardask header2 FILE                           the versions, the station and the name of an X.2\n\
+yardask track FILE INDEX                       a track of an X.1, by its index from 0\n\
+yardask point FILE TRACK POINT                 a point of a track of an X.1, both by their indexes from 0\n\
+yardask coordinate FILE TRACKNUMBER POSITION   latitude and longitude at a position (centimetres) of a track\n\
+yardask record FILE OFFSET                     the record of an X.2 that starts at an offset\n\
+yardask routes FILE START LIMIT BUDGET ROOM    the routes of an X.2 from a boundary, of at most LIMIT objects (0: 64)\n";
+
 const X1: usize = 1;
 
 const X2: usize = 2;
 
 const PAIR: usize = 3;
 
-const TRACK: usize = 4;
+const HEADER1: usize = 4;
 
-const POINT: usize = 5;
+const HEADER2: usize = 5;
 
-const COORDINATE: usize = 6;
+const TRACK: usize = 6;
 
-const RECORD: usize = 7;
+const POINT: usize = 7;
 
-const ROUTES: usize = 8;
+const COORDINATE: usize = 8;
 
-const HEADER1: usize = 9;
+const RECORD: usize = 9;
 
-const HEADER2: usize = 10;
+const ROUTES: usize = 10;
+
+const HELP: usize = 11;
 
 const NO_QUESTION: usize = 0;
+
+// What parts the words of a line, what stands after the last of them, and what ends the line.
+const SPACE: usize = 0x20;
+
+const TWO_SPACES: usize = 0x2020;
+
+const LINE_END: usize = 0x0A;
 
 // Where the question stands among the words of the command line, the program's own name being the first of them; and what follows it.
 const QUESTION: usize = 1;
@@ -51,9 +78,6 @@ const NUMBER_ROOM: usize = 32;
 // A number has to be below this.
 const NO_NUMBER: usize = 0x1_0000_0000;
 
-// As many words are never lent for routes.
-const NO_WORDS: usize = 65536;
-
 // A byte more than the longest file: a file that fills the room is too long, whatever follows.
 const ROOM: usize = 65536;
 
@@ -65,107 +89,154 @@ fn write(text: &[u8]) {
     io::write_all(STDERR_FILENO, text);
 }
 
-// A word of the command line, in quotes, if there is one.
+// A word of the command line, in quotes.
 fn write_word(i: usize) {
     let mut word = io::buffer();
     let n = os::arg(i, &mut word);
-    if 0 < n {
-        write(b" '");
-        write(&word[..n]);
-        write(b"'");
-    }
+    write(b" '");
+    write(&word[..n]);
+    write(b"'");
 }
 
-// Says what is wrong, with which word, and the usage.
-fn wrong(why: &[u8], i: usize) {
+// Begins the line that says what is wrong, with which word.
+fn begin_wrong(why: &[u8], i: usize) {
     write(b"yardask: ");
     write(why);
     write_word(i);
-    write(
-        b"; usage: yardask x1 FILE | x2 FILE | pair FILE1 FILE2 | track FILE INDEX | point FILE TRACK POINT",
-    );
-    write(
-        b" | coordinate FILE TRACKNUMBER POSITION | record FILE OFFSET | routes FILE START LIMIT BUDGET ROOM",
-    );
-    write(b" | header1 FILE | header2 FILE\n");
 }
 
-// Whether two texts are the same.
-fn same(a: &[u8], b: &[u8]) -> bool {
-    if a.len() != b.len() {
-        return false;
+// Ends it with how to ask for help.
+fn end_wrong() {
+    write(b"; yardask help lists the questions\n");
+}
+
+// Says what is wrong, with which word.
+fn wrong(why: &[u8], i: usize) {
+    begin_wrong(why, i);
+    end_wrong();
+}
+
+// Where the text goes on after the next byte that is a mark.
+fn after(text: &[u8], at: usize, mark: usize) -> usize {
+    for k in at..text.len() {
+        if byte_at(text, k) == mark {
+            return k + 1;
+        }
     }
-    for k in 0..a.len() {
-        if byte_at(a, k) != byte_at(b, k) {
+    text.len()
+}
+
+// Where the line of a question starts.
+fn line_of(table: &[u8], question: usize) -> usize {
+    let mut at = 0;
+    for k in 1..question {
+        at = after(table, at, LINE_END);
+    }
+    at
+}
+
+// Where the words of the command end in the line at a place: before two spaces.
+fn form_end(table: &[u8], line: usize) -> usize {
+    for k in line..table.len() {
+        if u16_at(table, k) == TWO_SPACES {
+            return k;
+        }
+    }
+    table.len()
+}
+
+// How many spaces a byte is: one or none.
+fn spaces_in(c: usize) -> usize
+    ensures { λ r. ⌜ r ≤ 1 ⌝ }
+{
+    if c == SPACE { 1 } else { 0 }
+}
+
+// How many words follow the first one between two places.
+fn words_after(table: &[u8], from: usize, to: usize) -> usize {
+    let mut words = 0;
+    for k in from..to {
+        words += spaces_in(byte_at(table, k));
+    }
+    words
+}
+
+// Whether a word stands in a text, from a place up to a space.
+fn is_word_at(text: &[u8], at: usize, word: &[u8]) -> bool {
+    for k in 0..word.len() {
+        let c = byte_at(word, k);
+        if c == SPACE || c != byte_after(text, at, k) {
             return false;
         }
     }
-    true
+    byte_after(text, at, word.len()) == SPACE
 }
 
-// The question that a text names.
-fn question_in(text: &[u8]) -> usize {
-    if same(text, b"x1") {
-        return X1;
-    }
-    if same(text, b"x2") {
-        return X2;
-    }
-    if same(text, b"pair") {
-        return PAIR;
-    }
-    if same(text, b"track") {
-        return TRACK;
-    }
-    if same(text, b"point") {
-        return POINT;
-    }
-    if same(text, b"coordinate") {
-        return COORDINATE;
-    }
-    if same(text, b"record") {
-        return RECORD;
-    }
-    if same(text, b"routes") {
-        return ROUTES;
-    }
-    if same(text, b"header1") {
-        return HEADER1;
-    }
-    if same(text, b"header2") {
-        return HEADER2;
+// The question that a word names.
+fn question_in(table: &[u8], word: &[u8]) -> usize {
+    for k in X1..HELP {
+        if is_word_at(table, after(table, line_of(table, k), SPACE), word) {
+            return k;
+        }
     }
     NO_QUESTION
 }
 
-// The question of the command line.
-fn question() -> usize {
+// Whether a word asks for help.
+fn is_help(word: &[u8]) -> bool {
+    is_word_at(b"help ", 0, word) || is_word_at(b"--help ", 0, word)
+}
+
+// How many words follow the program's own name.
+fn words_given() -> usize {
+    let n = os::arg_count();
+    if n == 0 {
+        return 0;
+    }
+    n - 1
+}
+
+// The question of the command line. No word asks for help.
+fn question(table: &[u8]) -> usize {
+    if os::arg_count() <= QUESTION {
+        return HELP;
+    }
     let mut word = [0u8; QUESTION_ROOM];
     let n = os::arg(QUESTION, &mut word);
     if os::errno() != 0 {
         return NO_QUESTION;
     }
-    question_in(&word[..n])
+    if is_help(&word[..n]) {
+        return HELP;
+    }
+    question_in(table, &word[..n])
 }
 
-// How many words a command with a question has.
-fn words(question: usize) -> usize {
-    if question == X1 || question == X2 {
-        return FIRST + 1;
+// Writes what stands between two places of the table.
+fn write_part(table: &[u8], from: usize, to: usize) {
+    if from <= to && to <= table.len() {
+        write(&table[from..to]);
     }
-    if question == HEADER1 || question == HEADER2 {
-        return FIRST + 1;
+}
+
+// Says that the command has too few or too many words, and how the question is asked.
+fn wrong_count(table: &[u8], from: usize, to: usize) {
+    begin_wrong(b"too few or too many words for the question", QUESTION);
+    write(b", which is asked by ");
+    write_part(table, from, to);
+    end_wrong();
+}
+
+// Whether the command has as many words as its question takes; it is said where it has not.
+fn is_counted(table: &[u8], question: usize) -> bool {
+    let from = line_of(table, question);
+    let to = form_end(table, from);
+    let following = words_after(table, from, to);
+    let is_right = words_given() == following;
+    if !is_right {
+        wrong_count(table, from, to);
     }
-    if question == PAIR {
-        return SECOND + 1;
-    }
-    if question == TRACK || question == RECORD {
-        return NUMBER + 1;
-    }
-    if question == ROUTES {
-        return FOURTH_NUMBER + 1;
-    }
-    NEXT_NUMBER + 1
+    is_right
 }
 
 // A number with one digit more.
@@ -201,17 +272,26 @@ fn number_in(text: &[u8]) -> usize {
     n
 }
 
-// The number that a word of the command line is; 0 where the command has no such word.
-fn number(i: usize) -> usize {
-    if os::arg_count() <= i {
-        return 0;
-    }
+// The number that a word of the command line is.
+fn number_at(i: usize) -> usize {
     let mut word = [0u8; NUMBER_ROOM];
     let n = os::arg(i, &mut word);
     if os::errno() != 0 {
         return NO_NUMBER;
     }
     number_in(&word[..n])
+}
+
+// The same, 0 where the command has no such word; it is said where the word is no number.
+fn number(i: usize) -> usize {
+    if os::arg_count() <= i {
+        return 0;
+    }
+    let n = number_at(i);
+    if NO_NUMBER <= n {
+        wrong(b"no number below 4294967296:", i);
+    }
+    n
 }
 
 // Opens the file that a word names.
@@ -253,18 +333,18 @@ fn answer(question: usize, f: &[u8], a: usize, b: usize) {
         answers::x1(f);
     } else if question == X2 {
         answers::x2(f);
+    } else if question == HEADER1 {
+        answers::header1(f);
+    } else if question == HEADER2 {
+        answers::header2(f);
     } else if question == TRACK {
         answers::track(f, a);
     } else if question == POINT {
         answers::point(f, a, b);
     } else if question == COORDINATE {
         answers::coordinate(f, a, b);
-    } else if question == RECORD {
-        answers::record(f, a);
-    } else if question == HEADER1 {
-        answers::header1(f);
     } else {
-        answers::header2(f);
+        answers::record(f, a);
     }
 }
 
@@ -276,6 +356,19 @@ fn ask(question: usize, a: usize, b: usize) {
         return;
     }
     answer(question, &room[..n], a, b);
+}
+
+// The same, once its numbers are numbers.
+fn ask_with_numbers(question: usize) {
+    let a = number(NUMBER);
+    if NO_NUMBER <= a {
+        return;
+    }
+    let b = number(NEXT_NUMBER);
+    if NO_NUMBER <= b {
+        return;
+    }
+    ask(question, a, b);
 }
 
 // Answers the question about a pair of files.
@@ -293,82 +386,79 @@ fn ask_pair() {
     answers::pair(&first[..n], &second[..m]);
 }
 
-// Answers a question about one file, once its numbers are numbers.
-fn ask_with_numbers(question: usize) {
-    let a = number(NUMBER);
-    let b = number(NEXT_NUMBER);
-    if NO_NUMBER <= a {
-        wrong(b"no number below 4294967296:", NUMBER);
-        return;
+// Answers the question routes, and says it where the list would fit the words that are asked for and not those that are here.
+fn answer_routes(f: &[u8], start: usize, limit: usize, budget: usize, words: usize) {
+    let number = listings::routes(f, start, limit, budget, words);
+    if number == NO_ROOM && MOST_ROOM < words {
+        write(
+            b"yardask: the list takes more words than the 65535 that this program has room for\n",
+        );
     }
-    if NO_NUMBER <= b {
-        wrong(b"no number below 4294967296:", NEXT_NUMBER);
-        return;
-    }
-    ask(question, a, b);
 }
 
-// Answers the question routes about the file that the command line names.
+// The same, about the file that the command line names.
 fn list_routes(start: usize, limit: usize, budget: usize, words: usize) {
     let mut room = io::large_buffer();
     let n = read_file(FIRST, &mut room);
     if ROOM < n {
         return;
     }
-    listings::routes(&room[..n], start, limit, budget, words);
+    answer_routes(&room[..n], start, limit, budget, words);
 }
 
-// The same, once its numbers are numbers.
-fn ask_routes() {
-    let start = number(NUMBER);
-    let limit = number(NEXT_NUMBER);
+// The same, once the last two of its numbers are numbers.
+fn ask_within(start: usize, limit: usize) {
     let budget = number(THIRD_NUMBER);
-    let words = number(FOURTH_NUMBER);
-    if NO_NUMBER <= start {
-        wrong(b"no number below 4294967296:", NUMBER);
-        return;
-    }
-    if NO_NUMBER <= limit {
-        wrong(b"no number below 4294967296:", NEXT_NUMBER);
-        return;
-    }
     if NO_NUMBER <= budget {
-        wrong(b"no number below 4294967296:", THIRD_NUMBER);
         return;
     }
-    if NO_WORDS <= words {
-        wrong(b"no number below 65536:", FOURTH_NUMBER);
+    let words = number(FOURTH_NUMBER);
+    if NO_NUMBER <= words {
         return;
     }
     list_routes(start, limit, budget, words);
 }
 
-fn main() {
-    let given = os::arg_count();
-    if given <= QUESTION {
-        wrong(b"no question", QUESTION);
+// The same, once the first two of its numbers are numbers.
+fn ask_routes() {
+    let start = number(NUMBER);
+    if NO_NUMBER <= start {
         return;
     }
-    let asked = question();
+    let limit = number(NEXT_NUMBER);
+    if NO_NUMBER <= limit {
+        return;
+    }
+    ask_within(start, limit);
+}
+
+// Answers a question whose command has the words that it takes.
+fn ask_question(asked: usize) {
+    if asked == PAIR {
+        ask_pair();
+    } else if asked == ROUTES {
+        ask_routes();
+    } else {
+        ask_with_numbers(asked);
+    }
+}
+
+// Answers the command, by the table of questions.
+fn command(table: &[u8]) {
+    let asked = question(table);
+    if asked == HELP {
+        io::write_all(STDOUT_FILENO, table);
+        return;
+    }
     if asked == NO_QUESTION {
         wrong(b"unknown question", QUESTION);
         return;
     }
-    if given < words(asked) {
-        wrong(b"too few words for the question", QUESTION);
-        return;
+    if is_counted(table, asked) {
+        ask_question(asked);
     }
-    if words(asked) < given {
-        wrong(b"too many words for the question", QUESTION);
-        return;
-    }
-    if asked == PAIR {
-        ask_pair();
-        return;
-    }
-    if asked == ROUTES {
-        ask_routes();
-        return;
-    }
-    ask_with_numbers(asked);
+}
+
+fn main() {
+    command(&QUESTIONS);
 }

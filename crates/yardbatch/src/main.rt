@@ -1,11 +1,14 @@
-// Many questions in one run. Standard input is a sequence of cases: the question in 1 byte (x1, x2, pair, track, point, coordinate, record,
-// routes, header1 and header2 are 1 to 10), four numbers of 4 bytes each, two lengths of 4 bytes each, and the bytes of the first and of the
-// second file; all numbers are little-endian. Standard output is, for each case, what yardask prints, and an empty line. Input that ends
-// inside a case, an unknown question, or a case that lends more than 65,535 words for routes, is a line on standard error and ends the run.
+// Many questions in one run. Standard input is a sequence of cases: the question in 1 byte (x1, x2, pair, track, point, coordinate,
+// record, routes, header1 and header2 are 1 to 10), four numbers of 4 bytes each, two lengths of 4 bytes each, and the bytes of the first
+// and of the second file; all numbers are little-endian. Standard output is, for each case, what yardask prints, and an empty line. Input
+// that ends inside a case, an unknown question, or a list of routes that does not fit the 65,535 words that are here where the case lends
+// more, is a line on standard error and ends the run.
 ghost use Prim.Native.Nat.{_≤_};
 use libc::STDERR_FILENO;
 use libc::STDIN_FILENO;
 use libc::STDOUT_FILENO;
+use listings::MOST_ROOM;
+use listings::NO_ROOM;
 use octets::byte_at;
 use octets::least;
 use octets::u32_at;
@@ -34,9 +37,6 @@ const HEADER1: usize = 9;
 
 const HEADER2: usize = 10;
 
-// The most words that a case may lend for routes.
-const MOST_WORDS: usize = 65535;
-
 // Where the four numbers stand, and the bytes of each.
 const NUMBERS: usize = 1;
 
@@ -57,6 +57,11 @@ const PART: usize = 4096;
 fn stop(why: &[u8]) -> bool {
     io::write_all(STDERR_FILENO, why);
     false
+}
+
+// The same, where the input ends too early.
+fn stop_inside() -> bool {
+    stop(b"yardbatch: the input ends inside a case\n")
 }
 
 // Passes over n bytes of the input, no more than a part. It answers whether they were there.
@@ -94,25 +99,24 @@ fn read_file(room: &mut [u8], n: usize) -> bool {
     passed_over(n - kept)
 }
 
-// How many words a case lends.
-fn words_lent(head: &[u8]) -> usize {
-    u32_at(head, NUMBERS + 3 * NUMBER)
-}
-
-// Whether a case lends more words than it may.
-fn lends_too_much(head: &[u8]) -> bool {
-    if byte_at(head, 0) != ROUTES {
-        return false;
-    }
-    MOST_WORDS < words_lent(head)
-}
-
-// Answers the question routes.
-fn answer_routes(head: &[u8], f: &[u8]) {
+// The list of routes of a case that lends as many words. It answers the number of the answer.
+fn listed(head: &[u8], f: &[u8], words: usize) -> usize {
     let start = u32_at(head, NUMBERS);
     let limit = u32_at(head, NUMBERS + NUMBER);
     let budget = u32_at(head, NUMBERS + 2 * NUMBER);
-    listings::routes(f, start, limit, budget, words_lent(head));
+    listings::routes(f, start, limit, budget, words)
+}
+
+// Answers the question routes. It answers whether it could.
+fn routes_answered(head: &[u8], f: &[u8]) -> bool {
+    let words = u32_at(head, NUMBERS + 3 * NUMBER);
+    let number = listed(head, f, words);
+    if number == NO_ROOM && MOST_ROOM < words {
+        return stop(
+            b"yardbatch: a list takes more words than the 65535 that this program has room for\n",
+        );
+    }
+    true
 }
 
 // Answers a question about a whole file or a pair, and says whether it is one.
@@ -160,35 +164,34 @@ fn part_answered(question: usize, head: &[u8], first: &[u8]) -> bool {
         answers::record(first, a);
         return true;
     }
-    if question == ROUTES {
-        answer_routes(head, first);
-        return true;
-    }
     false
 }
 
-// Answers the question of a case. It answers whether there is such a question.
+// Answers the question of a case. It answers whether it could.
 fn answered(head: &[u8], first: &[u8], second: &[u8]) -> bool {
     let question = byte_at(head, 0);
+    if question == ROUTES {
+        return routes_answered(head, first);
+    }
     if file_answered(question, first, second) {
         return true;
     }
-    part_answered(question, head, first)
+    if part_answered(question, head, first) {
+        return true;
+    }
+    stop(b"yardbatch: unknown question\n")
 }
 
 // Reads the files of a case, of n and m bytes, and answers it. It answers whether there may be a next case.
 fn case_in(head: &[u8], first: &mut [u8], n: usize, second: &mut [u8], m: usize) -> bool {
     if !read_file(first, n) {
-        return stop(b"yardbatch: the input ends inside a case\n");
+        return stop_inside();
     }
     if !read_file(second, m) {
-        return stop(b"yardbatch: the input ends inside a case\n");
-    }
-    if lends_too_much(head) {
-        return stop(b"yardbatch: a case lends more than 65535 words\n");
+        return stop_inside();
     }
     if !answered(head, first, second) {
-        return stop(b"yardbatch: unknown question\n");
+        return false;
     }
     io::write_all(STDOUT_FILENO, b"\n");
     true
@@ -213,7 +216,7 @@ fn next_case() -> bool {
         return false;
     }
     if got < HEAD {
-        return stop(b"yardbatch: the input ends inside a case\n");
+        return stop_inside();
     }
     case_of(&head)
 }

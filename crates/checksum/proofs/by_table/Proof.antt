@@ -1,5 +1,4 @@
 -- `checksum::by_table` meets its contract: the bytes of the turns enter, and then the rest.
--- Assumes nothing.
 use mathlib.Core.Path.{ap, _∙_}
 use Prim.Native.Nat.{ℕ}
 use lib.ListN.{length, drop}

@@ -1,5 +1,4 @@
 -- `checksum::byte_step` meets its contract: `by-table` says that what it computes of the entry is the step.
--- Assumes nothing.
 use native.Mathlib.Omega.{arith}
 use borrow.Author.Needs.{needs}
 use Rattle.checksum.proofs.ByTable.{by-table}

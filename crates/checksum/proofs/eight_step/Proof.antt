@@ -1,5 +1,4 @@
 -- `checksum::eight_step` meets its contract: `halves` says that the last four bytes may enter an empty register, beside the first four.
--- Assumes nothing.
 use native.Mathlib.Omega.{arith}
 use Rattle.checksum.proofs.Walk.{halves}
 use borrow.Author.Needs.{needs}

@@ -1,5 +1,4 @@
 -- `checksum::entry` meets its contract: what the byte makes of the part that it meets is a byte, and the table has its entry.
--- Assumes nothing.
 use Prim.Native.Nat.{ℕ, _<_}
 use native.Mathlib.Omega.{arith}
 use lib.Bits.{bitXor, xor-lt}

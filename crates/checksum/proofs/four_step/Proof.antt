@@ -1,5 +1,4 @@
 -- `checksum::four_step` meets its contract: it joins the four entries, and `four-parts` says that these make the four steps.
--- Assumes nothing.
 use mathlib.Core.Path.{sym, ap₂, _∙_}
 use native.Mathlib.Omega.{arith}
 use lib.Bits.{bitXor}

@@ -1,5 +1,4 @@
 -- `checksum::of` meets its contract. The table's rule is two tests that the prover computes, at `by-table-requires`.
--- Assumes nothing.
 use mathlib.Core.Path.{refl}
 use borrow.Author.Needs.{needs}
 use Rattle.checksum.specs.Checksum.{step, bitStep, bitSteps, byteStep}

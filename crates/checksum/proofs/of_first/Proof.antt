@@ -1,5 +1,4 @@
 -- `checksum::of_first` meets its contract: where n is over the length, the first n bytes are all.
--- Assumes nothing.
 use mathlib.Core.Path.{sym}
 use native.Mathlib.Omega.{arith}
 use lib.Seq.{length-take-le, take-all}

@@ -1,6 +1,5 @@
 -- `checksum::rest` meets its contract. The loop's invariant: what the bytes to come make of the register is what the bytes from the place
 -- on make of the first one.
--- Assumes nothing.
 use mathlib.Core.Path.{_≡_, refl}
 use Prim.Native.Nat.{_-_}
 use lib.ListN.{length, drop}

@@ -1,6 +1,5 @@
 -- `checksum::turns` meets its contract. The loop's invariant: only whole turns have been made, and the register is what their bytes make of
 -- the first one.
--- Assumes nothing.
 use mathlib.Core.Path.{_≡_, refl, ap, _∙_}
 use Prim.Native.Nat.{ℕ, _-_, _%_, _≤_}
 use native.Mathlib.Omega.{arith}

@@ -1,6 +1,5 @@
 -- The rule of the table by which the code takes a byte in one step, and eight bytes in one turn; no reader of the checksum need know it.
 -- `emptySteps` counts down how many empty bytes are still to enter.
--- Assumes nothing.
 use mathlib.Core.Path.{_≡_}
 use mathlib.Core.List.{List}
 use Prim.Native.Nat.{ℕ, zero, suc, _+_, _-_, _*_, _%_, _<_}

@@ -1,7 +1,6 @@
 -- `exports::show_counts` meets its contract.
--- Assumes nothing.
 use mathlib.Core.Path.{refl}
-use Rattle.routes.specs.Answered.{routesAnswer}
+use Rattle.route_lister.specs.Answered.{routesAnswer}
 use Rattle.exports.proofs.Ways.{values-shown, fault-shown}
 use borrow.Author.Needs.{needs}
 use Rattle.exports.proofs.show_counts.Statement.{statement}

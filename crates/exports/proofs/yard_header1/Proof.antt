@@ -1,7 +1,6 @@
 -- `exports::yard_header1` meets its contract.
--- Assumes nothing.
 use mathlib.Core.Path.{refl}
-use Rattle.survey.specs.Answers.{headerAnswer}
+use Rattle.x1_questions.specs.Answers.{headerAnswer}
 use Rattle.exports.proofs.Ways.{values-shown, fault-shown}
 use borrow.Author.Needs.{needs}
 use Rattle.exports.proofs.yard_header1.Statement.{statement}

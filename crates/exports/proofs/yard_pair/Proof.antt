@@ -1,5 +1,4 @@
 -- `exports::yard_pair` meets its contract.
--- Assumes nothing.
 use borrow.Author.Needs.{needs}
 use Rattle.exports.proofs.yard_pair.Statement.{statement}
 use Rattle.exports.proofs.yard_pair.Tie as tie

@@ -1,11 +1,10 @@
 -- `exports::yard_routes` meets its contract.
--- Assumes nothing.
 use mathlib.Core.Path.{ap, _∙_}
-use Rattle.walks.specs.Lent.{roomOf}
-use Rattle.routes.specs.declared.RoutesAnswer.{RoutesAnswer}
-use Rattle.routes.specs.Answered.{routesAnswer}
-use Rattle.yard.specs.Routes.{routesAsked}
-use Rattle.exports.specs.Shown.{shown, leaves}
+use Rattle.route_walks.specs.Lent.{roomOf}
+use Rattle.route_lister.specs.declared.RoutesAnswer.{RoutesAnswer}
+use Rattle.route_lister.specs.Answered.{routesAnswer}
+use Rattle.route_question.specs.Routes.{routesAsked}
+use Rattle.c_values.specs.Shown.{shown, leaves}
 use Rattle.exports.proofs.Ways.{scrap-shown, scrap-leaves, scrap-words, listed-words}
 use borrow.Author.Needs.{needs}
 use Rattle.exports.proofs.yard_routes.Statement.{statement}

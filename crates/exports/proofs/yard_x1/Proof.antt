@@ -1,5 +1,4 @@
 -- `exports::yard_x1` meets its contract.
--- Assumes nothing.
 use borrow.Author.Needs.{needs}
 use Rattle.exports.proofs.yard_x1.Statement.{statement}
 use Rattle.exports.proofs.yard_x1.Tie as tie

@@ -1,5 +1,4 @@
 -- `exports::yard_x2` meets its contract.
--- Assumes nothing.
 use borrow.Author.Needs.{needs}
 use Rattle.exports.proofs.yard_x2.Statement.{statement}
 use Rattle.exports.proofs.yard_x2.Tie as tie

@@ -1,5 +1,4 @@
 -- `listings::route_lines` is safe and ends: the words that are left to print fall.
--- Assumes nothing.
 use Prim.Native.Nat.{_-_}
 use borrow.Author.Needs.{needs}
 use Rattle.listings.proofs.route_lines.Statement.{statement}

@@ -1,14 +1,13 @@
 -- `listings::routes` meets its contract.
--- Assumes nothing.
 use Prim.Native.Nat.{ℕ, _*_, _/_}
 use mathlib.Core.Path.{_≡_, sym, ap, _∙_}
 use mathlib.Core.List.{List}
 use native.Mathlib.Omega.{arith}
 use lib.Seq.{length-take-le}
-use Rattle.walks.specs.Lent.{wordSize}
+use Rattle.route_walks.specs.Lent.{wordSize}
 use Rattle.verdict.specs.Answers.{answerNumber}
-use Rattle.routes.specs.Answered.{routesAnswer}
-use Rattle.yard.specs.Routes.{routesAsked}
+use Rattle.route_lister.specs.Answered.{routesAnswer}
+use Rattle.route_question.specs.Routes.{routesAsked}
 use borrow.Author.Needs.{needs}
 use Rattle.listings.proofs.routes.Statement.{statement}
 use Rattle.listings.proofs.routes.Tie as tie
@@ -21,11 +20,11 @@ numbered f start limit budget n m e same = e ∙ ap (λ x. answerNumber (routesA
 halved : (n k m : ℕ) → wordSize * k ≡ n → k ≡ m → n / wordSize ≡ m
 halved n k m e same = omega arith
 
-slice-aggregate-answer-lines : tie.Need-slice-aggregate-answer-lines
-slice-aggregate-answer-lines c = sym (length-take-le _ _ (omega arith))
+slice-aggregate-answered : tie.Need-slice-aggregate-answered
+slice-aggregate-answered c = sym (length-take-le _ _ (omega arith))
 
 returns : tie.Need-returns
-returns c = numbered _ _ _ _ _ _ (c .before .answer-lines .ensures) (halved _ _ _ (slice-aggregate-answer-lines (c .before .before)) (c .before .before .before .least .ensures))
+returns c = numbered _ _ _ _ _ _ (c .before .answered .ensures) (halved _ _ _ (slice-aggregate-answered (c .before .before)) (c .before .before .before .least .ensures))
 
 pub routes-spec : {M : Type 1} → statement M
 routes-spec =
@@ -34,6 +33,6 @@ routes-spec =
     (λ c κs. search needs)
     (λ c. search needs)
     (λ c. search needs)
-    slice-aggregate-answer-lines
+    slice-aggregate-answered
     (λ c κs. search needs)
     returns)

@@ -1,5 +1,4 @@
 -- `names::code_count` meets its contract. A step of two bytes is a code.
--- Assumes nothing.
 use Rattle.names.specs.Names.{codeCount}
 use borrow.Author.Needs.{needs}
 use Rattle.names.proofs.code_count.Statement.{statement}

@@ -1,5 +1,4 @@
 -- `names::codes` meets its contract. The loop's invariant: what was found, and the test of the pairs from the k-th on, make the test of them all.
--- Assumes nothing.
 use Prim.Native.Nat.{_-_}
 use mathlib.Core.Path.{_≡_, refl, sym, _∙_}
 use mathlib.Core.Bool.{_&&_}

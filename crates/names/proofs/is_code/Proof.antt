@@ -1,5 +1,4 @@
 -- `names::is_code` meets its contract. What it computes is the test as it stands.
--- Assumes nothing.
 use mathlib.Core.Path.{refl}
 use Rattle.names.proofs.is_code.Statement.{statement}
 use Rattle.names.proofs.is_code.Tie as tie

@@ -1,5 +1,4 @@
 -- `names::is_name` meets its contract: `name-test` says that counting letters decides the rule.
--- Assumes nothing.
 use mathlib.Core.Path.{refl}
 use Rattle.names.proofs.Spelling.{name-test}
 use borrow.Author.Needs.{needs}

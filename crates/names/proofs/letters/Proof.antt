@@ -1,5 +1,4 @@
 -- `names::letters` meets its contract. The loop's invariant: only letters were passed.
--- Assumes nothing.
 use Prim.Native.Nat.{_-_, _≤_}
 use native.Mathlib.Omega.{arith}
 use borrow.Author.Count.{below-more}

@@ -1,5 +1,4 @@
 -- `names::name_length` meets its contract. A step of one byte is a byte.
--- Assumes nothing.
 use Rattle.names.proofs.Names.{name-counted}
 use borrow.Author.Needs.{needs}
 use Rattle.names.proofs.name_length.Statement.{statement}

@@ -1,5 +1,4 @@
 -- `names::object_name` meets its contract.
--- Assumes nothing.
 use borrow.Author.Needs.{needs}
 use Rattle.names.proofs.object_name.Statement.{statement}
 use Rattle.names.proofs.object_name.Tie as tie

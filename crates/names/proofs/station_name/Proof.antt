@@ -1,5 +1,4 @@
 -- `names::station_name` meets its contract. Each part of the test is what its function ensures.
--- Assumes nothing.
 use mathlib.Core.Path.{refl}
 use Rattle.names.specs.Names.{stationName}
 use borrow.Author.Needs.{needs}

@@ -1,5 +1,4 @@
 -- `names::steps` meets its contract. The loop's invariant: no step that was passed begins with a zero.
--- Assumes nothing.
 use Prim.Native.Nat.{ℕ, _*_, _-_, _≤_, _<_}
 use mathlib.Core.Path.{_≡_, sym, _∙_}
 use native.Mathlib.Nat.{mul-le-mul-right}

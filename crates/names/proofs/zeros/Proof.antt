@@ -1,5 +1,4 @@
 -- `names::zeros` meets its contract. The loop's invariant: only zeros were passed.
--- Assumes nothing.
 use Prim.Native.Nat.{ℕ, _-_, _≤_, _<_}
 use mathlib.Core.Path.{_≡_, _∙_}
 use borrow.Author.Count.{below-more}

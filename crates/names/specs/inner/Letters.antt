@@ -1,6 +1,5 @@
 -- How the code counts the bytes of an object's name; no reader of the rule need know it. Where only zeros follow, the count is the name's
 -- length.
--- Assumes nothing.
 use Prim.Native.Nat.{ℕ, _≤_, _<_}
 use mathlib.Core.List.{List}
 use Rattle.names.specs.Names.{objectBytes, leastByte, greatestByte, byteAfter}

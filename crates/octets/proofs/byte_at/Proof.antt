@@ -1,5 +1,4 @@
 -- `octets::byte_at` meets its contract.
--- Assumes nothing.
 use native.Mathlib.Omega.{arith}
 use Rattle.octets.proofs.Reading.{past}
 use borrow.Author.Needs.{needs}

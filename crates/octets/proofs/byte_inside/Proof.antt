@@ -1,5 +1,4 @@
 -- `octets::byte_inside` meets its contract.
--- Assumes nothing.
 use native.Mathlib.Omega.{arith}
 use Rattle.octets.proofs.Reading.{one}
 use borrow.Author.Needs.{needs}

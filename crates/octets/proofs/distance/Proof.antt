@@ -1,5 +1,4 @@
 -- `octets::distance` meets its contract: at or above 0 it is the number itself; below 0 it is one more than -1 - z.
--- Assumes nothing.
 use Prim.Native.Nat.{_+_}
 use mathlib.Core.Path.{ap, _∙_, subst⁻¹}
 use native.Mathlib.Omega.{arith}

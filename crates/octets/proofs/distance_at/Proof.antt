@@ -1,5 +1,4 @@
 -- `octets::distance_at` meets its contract.
--- Assumes nothing.
 use Rattle.octets.proofs.Signs.{halves, half-most, distance-of-number}
 use native.Mathlib.Omega.{arith}
 use borrow.Author.Needs.{needs}

@@ -1,5 +1,4 @@
 -- `octets::distance_of` meets its contract.
--- Assumes nothing.
 use Rattle.octets.proofs.Signs.{low-distance, high-distance}
 use borrow.Author.Needs.{needs}
 use Rattle.octets.proofs.distance_of.Statement.{statement}

@@ -1,5 +1,4 @@
 -- `octets::num_at` meets its contract.
--- Assumes nothing.
 use Rattle.octets.proofs.Reading.{of-width}
 use Rattle.octets.specs.declared.Width.the-variants.{One, Two, Three, Four}
 use borrow.Author.Needs.{needs}

@@ -1,5 +1,4 @@
 -- `octets::signed_at` meets its contract.
--- Assumes nothing.
 use Rattle.octets.proofs.Signs.{halves, half-most, of-number, kept}
 use native.Mathlib.Omega.{arith}
 use mathlib.Core.Path.{_∙_}

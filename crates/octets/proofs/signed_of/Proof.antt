@@ -1,5 +1,4 @@
 -- `octets::signed_of` meets its contract.
--- Assumes nothing.
 use Prim.Native.Nat.{_+_, _-_, _^_, _<_}
 use mathlib.Core.Path.{sym, ap, _∙_, subst⁻¹}
 use native.Mathlib.Omega.{arith}

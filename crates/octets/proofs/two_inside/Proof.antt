@@ -1,5 +1,4 @@
 -- `octets::two_inside` meets its contract.
--- Assumes nothing.
 use Rattle.octets.proofs.Reading.{more}
 use borrow.Author.Needs.{needs}
 use Rattle.octets.proofs.two_inside.Statement.{statement}

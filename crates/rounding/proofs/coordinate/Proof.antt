@@ -1,5 +1,4 @@
 -- `rounding::coordinate` meets its contract: inside the limits it finds the coordinate in two steps, else it says `Outside`.
--- Assumes nothing.
 use borrow.Author.Needs.{needs}
 use mathlib.Core.Path.{sym, ap, ap₂, _∙_}
 use native.Mathlib.Omega.{arith}

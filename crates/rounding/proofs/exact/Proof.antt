@@ -1,5 +1,4 @@
 -- `rounding::exact` meets its contract: each of its four steps is right (proofs/Steps.antt, 'the exact coordinate').
--- Assumes nothing.
 use borrow.Author.Needs.{needs}
 use Rattle.rounding.proofs.Steps.{fit, reads, start, rise, part, exact}
 use Rattle.rounding.proofs.exact.Statement.{statement}

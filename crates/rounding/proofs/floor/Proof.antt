@@ -1,6 +1,5 @@
 -- `rounding::floor` meets its contract: at or above 0 the machine's quotient is rounded down already; below 0, of z = -(a + 1), the quotient of a is
 -- taken, and its own -(q + 1) is the answer (proofs/Steps.antt, 'rounded down').
--- Assumes nothing.
 use borrow.Author.Needs.{needs}
 use Rattle.rounding.proofs.Steps.{fit, reads, up-quotient, below, below-quotient, down-quotient}
 use Rattle.rounding.proofs.floor.Statement.{statement}

@@ -1,5 +1,4 @@
 -- `rounding::inside` meets its contract: its test is the definition's, with the distances that `octets::distance` gives.
--- Assumes nothing.
 use borrow.Author.Needs.{needs}
 use mathlib.Core.Path.{ap, _∙_}
 use lib.IntN.{natAbs}

@@ -1,5 +1,4 @@
 -- `rounding::nearest` meets its contract: 2 num + den is in range (proofs/Steps.antt, 'the nearest'), and `floor` rounds the fraction down.
--- Assumes nothing.
 use borrow.Author.Needs.{needs}
 use mathlib.Core.Path.{ap, _∙_}
 use Prim.Native.Nat.{_*_}

@@ -1,5 +1,4 @@
 -- `rules::above` meets its contract.
--- Assumes nothing.
 use borrow.Author.Needs.{needs}
 use Rattle.rules.proofs.above.Statement.{statement}
 use Rattle.rules.proofs.above.Tie as tie

@@ -1,5 +1,4 @@
 -- `rules::between` meets its contract.
--- Assumes nothing.
 use borrow.Author.Needs.{needs}
 use Rattle.rules.proofs.between.Statement.{statement}
 use Rattle.rules.proofs.between.Tie as tie

@@ -1,5 +1,4 @@
 -- `rules::is_number` meets its contract.
--- Assumes nothing.
 use borrow.Author.Needs.{needs}
 use Rattle.rules.proofs.is_number.Statement.{statement}
 use Rattle.rules.proofs.is_number.Tie as tie

@@ -1,5 +1,4 @@
 -- `rules::same_as` meets its contract.
--- Assumes nothing.
 use borrow.Author.Needs.{needs}
 use Rattle.rules.proofs.same_as.Statement.{statement}
 use Rattle.rules.proofs.same_as.Tie as tie

@@ -1,5 +1,4 @@
 -- `rules::whole` meets its contract.
--- Assumes nothing.
 use borrow.Author.Needs.{needs}
 use Rattle.rules.proofs.whole.Statement.{statement}
 use Rattle.rules.proofs.whole.Tie as tie

@@ -1,5 +1,4 @@
 -- `rules::zero_at` meets its contract.
--- Assumes nothing.
 use borrow.Author.Needs.{needs}
 use Rattle.rules.proofs.zero_at.Statement.{statement}
 use Rattle.rules.proofs.zero_at.Tie as tie

@@ -1,5 +1,4 @@
 -- `sums::case_of` is safe and ends: the buffer has room for the longest case, so its first n bytes are n.
--- Assumes nothing.
 use mathlib.Core.Path.{sym}
 use native.Mathlib.Omega.{arith}
 use lib.Seq.{length-take-le}

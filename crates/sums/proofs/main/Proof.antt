@@ -1,5 +1,4 @@
 -- `sums::main` is safe and ends: the turns that are left fall with each case. Nothing has to hold from turn to turn.
--- Assumes nothing.
 use native.Mathlib.Omega.{arith}
 use Rattle.sums.proofs.main.Statement.{statement}
 use Rattle.sums.proofs.main.Tie as tie

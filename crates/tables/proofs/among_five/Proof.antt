@@ -1,5 +1,4 @@
 -- `tables::among_five` meets its contract.
--- Assumes nothing.
 use borrow.Author.Needs.{needs}
 use Rattle.tables.proofs.among_five.Statement.{statement}
 use Rattle.tables.proofs.among_five.Tie as tie

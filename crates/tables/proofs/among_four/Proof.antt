@@ -1,5 +1,4 @@
 -- `tables::among_four` meets its contract.
--- Assumes nothing.
 use borrow.Author.Needs.{needs}
 use Rattle.tables.proofs.among_four.Statement.{statement}
 use Rattle.tables.proofs.among_four.Tie as tie

@@ -1,5 +1,4 @@
 -- `tables::ask` meets its contract.
--- Assumes nothing.
 use borrow.Author.Needs.{needs}
 use Rattle.tables.proofs.ask.Statement.{statement}
 use Rattle.tables.proofs.ask.Tie as tie

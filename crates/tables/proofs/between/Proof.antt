@@ -1,5 +1,4 @@
 -- `tables::between` meets its contract.
--- Assumes nothing.
 use borrow.Author.Needs.{needs}
 use Rattle.tables.proofs.between.Statement.{statement}
 use Rattle.tables.proofs.between.Tie as tie

@@ -1,5 +1,4 @@
 -- `tables::bits_of` meets its contract.
--- Assumes nothing.
 use borrow.Author.Needs.{needs}
 use Rattle.tables.proofs.bits_of.Statement.{statement}
 use Rattle.tables.proofs.bits_of.Tie as tie

@@ -1,5 +1,4 @@
 -- `tables::equals` meets its contract.
--- Assumes nothing.
 use borrow.Author.Needs.{needs}
 use Rattle.tables.proofs.equals.Statement.{statement}
 use Rattle.tables.proofs.equals.Tie as tie

@@ -1,5 +1,4 @@
 -- `tables::exactly` meets its contract.
--- Assumes nothing.
 use borrow.Author.Needs.{needs}
 use Rattle.tables.proofs.exactly.Statement.{statement}
 use Rattle.tables.proofs.exactly.Tie as tie

@@ -1,5 +1,4 @@
 -- `tables::has_name` meets its contract.
--- Assumes nothing.
 use borrow.Author.Needs.{needs}
 use Rattle.tables.proofs.has_name.Statement.{statement}
 use Rattle.tables.proofs.has_name.Tie as tie

@@ -1,5 +1,4 @@
 -- `tables::has_part` meets its contract.
--- Assumes nothing.
 use borrow.Author.Needs.{needs}
 use Rattle.tables.proofs.has_part.Statement.{statement}
 use Rattle.tables.proofs.has_part.Tie as tie

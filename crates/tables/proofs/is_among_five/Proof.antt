@@ -1,5 +1,4 @@
 -- `tables::is_among_five` meets its contract.
--- Assumes nothing.
 use borrow.Author.Needs.{needs}
 use Rattle.tables.proofs.is_among_five.Statement.{statement}
 use Rattle.tables.proofs.is_among_five.Tie as tie

@@ -1,5 +1,4 @@
 -- `tables::lies_between` meets its contract.
--- Assumes nothing.
 use borrow.Author.Needs.{needs}
 use Rattle.tables.proofs.lies_between.Statement.{statement}
 use Rattle.tables.proofs.lies_between.Tie as tie

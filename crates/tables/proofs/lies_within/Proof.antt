@@ -1,5 +1,4 @@
 -- `tables::lies_within` meets its contract.
--- Assumes nothing.
 use borrow.Author.Needs.{needs}
 use Rattle.tables.proofs.lies_within.Statement.{statement}
 use Rattle.tables.proofs.lies_within.Tie as tie

@@ -1,5 +1,4 @@
 -- `tables::named` meets its contract.
--- Assumes nothing.
 use borrow.Author.Needs.{needs}
 use Rattle.tables.proofs.named.Statement.{statement}
 use Rattle.tables.proofs.named.Tie as tie

@@ -1,5 +1,4 @@
 -- `tables::number_between` meets its contract.
--- Assumes nothing.
 use borrow.Author.Needs.{needs}
 use Rattle.tables.proofs.number_between.Statement.{statement}
 use Rattle.tables.proofs.number_between.Tie as tie

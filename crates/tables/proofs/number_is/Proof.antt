@@ -1,5 +1,4 @@
 -- `tables::number_is` meets its contract.
--- Assumes nothing.
 use borrow.Author.Needs.{needs}
 use Rattle.tables.proofs.number_is.Statement.{statement}
 use Rattle.tables.proofs.number_is.Tie as tie

@@ -1,5 +1,4 @@
 -- `tables::number_of` meets its contract.
--- Assumes nothing.
 use borrow.Author.Needs.{needs}
 use Rattle.tables.proofs.number_of.Statement.{statement}
 use Rattle.tables.proofs.number_of.Tie as tie

@@ -1,5 +1,4 @@
 -- `tables::signed_of` meets its contract.
--- Assumes nothing.
 use borrow.Author.Needs.{needs}
 use Rattle.octets.proofs.Signs.{kept}
 use Rattle.tables.proofs.signed_of.Statement.{statement}

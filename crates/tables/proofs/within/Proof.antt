@@ -1,5 +1,4 @@
 -- `tables::within` meets its contract.
--- Assumes nothing.
 use borrow.Author.Needs.{needs}
 use Rattle.tables.proofs.within.Statement.{statement}
 use Rattle.tables.proofs.within.Tie as tie

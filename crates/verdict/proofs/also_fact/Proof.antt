@@ -1,5 +1,4 @@
 -- `verdict::also_fact` meets its contract: a refusal stays, and an acceptance stays where the fact holds.
--- Assumes nothing.
 use borrow.Author.Needs.{needs}
 use Rattle.verdict.proofs.Facts.{also-stays, also-holds, also-fails}
 use Rattle.verdict.proofs.also_fact.Statement.{statement}

@@ -1,5 +1,4 @@
 -- `yardask::ask` is safe: a file that was read fits its room.
--- Assumes nothing.
 use mathlib.Core.Path.{sym}
 use native.Mathlib.Omega.{arith}
 use lib.Seq.{length-take-le}

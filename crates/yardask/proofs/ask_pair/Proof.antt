@@ -1,5 +1,4 @@
 -- `yardask::ask_pair` is safe: files that were read fit their rooms.
--- Assumes nothing.
 use mathlib.Core.Path.{sym}
 use native.Mathlib.Omega.{arith}
 use lib.Seq.{length-take-le}

@@ -1,5 +1,4 @@
 -- `yardask::list_routes` is safe: a file that was read fits its room.
--- Assumes nothing.
 use mathlib.Core.Path.{sym}
 use native.Mathlib.Omega.{arith}
 use lib.Seq.{length-take-le}
@@ -7,8 +6,8 @@ use borrow.Author.Needs.{needs}
 use Rattle.yardask.proofs.list_routes.Statement.{statement}
 use Rattle.yardask.proofs.list_routes.Tie as tie
 
-slice-aggregate-routes : tie.Need-slice-aggregate-routes
-slice-aggregate-routes c = sym (length-take-le _ _ (omega arith))
+slice-aggregate-answer-routes : tie.Need-slice-aggregate-answer-routes
+slice-aggregate-answer-routes c = sym (length-take-le _ _ (omega arith))
 
 pub list-routes-spec : {M : Type 1} → statement M
 list-routes-spec =
@@ -19,6 +18,6 @@ list-routes-spec =
     (λ c κs. search needs)
     (λ c. search needs)
     (λ c. search needs)
-    slice-aggregate-routes
+    slice-aggregate-answer-routes
     (λ c κs. search needs)
     (λ c. search needs))

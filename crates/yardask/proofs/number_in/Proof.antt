@@ -1,5 +1,4 @@
 -- `yardask::number_in` is safe and ends: the number so far is at most the one that stands for none, so one digit more fits.
--- Assumes nothing.
 use Prim.Native.Nat.{_≤_, _-_}
 use borrow.Author.Needs.{needs}
 use Rattle.yardask.proofs.number_in.Statement.{statement}

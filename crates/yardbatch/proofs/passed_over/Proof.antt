@@ -1,5 +1,4 @@
 -- `yardbatch::passed_over` is safe and ends: what is left falls with each part.
--- Assumes nothing.
 use borrow.Author.Needs.{needs}
 use Rattle.yardbatch.proofs.passed_over.Statement.{statement}
 use Rattle.yardbatch.proofs.passed_over.Tie as tie

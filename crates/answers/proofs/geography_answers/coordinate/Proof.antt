@@ -1,7 +1,6 @@
 -- `answers::geography_answers::coordinate` meets its contract.
--- Assumes nothing.
 use mathlib.Core.Path.{refl}
-use Rattle.survey.specs.Answers.{coordinateAnswer}
+use Rattle.x1_questions.specs.Answers.{coordinateAnswer}
 use Rattle.answers.proofs.Numbers.{number-is}
 use borrow.Author.Needs.{needs}
 use Rattle.answers.proofs.geography_answers.coordinate.Statement.{statement}

@@ -1,5 +1,4 @@
 -- `answers::geography_answers::x1` meets its contract.
--- Assumes nothing.
 use borrow.Author.Needs.{needs}
 use Rattle.answers.proofs.geography_answers.x1.Statement.{statement}
 use Rattle.answers.proofs.geography_answers.x1.Tie as tie

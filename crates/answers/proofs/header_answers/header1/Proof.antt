@@ -1,7 +1,6 @@
 -- `answers::header_answers::header1` meets its contract.
--- Assumes nothing.
 use mathlib.Core.Path.{refl}
-use Rattle.survey.specs.Answers.{headerAnswer}
+use Rattle.x1_questions.specs.Answers.{headerAnswer}
 use Rattle.answers.proofs.Numbers.{number-is}
 use borrow.Author.Needs.{needs}
 use Rattle.answers.proofs.header_answers.header1.Statement.{statement}

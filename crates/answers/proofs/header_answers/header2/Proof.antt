@@ -1,7 +1,6 @@
 -- `answers::header_answers::header2` meets its contract.
--- Assumes nothing.
 use mathlib.Core.Path.{refl}
-use Rattle.application.specs.Answers.{namedHeaderAnswer}
+use Rattle.x2_verdict.specs.Answers.{namedHeaderAnswer}
 use Rattle.answers.proofs.Numbers.{number-is}
 use borrow.Author.Needs.{needs}
 use Rattle.answers.proofs.header_answers.header2.Statement.{statement}

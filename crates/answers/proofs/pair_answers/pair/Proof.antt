@@ -1,5 +1,4 @@
 -- `answers::pair_answers::pair` meets its contract.
--- Assumes nothing.
 use borrow.Author.Needs.{needs}
 use Rattle.answers.proofs.pair_answers.pair.Statement.{statement}
 use Rattle.answers.proofs.pair_answers.pair.Tie as tie

@@ -1,7 +1,6 @@
 -- `answers::record_answers::record` meets its contract.
--- Assumes nothing.
 use mathlib.Core.Path.{refl}
-use Rattle.application.specs.Answers.{recordAnswer}
+use Rattle.x2_verdict.specs.Answers.{recordAnswer}
 use Rattle.answers.proofs.Numbers.{number-is}
 use borrow.Author.Needs.{needs}
 use Rattle.answers.proofs.record_answers.record.Statement.{statement}

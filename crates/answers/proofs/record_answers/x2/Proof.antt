@@ -1,5 +1,4 @@
 -- `answers::record_answers::x2` meets its contract.
--- Assumes nothing.
 use borrow.Author.Needs.{needs}
 use Rattle.answers.proofs.record_answers.x2.Statement.{statement}
 use Rattle.answers.proofs.record_answers.x2.Tie as tie

@@ -1,5 +1,4 @@
 -- `octets::Width::half` meets its contract.
--- Assumes nothing.
 use mathlib.Core.Path.{sym, ap}
 use Rattle.octets.specs.Octets.{bytesOf, halfOf}
 use borrow.Author.Needs.{needs}

@@ -1,5 +1,4 @@
 -- `verdict::Judged::shown` meets its contract.
--- Assumes nothing.
 use mathlib.Core.Path.{_≡_}
 use borrow.Author.Needs.{needs}
 use Rattle.verdict.specs.Reasons.{faultOf, shownOf}

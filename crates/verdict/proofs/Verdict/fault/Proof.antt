@@ -1,5 +1,4 @@
 -- `verdict::Verdict::fault` meets its contract.
--- Assumes nothing.
 use mathlib.Core.Path.{sym, ap, _∙_}
 use borrow.Author.Needs.{needs}
 use Rattle.verdict.specs.Answers.{faultIn}

@@ -1,9 +1,0 @@
-pub mod Facts
-pub mod Obeys
-pub mod Checks
-pub mod Says
-pub mod Questions
-pub mod Answers
-pub mod Asked
-pub mod inner
-pub mod Values

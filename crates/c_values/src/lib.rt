@@ -1,0 +1,3 @@
+// What crosses to C: the one number that a question returns, and values as four bytes each (`include/yard.h`).
+pub mod values;
+pub mod words;

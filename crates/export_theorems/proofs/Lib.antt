@@ -1,0 +1,5 @@
+pub mod Back
+pub mod TakenApart
+pub mod Counts
+pub mod Fitting
+pub mod Fit

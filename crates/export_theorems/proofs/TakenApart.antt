@@ -1,0 +1,90 @@
+-- THEOREM: number, file and place come back from what each exported function returns, for every file and every question. The place is small
+-- enough for its four bytes (crate places), and every number of the paper for its one.
+use Prim.Native.Nat.{ℕ, _<_}
+use native.Mathlib.Omega.{arith}
+use mathlib.Core.Bool.{Bool, true, false, cond}
+use mathlib.Core.List.{List}
+use Rattle.verdict.specs.declared.Reason.the-variants.{Room}
+use Rattle.verdict.specs.declared.Verdict.{Verdict}
+use Rattle.verdict.specs.declared.Verdict.the-variants as verdict
+use Rattle.verdict.specs.declared.PairVerdict.{PairVerdict}
+use Rattle.verdict.specs.declared.PairVerdict.the-variants as pair
+use Rattle.verdict.specs.Reasons.{numberOf, numberIn, placeIn, pairNumberIn, pairPlaceIn, pairFileIn}
+use Rattle.verdict.specs.Answers.{Answer, answered, refused, answerPlace}
+use Rattle.x1_verdict.specs.Facts as geography
+use Rattle.x1_questions.specs.Answers.{headerAnswer, trackAnswer, pointAnswer, coordinateAnswer}
+use Rattle.x1_questions.specs.Questions.{headerOf, trackOf, pointOf, coordinateAsked}
+use Rattle.x2_verdict.specs.Facts as file
+use Rattle.x2_verdict.specs.Answers.{namedHeaderAnswer, recordAnswer}
+use Rattle.x2_verdict.specs.Questions.{namedHeaderOf, recordOf}
+use Rattle.pair.specs.Pair.{pairOf}
+use Rattle.route_lister.specs.Answered.{routesAnswer}
+use Rattle.route_question.specs.Routes.{routesAsked}
+use Rattle.places.specs.Places.{placeOver}
+use Rattle.places.proofs.X1.{x1-place}
+use Rattle.places.proofs.X2.{x2-place}
+use Rattle.places.proofs.Pair.{pair-place}
+use Rattle.places.proofs.Questions.{header1-place, header2-place, track-place, point-place, coordinate-place, record-place, routes-place}
+use Rattle.c_values.specs.Words.{overByte, answerWord, valueWords}
+use Rattle.c_values.specs.Shown.{short, wordsShown, verdictShown, pairShown}
+use Rattle.export_theorems.specs.TakenApart.{TakenApart, AnswerParts}
+use Rattle.c_values.proofs.Numbers.{number-back, file-back, place-back, number-fits, file-fits}
+
+word-parts : (number file place : ℕ) → number < overByte → file < overByte → place < placeOver → TakenApart (answerWord number file place) number file place
+word-parts number file place n f p = record {
+  number-is = number-back number file place n f (omega arith);
+  file-is = file-back number file place n f (omega arith);
+  place-is = place-back number file place n f (omega arith);
+}
+
+-- ---- the verdicts
+
+verdict-parts : (v : Verdict) → placeIn v < placeOver → TakenApart (verdictShown v) (numberIn v) 0 (placeIn v)
+verdict-parts verdict.Accepted h = word-parts 0 0 0 (omega arith) (omega arith) h
+verdict-parts (verdict.Refused t) h = word-parts (numberOf (t .reason)) 0 (t .place) (number-fits (t .reason)) (omega arith) h
+
+pub x1-parts : (f : List ℕ) → TakenApart (verdictShown (geography.verdictOf f)) (numberIn (geography.verdictOf f)) 0 (placeIn (geography.verdictOf f))
+x1-parts f = verdict-parts (geography.verdictOf f) (x1-place f)
+
+pub x2-parts : (f : List ℕ) → TakenApart (verdictShown (file.verdictOf f)) (numberIn (file.verdictOf f)) 0 (placeIn (file.verdictOf f))
+x2-parts f = verdict-parts (file.verdictOf f) (x2-place f)
+
+pub pair-parts : (f g : List ℕ) → TakenApart (pairShown (pairOf f g)) (pairNumberIn (pairOf f g)) (pairFileIn (pairOf f g)) (pairPlaceIn (pairOf f g))
+pair-parts f g = by-case (pairOf f g) (pair-place f g)
+  where
+    by-case : (v : PairVerdict) → pairPlaceIn v < placeOver → TakenApart (pairShown v) (pairNumberIn v) (pairFileIn v) (pairPlaceIn v)
+    by-case pair.Accepted h = word-parts 0 0 0 (omega arith) (omega arith) h
+    by-case (pair.Refused d t) h = word-parts (numberOf (t .reason)) _ (t .place) (number-fits (t .reason)) (file-fits d) h
+
+-- ---- the questions: an answer with values has the place 0
+
+answer-parts : (a : Answer) (out : List ℕ) → answerPlace a < placeOver → AnswerParts a out
+unfolding wordsShown
+answer-parts (answered values) out h = by-room (short (valueWords values) out)
+  where
+    by-room : (t : Bool) → TakenApart (cond t (answerWord (numberOf Room) 0 0) (answerWord 0 0 0)) (cond t (numberOf Room) 0) 0 0
+    by-room true = word-parts (numberOf Room) 0 0 (omega arith) (omega arith) (omega arith)
+    by-room false = word-parts 0 0 0 (omega arith) (omega arith) (omega arith)
+answer-parts (refused n t) out h = word-parts (numberOf (t .reason)) 0 (t .place) (number-fits (t .reason)) (omega arith) h
+
+module _ (out f : List ℕ) where
+  pub header1-parts : AnswerParts (headerAnswer (headerOf f)) out
+  header1-parts = answer-parts (headerAnswer (headerOf f)) out (header1-place f)
+
+  pub header2-parts : AnswerParts (namedHeaderAnswer (namedHeaderOf f)) out
+  header2-parts = answer-parts (namedHeaderAnswer (namedHeaderOf f)) out (header2-place f)
+
+  pub track-parts : (i : ℕ) → AnswerParts (trackAnswer (trackOf f i)) out
+  track-parts i = answer-parts (trackAnswer (trackOf f i)) out (track-place f i)
+
+  pub point-parts : (i j : ℕ) → AnswerParts (pointAnswer (pointOf f i j)) out
+  point-parts i j = answer-parts (pointAnswer (pointOf f i j)) out (point-place f i j)
+
+  pub coordinate-parts : (number x : ℕ) → AnswerParts (coordinateAnswer (coordinateAsked f number x)) out
+  coordinate-parts number x = answer-parts (coordinateAnswer (coordinateAsked f number x)) out (coordinate-place f number x)
+
+  pub record-parts : (x : ℕ) → AnswerParts (recordAnswer (recordOf f x)) out
+  record-parts x = answer-parts (recordAnswer (recordOf f x)) out (record-place f x)
+
+  pub routes-parts : (start limit budget room : ℕ) → AnswerParts (routesAnswer (routesAsked f start limit budget room)) out
+  routes-parts start limit budget room = answer-parts (routesAnswer (routesAsked f start limit budget room)) out (routes-place f start limit budget room)

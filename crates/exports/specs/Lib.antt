@@ -1,4 +1,0 @@
-pub mod Words
-pub mod Shown
-pub mod TakenApart
-pub mod Fit

@@ -1,9 +1,0 @@
-pub mod Places
-pub mod Groups
-pub mod Layout
-pub mod Facts
-pub mod Records
-pub mod Obeys
-pub mod Faults
-pub mod Says
-pub mod inner

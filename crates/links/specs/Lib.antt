@@ -1,5 +1,0 @@
-pub mod Links
-pub mod Obeys
-pub mod Faults
-pub mod Says
-pub mod inner

@@ -1,0 +1,5 @@
+pub mod Obeys
+pub mod Numbers
+pub mod Whole
+pub mod Plain
+pub mod Speaks

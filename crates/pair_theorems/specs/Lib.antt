@@ -1,0 +1,3 @@
+pub mod Obeys
+pub mod Faults
+pub mod Says

@@ -1,0 +1,24 @@
+-- Each public function of crate route_graph: what its own contract allows is one answer.
+use mathlib.Core.Path.{refl}
+use Rattle.promises.specs.Determined.{Determined}
+use Rattle.promises.proofs.Equations.{by-equation}
+use Rattle.route_graph.proofs.PlainLinks.onward.Kinds as plainlinks-onward-kinds
+use Rattle.route_graph.proofs.PlainLinks.onward.Reads as plainlinks-onward-reads
+use Rattle.route_graph.proofs.Object.edge_link.Kinds as object-edge-link-kinds
+use Rattle.route_graph.proofs.Object.edge_link.Reads as object-edge-link-reads
+use Rattle.route_graph.proofs.object_at.Kinds as object-at-kinds
+use Rattle.route_graph.proofs.object_at.Reads as object-at-reads
+use Rattle.route_graph.proofs.boundary_at.Kinds as boundary-at-kinds
+use Rattle.route_graph.proofs.boundary_at.Reads as boundary-at-reads
+
+pub plainlinks-onward-determined : Determined 0 plainlinks-onward-kinds.ps plainlinks-onward-kinds.r plainlinks-onward-reads.Pre plainlinks-onward-reads.Post
+plainlinks-onward-determined κs a = by-equation (λ v w. refl)
+
+pub object-edge-link-determined : Determined 0 object-edge-link-kinds.ps object-edge-link-kinds.r object-edge-link-reads.Pre object-edge-link-reads.Post
+object-edge-link-determined κs a = by-equation (λ v w. refl)
+
+pub object-at-determined : Determined 1 object-at-kinds.ps object-at-kinds.r object-at-reads.Pre object-at-reads.Post
+object-at-determined κs a = by-equation (λ v w. refl)
+
+pub boundary-at-determined : Determined 0 boundary-at-kinds.ps boundary-at-kinds.r boundary-at-reads.Pre boundary-at-reads.Post
+boundary-at-determined κs a = by-equation (λ v w. refl)

@@ -1,0 +1,4 @@
+pub mod Places
+pub mod Sections
+pub mod Told
+pub mod TableFails

@@ -1,0 +1,37 @@
+-- What a path holds, and the words of a route, stored one after the other.
+use Prim.Native.Nat.{ℕ, suc, _+_, _<_}
+use native.Mathlib.Numerals.{add-one}
+use native.Mathlib.Omega.{arith}
+use mathlib.Core.Path.{_≡_, sym, ap, _∙_}
+use mathlib.Core.Bool.{Bool, _||_}
+use mathlib.Core.List.{List, [], _∷_, _++_}
+use lib.ListN.{length, getD, take, set}
+use lib.Seq.{take-suc, length-take-le, take-suc-set, take-take, take-set-le}
+use lib.Dec.{eqb}
+use Rattle.route_walks.specs.Walks.{has}
+use Rattle.route_walks.specs.Lent.{lay, lays}
+use Rattle.route_walks.proofs.Paths.{has-more}
+use Rattle.route_walks.proofs.Lent.{lays-append}
+
+-- one turn of the loop of `passed`
+pub looked-more : (path : List ℕ) (i x : ℕ) (found : Bool) → i < length path → found ≡ has (take i path) x → (found || eqb (getD path i 0) x) ≡ has (take (i + 1) path) x
+looked-more path i x found h e = ap (λ (b : Bool). b || eqb (getD path i 0) x) e ∙ sym (rw (add-one i, take-suc path i 0 h) (has-more (take i path) (getD path i 0) x))
+
+-- one word more
+lays-snoc : (out : List ℕ) (k : ℕ) (ws : List ℕ) (w : ℕ) → lays out k (ws ++ (w ∷ [])) ≡ lay (lays out k ws) (k + length ws) w
+unfolding lays
+lays-snoc out k ws w = lays-append out k ws (w ∷ [])
+
+-- one turn of the loop of `put`
+pub put-more : (out : List ℕ) (at i : ℕ) (path q q′ : List ℕ) → i < length path → q ≡ lays out (suc at) (take i path) → q′ ≡ lay q (at + 1 + i) (getD path i 0) → q′ ≡ lays out (suc at) (take (i + 1) path)
+put-more out at i path q q′ h e e′ =
+    let l : length (take i path) ≡ i = length-take-le i path (omega arith) in
+    let k : at + 1 + i ≡ suc at + length (take i path) = omega arith in
+    rw (e′, e, add-one i, take-suc path i 0 h, lays-snoc out (suc at) (take i path) (getD path i 0)) (ap (λ (j : ℕ). lay (lays out (suc at) (take i path)) j (getD path i 0)) k)
+
+-- what the path holds after the store of an object, and that what lies below n is kept by a call that keeps what lies below n + 1
+pub path-more : (path : List ℕ) (n x : ℕ) → n < length path → take (n + 1) (set path n x) ≡ take n path ++ (x ∷ [])
+path-more path n x h = rw add-one (take-suc-set path n x h)
+
+pub kept-below : (a b : List ℕ) (n x : ℕ) → take (n + 1) a ≡ take (n + 1) (set b n x) → take n a ≡ take n b
+kept-below a b n x e = sym (take-take n (n + 1) a (omega arith)) ∙ ap (take n) e ∙ take-take n (n + 1) (set b n x) (omega arith) ∙ take-set-le n b n x (omega arith)

@@ -1,0 +1,176 @@
+// The lister. Following one link and branching at a turnout call each other; the objects still allowed by the limit fall.
+ghost use mathlib.Core.Path.{_≡_};
+ghost use lib.ListN.{take};
+ghost use Rattle.route_graph.specs.Objects.{objectAt, edgeLink};
+ghost use Rattle.route_walks.specs.Lent.{roomOf};
+ghost use Rattle.route_walks.specs.Range.{Bounds};
+ghost use Rattle.route_lister.specs.inner.Ready.{Ready, Followed, Branched, PassedOver};
+ghost use Rattle.route_lister.specs.Answered.{limitOf, inRange, refusedFor, answerIn, leftIn};
+use crate::DEFAULT_LIMIT;
+use crate::RoutesAnswer;
+use crate::steps::arrived;
+use crate::steps::opened;
+use crate::steps::passed;
+use route_graph::Object;
+use route_graph::TurnoutLinks;
+use route_graph::boundary_at;
+use route_graph::object_at;
+use route_walks::BUDGET_LEAST;
+use route_walks::BUDGET_MOST;
+use route_walks::LIMIT_LEAST;
+use route_walks::LIMIT_MOST;
+use route_walks::Tally;
+use route_walks::WORD_SIZE;
+use verdict::Reason;
+use verdict::refusal;
+use x2_layout::Layout;
+
+// Follows the link `to` of the object `from`, which is the last of the n in path: opens each partial walk that goes on by it with at most
+// `left` objects more. Stops once the walks outnumber the budget.
+fn follow(
+    f: &[u8],
+    l: Layout,
+    from: u16,
+    to: u16,
+    path: &mut [u16],
+    n: usize,
+    left: usize,
+    budget: usize,
+    out: &mut [u8],
+    t: Tally,
+) -> Tally
+    requires { ⌜ Ready budget (now path) n left t ⌝ }
+    ensures kept { λ _. ⌜ take n (now (path .exit)) ≡ take n (now (path .entry)) ⌝ }
+    ensures grown { λ r. ⌜ Followed (now (f .entry)) l from to (take n (now (path .entry))) left budget t r (now (out .entry)) (now (out .exit)) ⌝ }
+{
+    if to == 0 {
+        return t;
+    }
+    if left == 0 {
+        return t;
+    }
+    if budget < t.walks {
+        return t;
+    }
+    if passed(path, n, to) {
+        return t;
+    }
+    path[n] = to;
+    let u = opened(t);
+    match object_at(f, l, to) {
+        Object::Boundary(_) => arrived(path, n + 1, out, t),
+        Object::Plain(p) => {
+            let next = p.onward(from);
+            follow(f, l, to, next, path, n + 1, left - 1, budget, out, u)
+        }
+        Object::Turnout(j) => branch(f, l, from, to, j, path, n + 1, left - 1, budget, out, u),
+        Object::Nothing => u,
+    }
+}
+
+// Goes on from the turnout `at`, the last of the n in path, which was entered from `from`: from the front by normal and then by reverse,
+// from either leg by the front.
+fn branch(
+    f: &[u8],
+    l: Layout,
+    from: u16,
+    at: u16,
+    links: TurnoutLinks,
+    path: &mut [u16],
+    n: usize,
+    left: usize,
+    budget: usize,
+    out: &mut [u8],
+    t: Tally,
+) -> Tally
+    requires { ⌜ Ready budget (now path) n left t ⌝ }
+    ensures kept { λ _. ⌜ take n (now (path .exit)) ≡ take n (now (path .entry)) ⌝ }
+    ensures grown { λ r. ⌜ Branched (now (f .entry)) l from at links (take n (now (path .entry))) left budget t r (now (out .entry)) (now (out .exit)) ⌝ }
+{
+    let front = links.front;
+    let normal = links.normal;
+    let reverse = links.reverse;
+    if front == from {
+        let u = follow(f, l, at, normal, path, n, left, budget, out, t);
+        return follow(f, l, at, reverse, path, n, left, budget, out, u);
+    }
+    follow(f, l, at, front, path, n, left, budget, out, t)
+}
+
+// One pass over the partial walks from the boundary `start`, whose link is `first`: counts them, and stores the words of the routes as far
+// as there is room.
+fn pass(
+    f: &[u8],
+    l: Layout,
+    start: u16,
+    first: u16,
+    limit: usize,
+    budget: usize,
+    out: &mut [u8],
+) -> Tally
+    requires { ⌜ Bounds limit budget × (first ≡ edgeLink (objectAt (now f) l start)) ⌝ }
+    ensures { λ r. ⌜ PassedOver (now (f .entry)) l start limit budget r (now (out .entry)) (now (out .exit)) ⌝ }
+{
+    let mut path = [0u16; LIMIT_MOST];
+    path[0] = start;
+    let t = Tally {
+        walks: 1,
+        routes: 0,
+        words: 0,
+    };
+    follow(f, l, start, first, &mut path, 1, limit - 1, budget, out, t)
+}
+
+// The limit that is meant.
+fn limit_of(limit: usize) -> usize
+    ensures { λ r. ⌜ r ≡ limitOf limit ⌝ }
+{
+    if limit == 0 { DEFAULT_LIMIT } else { limit }
+}
+
+// Whether a question is in range; `asked`: it starts at a boundary.
+fn in_range(asked: bool, limit: usize, budget: usize) -> bool
+    ensures { λ r. ⌜ r ≡ inRange asked limit budget ⌝ }
+{
+    asked
+        & ((LIMIT_LEAST <= limit)
+            & ((limit <= LIMIT_MOST) & ((BUDGET_LEAST <= budget) & (budget <= BUDGET_MOST))))
+}
+
+// The answer that is refused for a reason.
+fn refused(reason: Reason) -> RoutesAnswer
+    ensures { λ r. ⌜ r ≡ refusedFor reason ⌝ }
+{
+    RoutesAnswer::Refused(refusal(reason))
+}
+
+// Every route from the boundary `start`, in order, with the numbers of the listing. The words go to the front of `out`, two bytes each, low
+// byte first; a refusal leaves every byte of it as it was. The first pass is lent no byte and counts.
+pub fn list(
+    f: &[u8],
+    l: Layout,
+    start: usize,
+    limit: usize,
+    budget: usize,
+    out: &mut [u8],
+) -> RoutesAnswer
+    ensures answered { λ r. ⌜ r ≡ answerIn (now (f .entry)) l start limit budget (roomOf (now (out .entry))) ⌝ }
+    ensures written { λ _. ⌜ now (out .exit) ≡ leftIn (now (f .entry)) l start limit budget (now (out .entry)) ⌝ }
+{
+    let most = limit_of(limit);
+    let asked = boundary_at(l, start);
+    if !in_range(asked, most, budget) {
+        return refused(Reason::Question);
+    }
+    let at = start as u16;
+    let first = object_at(f, l, at).edge_link();
+    let none = 0;
+    let counted = pass(f, l, at, first, most, budget, &mut out[..none]);
+    if budget < counted.walks {
+        return refused(Reason::Steps);
+    }
+    if out.len() / WORD_SIZE < counted.words {
+        return refused(Reason::Room);
+    }
+    RoutesAnswer::Listed(pass(f, l, at, first, most, budget, out))
+}

@@ -1,5 +1,0 @@
-pub mod Stores
-pub mod Turn
-pub mod Whole
-pub mod Listing
-pub mod OneList

@@ -1,5 +1,0 @@
-pub mod Pair
-pub mod Obeys
-pub mod Faults
-pub mod Says
-pub mod inner

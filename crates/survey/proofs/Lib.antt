@@ -1,6 +1,0 @@
-pub mod Stretches
-pub mod Questions
-pub mod Coordinates
-pub mod Asked
-pub mod Points
-pub mod Ranges

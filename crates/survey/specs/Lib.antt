@@ -1,6 +1,0 @@
-pub mod Stretch
-pub mod Questions
-pub mod Answers
-pub mod Coordinate
-pub mod Asked
-pub mod inner

@@ -1,5 +1,0 @@
-pub mod Legal
-pub mod Walks
-pub mod All
-pub mod Lent
-pub mod inner

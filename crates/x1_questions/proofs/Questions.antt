@@ -1,0 +1,141 @@
+-- The questions, one law for each way out of the code: the file's own fault; then, in an accepted file, what each test decides.
+use Prim.Native.Nat.{ℕ, _+_, _*_, _≤_, _<_}
+use mathlib.Core.Path.{_≡_, sym, ap, _∙_}
+use mathlib.Core.List.{List}
+use native.Mathlib.Omega.{arith}
+use borrow.Author.Tests.{lt-ltb, le-ltb, le-leb, lt-leb}
+use Rattle.verdict.specs.declared.Reason.the-variants as reason
+use Rattle.verdict.specs.declared.Fault.{Fault}
+use Rattle.verdict.specs.declared.Verdict.{Verdict}
+use Rattle.verdict.specs.declared.Verdict.the-variants as verdict
+use Rattle.verdict.specs.Answers.{refusal}
+use Rattle.verdict.proofs.Questions.{fault-is, no-fault}
+use Rattle.envelope.specs.declared.Header.{Header}
+use Rattle.envelope.specs.Header.{headerIn}
+use Rattle.envelope.specs.Seal.{mostLength}
+use Rattle.x1_records.specs.Places as place
+use Rattle.x1_records.specs.Tracks.{trackAt, pointAt, pointsIn}
+use Rattle.x1_records.specs.declared.Track.{Track}
+use Rattle.x1_records.specs.declared.Point.{Point}
+use Rattle.x1_layout.specs.Layout.{countOf, firstOf, lastOf}
+use Rattle.x1_verdict.specs.Facts.{verdictOf}
+use Rattle.x1_verdict.specs.Obeys.{entryPlace, pointPlace}
+use Rattle.x1_lookup.specs.Lookup.{findTrack}
+use Rattle.x1_lookup.specs.declared.Found.{Found}
+use Rattle.x1_lookup.specs.declared.Found.the-variants.{At, Absent}
+use Rattle.x1_lookup.proofs.Lookup.{verdict-obeys}
+use Rattle.x1_questions.specs.Stretch.{endPositionOf, stretchOf, coordinateOn}
+use Rattle.x1_questions.specs.Questions.{headerOf, trackIn, trackOf, pointIn, pointOf, onStretch, onTrack, onFound, coordinateAsked}
+use Rattle.x1_questions.specs.declared.answers.HeaderAnswer.the-variants as header
+use Rattle.x1_questions.specs.declared.answers.TrackAnswer.the-variants as track
+use Rattle.x1_questions.specs.declared.answers.PointAnswer.the-variants as point
+use Rattle.x1_questions.specs.declared.answers.Coordinate.{Coordinate}
+use Rattle.x1_questions.specs.declared.answers.CoordinateAnswer.{CoordinateAnswer}
+use Rattle.x1_questions.specs.declared.answers.CoordinateAnswer.the-variants as coordinate
+use Rattle.x1_questions.proofs.Stretches.{track-obeys, named-iff}
+
+-- ---- the file's own fault first
+
+-- THEOREM: each question first gives its file's own fault.
+pub file-fault : (f : List ℕ) (t : Fault) → verdictOf f ≡ verdict.Refused t
+    → (headerOf f ≡ header.Refused t) × ((i : ℕ) → trackOf f i ≡ track.Refused t) × ((i j : ℕ) → pointOf f i j ≡ point.Refused t) × ((number x : ℕ) → coordinateAsked f number x ≡ coordinate.Refused t)
+unfolding headerOf trackOf pointOf coordinateAsked
+file-fault f t g = (
+  fault-is header.Refused (verdictOf f) t _ g,
+  λ i. fault-is track.Refused (verdictOf f) t _ g,
+  λ i j. fault-is point.Refused (verdictOf f) t _ g,
+  λ number x. fault-is coordinate.Refused (verdictOf f) t _ g,
+)
+
+-- ---- the header: v is the verdict as it was found, h what was read
+
+pub header-there : (f : List ℕ) {v : Verdict} → v ≡ verdictOf f → v ≡ verdict.Accepted → {h : Header} → h ≡ headerIn f → header.Header h ≡ headerOf f
+unfolding headerOf
+header-there f e g q = ap header.Header q ∙ sym (no-fault header.Refused (verdictOf f) (header.Header (headerIn f)) (sym e ∙ g))
+
+-- ---- track i: v is the verdict as it was found, n the count of tracks, at the entry's place, r what was read there
+
+module _ (f : List ℕ) {v : Verdict} (e : v ≡ verdictOf f) (g : v ≡ verdict.Accepted) {n : ℕ} (c : n ≡ countOf f) (i : ℕ) where
+  pub track-none : n ≤ i → {t : Fault} → t ≡ refusal reason.Question → track.Refused t ≡ trackOf f i
+  unfolding trackOf
+  track-none h q = ap track.Refused q ∙ sym (no-fault track.Refused (verdictOf f) (trackIn f i) (sym e ∙ g) ∙ rw (le-ltb i (countOf f) (omega arith)))
+
+  pub track-there : i < n → {at : ℕ} {r : Track} → at ≡ entryPlace i → r ≡ trackAt f at → track.Track r ≡ trackOf f i
+  unfolding trackOf
+  track-there h p q =
+      ap track.Track (q ∙ ap (trackAt f) p) ∙ sym (no-fault track.Refused (verdictOf f) (trackIn f i) (sym e ∙ g) ∙ rw (lt-ltb i (countOf f) (omega arith)))
+
+  -- ---- point j of track i: m is the count of its points
+
+  module _ (j : ℕ) where
+    pub point-no-track : n ≤ i → {t : Fault} → t ≡ refusal reason.Question → point.Refused t ≡ pointOf f i j
+    unfolding pointOf
+    point-no-track h q = ap point.Refused q ∙ sym (no-fault point.Refused (verdictOf f) _ (sym e ∙ g) ∙ rw (le-ltb i (countOf f) (omega arith)))
+
+    module _ (h : i < n) {at m : ℕ} {r : Track} (p : at ≡ entryPlace i) (q : r ≡ trackAt f at) (s : m ≡ pointsIn place.pointSize (r .first) (r .last)) where
+      there : pointOf f i j ≡ pointIn f place.pointSize (entryPlace i) j
+      unfolding pointOf
+      there = no-fault point.Refused (verdictOf f) _ (sym e ∙ g) ∙ rw (lt-ltb i (countOf f) (omega arith))
+
+      entry-read : r ≡ trackAt f (entryPlace i)
+      entry-read = q ∙ ap (trackAt f) p
+
+      first-read : r .first ≡ firstOf f (entryPlace i)
+      unfolding trackAt
+      first-read = ap (λ (x : Track). x .first) entry-read
+
+      count-read : m ≡ pointsIn place.pointSize (firstOf f (entryPlace i)) (lastOf f (entryPlace i))
+      unfolding trackAt
+      count-read = s ∙ ap (λ (x : Track). pointsIn place.pointSize (x .first) (x .last)) entry-read
+
+      pub point-none : m ≤ j → {t : Fault} → t ≡ refusal reason.Question → point.Refused t ≡ pointOf f i j
+      point-none k u =
+          let z = count-read in
+          ap point.Refused u ∙ sym (there ∙ rw (le-ltb j (pointsIn place.pointSize (firstOf f (entryPlace i)) (lastOf f (entryPlace i))) (omega arith)))
+
+      pub point-in-file : j < m → r .first + place.pointSize * j ≤ mostLength
+      point-in-file k =
+          let o = track-obeys f ((verdict-obeys f) .0 (sym e ∙ g)) i (omega arith) in
+          let l = o .in-file in
+          let y = first-read in
+          let z = count-read in
+          let w = (named-iff f place.pointSize (entryPlace i) (omega arith) o j) .0 (omega arith) in
+          omega arith
+
+      pub point-there : j < m → {to : ℕ} {u : Point} → to ≡ r .first + place.pointSize * j → u ≡ pointAt f to → point.Point u ≡ pointOf f i j
+      point-there k {to} a b =
+          let z = count-read in
+          let y = first-read in
+          let w : to ≡ pointPlace f place.pointSize (entryPlace i) j = omega arith in
+          ap point.Point (b ∙ ap (pointAt f) w) ∙ sym (there ∙ rw (lt-ltb j (pointsIn place.pointSize (firstOf f (entryPlace i)) (lastOf f (entryPlace i))) (omega arith)))
+
+-- ---- the coordinate at position x of the track whose entry is at e: n is its end position, s its stretch as it was found
+
+module _ (f : List ℕ) (size e x : ℕ) {n : ℕ} (c : n ≡ endPositionOf f e) where
+  pub beyond-end : n < x → {t : Fault} → t ≡ refusal reason.Position → coordinate.Refused t ≡ onTrack f size e x
+  unfolding onTrack
+  beyond-end h q = ap coordinate.Refused q ∙ sym (rw (lt-leb x (endPositionOf f e) (omega arith)))
+
+  module _ (h : x ≤ n) {s : Found} (q : s ≡ stretchOf f size e x) where
+    by-stretch : (o : Found) → s ≡ o → onTrack f size e x ≡ onStretch f size e x o
+    unfolding onTrack
+    by-stretch o w = rw (le-leb x (endPositionOf f e) (omega arith)) (ap (onStretch f size e x) (sym q ∙ w))
+
+    pub no-stretch : s ≡ Absent → {t : Fault} → t ≡ refusal reason.Position → coordinate.Refused t ≡ onTrack f size e x
+    no-stretch w u = ap coordinate.Refused u ∙ sym (by-stretch Absent w)
+
+    pub along-stretch : {p : ℕ} → s ≡ At p → {r : Coordinate} → r ≡ coordinateOn f size e x p → coordinate.Coordinate r ≡ onTrack f size e x
+    along-stretch {p} w u = ap coordinate.Coordinate u ∙ sym (by-stretch (At p) w)
+
+-- ---- the coordinate at position x of the track with a number: s is the track as it was found
+
+module _ (f : List ℕ) (number x : ℕ) {v : Verdict} (e : v ≡ verdictOf f) (g : v ≡ verdict.Accepted) {s : Found} (q : s ≡ findTrack f number) where
+  by-track : (o : Found) → s ≡ o → coordinateAsked f number x ≡ onFound f place.pointSize x o
+  unfolding coordinateAsked
+  by-track o w = no-fault coordinate.Refused (verdictOf f) _ (sym e ∙ g) ∙ ap (onFound f place.pointSize x) (sym q ∙ w)
+
+  pub no-track : s ≡ Absent → {t : Fault} → t ≡ refusal reason.Track → coordinate.Refused t ≡ coordinateAsked f number x
+  no-track w u = ap coordinate.Refused u ∙ sym (by-track Absent w)
+
+  pub along-track : {p : ℕ} → s ≡ At p → {r : CoordinateAnswer} → r ≡ onTrack f place.pointSize p x → r ≡ coordinateAsked f number x
+  along-track {p} w u = u ∙ sym (by-track (At p) w)

@@ -1,0 +1,206 @@
+-- THEOREM: whatever a question on an X.1 file answers lies in 01's ranges, since only an accepted file is answered of. An increment has no
+-- range of its own: the start and what it adds up to have one each, so that it is at most twice as far from 0.
+use Prim.Native.Nat.{ℕ, suc, _+_, _-_, _≤_, _<_}
+use mathlib.Core.Path.{_≡_, refl, sym, ap, subst, _∙_}
+use mathlib.Core.Bool.{Bool, true, false, cond}
+use mathlib.Core.Logic.{⊎-elim}
+use mathlib.Core.List.{List}
+use lib.Dec.{ltb}
+use lib.IntN.{ℤ, natAbs, _+ℤ_, _-ℤ_, +ℤ-comm, +ℤ-negℤ-cancel}
+use native.Mathlib.Omega.{arith}
+use borrow.Author.Tests.{ltb-true, le-ltb}
+use Rattle.verdict.specs.declared.Reason.the-variants as reason
+use Rattle.verdict.specs.declared.Fault.{Fault}
+use Rattle.verdict.specs.declared.Verdict.the-variants as verdict
+use Rattle.verdict.specs.Answers.{refusal, answerNumber}
+use Rattle.verdict.proofs.Orders.{le-or-lt}
+use Rattle.verdict.proofs.Questions.{accepted-by, some-number}
+use Rattle.envelope.specs.declared.Header.{Header}
+use Rattle.envelope.specs.Header.{headerIn}
+use Rattle.envelope.specs.Seal.{mostLength}
+use Rattle.tables.specs.Table.{signedOf}
+use Rattle.x1_records.specs.Places.{pointSize}
+use Rattle.x1_records.specs.Rows as rows
+use Rattle.x1_records.specs.Tracks.{trackAt, pointAt, pointsIn}
+use Rattle.x1_records.specs.declared.Track.{Track}
+use Rattle.x1_records.specs.declared.Point.{Point}
+use Rattle.x1_layout.specs.Layout.{countOf, firstOf, lastOf}
+use Rattle.x1_verdict.specs.Facts.{verdictOf}
+use Rattle.x1_verdict.specs.Obeys.{Between, Within, entryPlace, pointPlace, Obeys}
+use Rattle.rounding.proofs.Ends.{coordinate-only, coordinate-size}
+use Rattle.rounding.proofs.Sizes.{minus-size}
+use Rattle.x1_lookup.specs.Lookup.{findTrack}
+use Rattle.x1_lookup.specs.declared.Found.{Found}
+use Rattle.x1_lookup.specs.declared.Found.the-variants.{At, Absent}
+use Rattle.x1_lookup.proofs.Lookup.{verdict-obeys, absent-iff}
+use Rattle.x1_questions.specs.declared.answers.HeaderAnswer.the-variants as header
+use Rattle.x1_questions.specs.declared.answers.TrackAnswer.the-variants as track
+use Rattle.x1_questions.specs.declared.answers.PointAnswer.the-variants as point
+use Rattle.x1_questions.specs.declared.answers.Coordinate.{Coordinate}
+use Rattle.x1_questions.specs.declared.answers.CoordinateAnswer.the-variants as coordinate
+use Rattle.x1_questions.specs.Answers.{headerAnswer, trackAnswer, pointAnswer, coordinateAnswer}
+use Rattle.x1_questions.specs.Stretch.{endPositionOf, positionOf, latitudeOf, longitudeOf}
+use Rattle.x1_questions.specs.Coordinate.{Neighbours, NearestAt, CoordinateAt}
+use Rattle.x1_questions.specs.inner.Requires.{TrackObeys}
+use Rattle.x1_questions.specs.Questions.{headerOf, trackIn, trackOf, pointIn, pointOf, onFound, coordinateAsked}
+use Rattle.x1_questions.proofs.Stretches.{track-obeys, found-obeys, named-iff, point-in}
+use Rattle.x1_theorems.proofs.Points.{point-obeys}
+use Rattle.x1_theorems.proofs.Coordinates.{coordinate-nearest, position-refused, track-refused}
+
+-- ---- the ranges
+
+pub record HeaderRange (h : Header) : Type 0 where
+  pub structure : h .structure ≡ 1
+  pub version : Between 1 65535 (h .«data»)
+  pub station : Between 1 65535 (h .station)
+
+pub record TrackRange (t : Track) : Type 0 where
+  pub number : Between 1 255 (t .number)
+  pub property : Between 1 5 (t .property)
+  pub start-position : t .«start_position» ≡ 0
+  pub start-latitude : Within 324000000 (t .«start_latitude»)
+  pub start-longitude : Within 648000000 (t .«start_longitude»)
+  pub end-position : Between 0 2147483647 (t .«end_position»)
+  pub end-latitude : Within 324000000 (t .«end_latitude»)
+  pub end-longitude : Within 648000000 (t .«end_longitude»)
+  -- the places of the first and the last point, in the file, and how many points there are
+  pub first : t .first < t .last
+  pub last : t .last ≤ mostLength
+  pub points : Between 2 mostLength (pointsIn pointSize (t .first) (t .last))
+
+pub record PointRange (p : Point) : Type 0 where
+  pub position : Between 0 2147483647 (p .position)
+  pub latitude-increment : Within 648000000 (p .«latitude_increment»)
+  pub longitude-increment : Within 1296000000 (p .«longitude_increment»)
+  pub heading : Within 31416 (p .heading)
+  pub near : Between 0 1 (p .near)
+
+pub record CoordinateRange (c : Coordinate) : Type 0 where
+  pub latitude : Within 324000000 (c .latitude)
+  pub longitude : Within 648000000 (c .longitude)
+
+-- ---- what was chosen: of two answers the one that is not refused
+
+chosen : {A : Type 0} (t : Bool) (a b c : A) → ¬ (b ≡ c) → cond t a b ≡ c → (t ≡ true) × (a ≡ c)
+chosen true a b c n e = (refl, e)
+chosen false a b c n e = absurd (n e)
+
+-- what leads from x to a number is no farther from 0 than both together
+step-size : (x y : ℤ) (m : ℕ) → natAbs x ≤ m → natAbs (x +ℤ y) ≤ m → natAbs y ≤ m + m
+step-size x y m h k =
+    let e : x +ℤ y -ℤ x ≡ y = ap (λ (z : ℤ). z -ℤ x) (+ℤ-comm x y) ∙ +ℤ-negℤ-cancel y x in
+    let s = minus-size (x +ℤ y) x in
+    let n = ap natAbs e in
+    omega arith
+
+-- ---- the theorems
+
+module _ (f : List ℕ) where
+  pub header-range : (h : Header) → headerOf f ≡ header.Header h → HeaderRange h
+  unfolding headerOf headerIn
+  header-range h e =
+      let a = accepted-by header.Refused (verdictOf f) (header.Header (headerIn f)) (header.Header h) (λ t q. some-number (t .reason) (ap answerNumber (ap headerAnswer q))) e in
+      let o = (verdict-obeys f) .0 (a .0) in
+      let i : headerIn f ≡ h = cc in
+      subst HeaderRange i (record { structure = o .structure-version; version = o .fields .data-version; station = o .fields .station })
+
+  pub track-range : (i : ℕ) (t : Track) → trackOf f i ≡ track.Track t → TrackRange t
+  unfolding trackOf trackAt pointsIn
+  track-range i t e =
+      let never : (u : Fault) → track.Refused u ≡ track.Track t → ⊥ = λ u q. some-number (u .reason) (ap answerNumber (ap trackAnswer q)) in
+      let a = accepted-by track.Refused (verdictOf f) (trackIn f i) (track.Track t) never e in
+      let o = (verdict-obeys f) .0 (a .0) in
+      let c = chosen (ltb i (countOf f)) (track.Track (trackAt f (entryPlace i))) (track.Refused (refusal reason.Question)) (track.Track t) (never (refusal reason.Question)) (a .1) in
+      let there = ltb-true i (countOf f) (c .0) in
+      let same : trackAt f (entryPlace i) ≡ t = let q = c .1 in cc in
+      let entry = o .fields .each-entry i there in
+      let spread = o .layout .two-points i there .1 in
+      let fit = o .layout .points-fit i there in
+      let most = o .most in
+      subst TrackRange same (record {
+        number = entry .number;
+        property = entry .property;
+        start-position = entry .start-position;
+        start-latitude = entry .start-latitude;
+        start-longitude = entry .start-longitude;
+        end-position = entry .end-position;
+        end-latitude = entry .end-latitude;
+        end-longitude = entry .end-longitude;
+        first = omega arith;
+        last = omega arith;
+        points = rw (le-ltb (lastOf f (entryPlace i)) (firstOf f (entryPlace i)) (omega arith)) (omega arith, omega arith);
+      })
+
+  pub point-range : (i j : ℕ) (p : Point) → pointOf f i j ≡ point.Point p → PointRange p
+  unfolding pointOf pointAt
+  point-range i j p e =
+      let never : (u : Fault) → point.Refused u ≡ point.Point p → ⊥ = λ u q. some-number (u .reason) (ap answerNumber (ap pointAnswer q)) in
+      let none = never (refusal reason.Question) in
+      let at = entryPlace i in
+      let here = pointPlace f pointSize at j in
+      let in-track = cond (ltb i (countOf f)) (pointIn f pointSize at j) (point.Refused (refusal reason.Question)) in
+      let a = accepted-by point.Refused (verdictOf f) in-track (point.Point p) never e in
+      let o = (verdict-obeys f) .0 (a .0) in
+      let c = chosen (ltb i (countOf f)) (pointIn f pointSize at j) (point.Refused (refusal reason.Question)) (point.Point p) none (a .1) in
+      let d = chosen (ltb j (pointsIn pointSize (firstOf f at) (lastOf f at))) (point.Point (pointAt f here)) (point.Refused (refusal reason.Question)) (point.Point p) none (c .1) in
+      let there = ltb-true i (countOf f) (c .0) in
+      let track = track-obeys f o i there in
+      let counted = (named-iff f pointSize at (omega arith) track j) .0 (ltb-true j (pointsIn pointSize (firstOf f at) (lastOf f at)) (d .0)) in
+      let same : pointAt f here ≡ p = let q = d .1 in cc in
+      let fields = point-obeys f o i j there counted in
+      subst PointRange same (record {
+        position = fields .position;
+        latitude-increment = step-size (signedOf f at rows.startLatitude) (signedOf f here rows.latitudeIncrement) 324000000 (track .entry .start-latitude) (track .agrees .latitudes j counted);
+        longitude-increment = step-size (signedOf f at rows.startLongitude) (signedOf f here rows.longitudeIncrement) 648000000 (track .entry .start-longitude) (track .agrees .longitudes j counted);
+        heading = fields .heading;
+        near = fields .near;
+      })
+
+-- ---- the coordinate: no farther from 0 than the two points that it lies between
+
+module _ (f : List ℕ) (e x : ℕ) (o : TrackObeys f pointSize e) where
+  on-way : (y : ℕ → ℤ) (limit : ℕ) → ((j : ℕ) → pointPlace f pointSize e j ≤ lastOf f e → Within limit (y (pointPlace f pointSize e j)))
+      → (j : ℕ) → Neighbours f pointSize e x j → (r : ℤ) → NearestAt f y x (pointPlace f pointSize e j) (pointPlace f pointSize e (suc j)) r → Within limit r
+  on-way y limit within j n r h =
+      let from = pointPlace f pointSize e j in
+      let to = pointPlace f pointSize e (suc j) in
+      let rises = o .agrees .rising j (n .in-track) in
+      let ahead = n .ahead in
+      let past = x - positionOf f from in
+      let long = positionOf f to - positionOf f from in
+      let same = coordinate-only (y from) (y to) past long h (omega arith) in
+      let near = coordinate-size (y from) (y to) past long (omega arith) (omega arith) limit (within j (point-in f pointSize e (omega arith) o x j n)) (within (suc j) (n .in-track)) in
+      let size = ap natAbs same in
+      omega arith
+
+  at-range : (r : Coordinate) → CoordinateAt f pointSize e x r → CoordinateRange r
+  at-range r c = record {
+    latitude = on-way (latitudeOf f e) 324000000 (o .agrees .latitudes) (c .point) (c .between) (r .latitude) (c .latitude);
+    longitude = on-way (longitudeOf f e) 648000000 (o .agrees .longitudes) (c .point) (c .between) (r .longitude) (c .longitude);
+  }
+
+answered-of : (f : List ℕ) (number x : ℕ) (r : Coordinate) → coordinateAsked f number x ≡ coordinate.Coordinate r → verdictOf f ≡ verdict.Accepted
+unfolding coordinateAsked
+answered-of f number x r e =
+    accepted-by coordinate.Refused (verdictOf f) (onFound f pointSize x (findTrack f number)) (coordinate.Coordinate r)
+    (λ u q. some-number (u .reason) (ap answerNumber (ap coordinateAnswer q))) e .0
+
+pub coordinate-range : (f : List ℕ) (number x : ℕ) (r : Coordinate) → coordinateAsked f number x ≡ coordinate.Coordinate r → CoordinateRange r
+coordinate-range f number x r e = on-found (findTrack f number) refl
+  where
+    never : (u : Fault) → coordinateAsked f number x ≡ coordinate.Refused u → ⊥
+    never u q = some-number (u .reason) (ap answerNumber (ap coordinateAnswer (sym q ∙ e)))
+
+    obeys : Obeys f
+    obeys = (verdict-obeys f) .0 (answered-of f number x r e)
+
+    on-found : (s : Found) → findTrack f number ≡ s → CoordinateRange r
+    on-found Absent q = absurd (never (refusal reason.Track) ((track-refused f obeys number x) .1 ((absent-iff f number) .0 q)))
+    on-found (At at) q =
+        ⊎-elim
+        (λ (h : x ≤ endPositionOf f at).
+        let w = coordinate-nearest f obeys number at q x h in
+        let same : w .0 ≡ r = let z = sym (w .1) ∙ e in cc in
+        subst CoordinateRange same (at-range f at x (found-obeys f obeys number at q) (w .0) (w .2)))
+        (λ (h : endPositionOf f at < x). absurd (never (refusal reason.Position) ((position-refused f obeys number at q x) .1 h)))
+        (le-or-lt x (endPositionOf f at))

@@ -1,0 +1,92 @@
+-- How the verdict of a check comes from the verdicts of its parts, one law for each way out of the code.
+use Prim.Native.Nat.{ℕ, _+_}
+use mathlib.Core.Path.{_≡_, _∙_, sym, ap}
+use mathlib.Core.Bool.{Bool, cond, _&&_}
+use mathlib.Core.List.{List, [], _∷_, _++_, flatMap}
+use lib.Dec.{ltb, eqb}
+use Rattle.verdict.specs.declared.Mark.{Mark}
+use Rattle.verdict.specs.declared.Judged.{Judged}
+use Rattle.verdict.specs.declared.Judged.the-variants.{Accepted, Refused}
+use Rattle.verdict.specs.Facts.{Fact, allTests, judge, firstFault}
+use Rattle.verdict.proofs.Facts.{tests-then, judge-then, judge-refused, judge-first, stops, goes-on}
+use Rattle.rules.specs.Rules.{lengthBetween}
+use Rattle.envelope.specs.Seal.{mostLength, sealFacts}
+use Rattle.x1_records.specs.Places.{leastLength, pointSize}
+use Rattle.x1_layout.specs.Layout.{firstOf, lastOf, entries, layoutFacts}
+use Rattle.x1_fields.specs.Fields.{headerFields, entryFields, pointFields}
+use Rattle.x1_verdict.specs.Fields.{allPoints, fieldFacts}
+use Rattle.x1_verdict.specs.Agreement.{numberAgrees, opens, rises, stays, closes, pointAgrees, pointsOf, trackAgrees, agreementFacts}
+use Rattle.x1_verdict.specs.Facts.{fileType, checkFacts, facts, judgedOf}
+
+module _ (f : List ℕ) (size : ℕ) (v x y r : Judged) where
+  pub fields-judged : x ≡ judge v (headerFields f) → y ≡ judge x (flatMap (entryFields f) (entries f)) → r ≡ judge y (flatMap (pointFields f) (allPoints f size)) → r ≡ judge v (fieldFacts f size)
+  unfolding fieldFacts
+  fields-judged p q s =
+      judge-then v x r (headerFields f) (flatMap (entryFields f) (entries f) ++ flatMap (pointFields f) (allPoints f size)) p
+      (judge-then x y r (flatMap (entryFields f) (entries f)) (flatMap (pointFields f) (allPoints f size)) q s)
+
+  pub point-judged : (e first last p : ℕ) → first ≡ firstOf f e → last ≡ lastOf f e → x ≡ judge v (cond (ltb p (first + size)) (opens f size p) (rises f size p)) → y ≡ judge x (stays f e p)
+      → r ≡ judge y (cond (eqb p last) (closes f e p) []) → r ≡ judge v (pointAgrees f size e p)
+  point-judged e first last p i j a b d =
+      judge-then v x r (cond (ltb p (firstOf f e + size)) (opens f size p) (rises f size p)) (stays f e p ++ cond (eqb p (lastOf f e)) (closes f e p) [])
+      (a ∙ ap (λ (n : ℕ). judge v (cond (ltb p (n + size)) (opens f size p) (rises f size p))) i)
+      (judge-then x y r (stays f e p) (cond (eqb p (lastOf f e)) (closes f e p) []) b (d ∙ ap (λ (n : ℕ). judge y (cond (eqb p n) (closes f e p) [])) j))
+
+module _ (f : List ℕ) (size : ℕ) (v x r : Judged) where
+  pub track-judged : (e : ℕ) → x ≡ judge v (numberAgrees f e) → r ≡ judge x (flatMap (pointAgrees f size e) (pointsOf f size e)) → r ≡ judge v (trackAgrees f size e)
+  unfolding trackAgrees
+  track-judged e p q = judge-then v x r (numberAgrees f e) (flatMap (pointAgrees f size e) (pointsOf f size e)) p q
+
+-- The tests of a point, from those of its parts.
+module _ (f : List ℕ) (size : ℕ) (x y z : Bool) where
+  pub point-tested : (e first last p : ℕ) → first ≡ firstOf f e → last ≡ lastOf f e → x ≡ allTests (cond (ltb p (first + size)) (opens f size p) (rises f size p)) → y ≡ allTests (stays f e p)
+      → z ≡ allTests (cond (eqb p last) (closes f e p) []) → (x && (y && z)) ≡ allTests (pointAgrees f size e p)
+  point-tested e first last p i j a b d =
+      tests-then x (y && z) (cond (ltb p (firstOf f e + size)) (opens f size p) (rises f size p)) (stays f e p ++ cond (eqb p (lastOf f e)) (closes f e p) [])
+      (a ∙ ap (λ (n : ℕ). allTests (cond (ltb p (n + size)) (opens f size p) (rises f size p))) i)
+      (tests-then y z (stays f e p) (cond (eqb p (lastOf f e)) (closes f e p) []) b (d ∙ ap (λ (n : ℕ). allTests (cond (eqb p n) (closes f e p) [])) j))
+
+-- A refusal stays, whatever facts follow.
+pub refused-stays : (w : Judged) (m : Mark) (fs : List Fact) → w ≡ Refused m → w ≡ judge w fs
+refused-stays w m fs e = e ∙ sym (judge-refused m fs) ∙ ap (λ (y : Judged). judge y fs) (sym e)
+
+-- The checks of a file, one after the other: s is the verdict of the length, t of the checksum, the type and the version, l of the
+-- layout, d of the fields.
+module _ (f : List ℕ) where
+  rest : List Fact
+  rest = fieldFacts f pointSize ++ agreementFacts f pointSize
+
+  module _ (s : Judged) (p : s ≡ judge Accepted (lengthBetween f leastLength mostLength ∷ [])) where
+    pub length-refused : (m : Mark) → s ≡ Refused m → s ≡ judgedOf f
+    unfolding facts
+    length-refused m e = stops s m (lengthBetween f leastLength mostLength ∷ []) (checkFacts f pointSize) p e
+
+    module _ (e : s ≡ Accepted) where
+      after-length : (r : Judged) → r ≡ firstFault (checkFacts f pointSize) → r ≡ judgedOf f
+      unfolding facts
+      after-length r q = goes-on s r (lengthBetween f leastLength mostLength ∷ []) (checkFacts f pointSize) p e q
+
+      module _ (t : Judged) (q : t ≡ judge Accepted (sealFacts f fileType)) where
+        pub seal-refused : (m : Mark) → t ≡ Refused m → t ≡ judgedOf f
+        unfolding checkFacts rest
+        seal-refused m g = after-length t (stops t m (sealFacts f fileType) (layoutFacts f pointSize ++ rest) q g)
+
+        module _ (g : t ≡ Accepted) where
+          after-seal : (r : Judged) → r ≡ firstFault (layoutFacts f pointSize ++ rest) → r ≡ judgedOf f
+          unfolding checkFacts rest
+          after-seal r h = after-length r (goes-on t r (sealFacts f fileType) (layoutFacts f pointSize ++ rest) q g h)
+
+          module _ (l : Judged) (h : l ≡ judge Accepted (layoutFacts f pointSize)) where
+            pub layout-refused : (m : Mark) → l ≡ Refused m → l ≡ judgedOf f
+            layout-refused m k = after-seal l (stops l m (layoutFacts f pointSize) rest h k)
+
+            module _ (k : l ≡ Accepted) (d : Judged) (i : d ≡ judge Accepted (fieldFacts f pointSize)) where
+              pub fields-refused : (m : Mark) → d ≡ Refused m → d ≡ judgedOf f
+              unfolding rest
+              fields-refused m j = after-seal d (goes-on l d (layoutFacts f pointSize) rest h k (stops d m (fieldFacts f pointSize) (agreementFacts f pointSize) i j))
+
+              pub all-checked : d ≡ Accepted → (r : Judged) → r ≡ judge Accepted (agreementFacts f pointSize) → r ≡ judgedOf f
+              unfolding rest
+              all-checked j r n =
+                  after-seal r (goes-on l r (layoutFacts f pointSize) rest h k
+                  (goes-on d r (fieldFacts f pointSize) (agreementFacts f pointSize) i j (n ∙ judge-first (agreementFacts f pointSize))))

@@ -1,0 +1,68 @@
+-- `x1_verdict::agreement::check_agreement` meets its contract. The invariant: the verdict so far, then the facts of the entries from e on,
+-- is the verdict before the loop and then the facts of all entries.
+use Prim.Native.Nat.{_+_, _-_}
+use mathlib.Core.Path.{_≡_, _∙_, refl, sym}
+use mathlib.Core.List.{flatMap}
+use native.Mathlib.Omega.{arith}
+use Rattle.verdict.specs.Facts.{judge}
+use Rattle.verdict.specs.Walk.{startsFrom}
+use Rattle.verdict.proofs.Checks.{judge-step, judge-stop}
+use Rattle.x1_records.specs.Places.{entrySize}
+use Rattle.x1_layout.specs.Layout.{pointsAt, entries}
+use Rattle.x1_verdict.specs.Agreement.{trackAgrees, agreementFacts}
+use Rattle.x1_verdict.proofs.Checks.{refused-stays}
+use borrow.Author.Needs.{needs}
+use Rattle.x1_verdict.proofs.agreement.check_agreement.Statement.{statement}
+use Rattle.x1_verdict.proofs.agreement.check_agreement.Tie as tie
+
+abbrev Inv-loop : tie.InvT-loop
+Inv-loop f size points w₀ e₀ w e =
+    judge w (flatMap (trackAgrees f size) (startsFrom (λ _. entrySize) (pointsAt f) e)) ≡ judge w₀ (flatMap (trackAgrees f size) (entries f))
+
+abbrev μ-loop : tie.MeasureT-loop
+μ-loop f size points w₀ e₀ w e = points - e
+
+loop-holds : tie.Need-loop-holds Inv-loop μ-loop
+unfolding entries
+loop-holds c = refl
+
+returns : tie.Need-returns Inv-loop μ-loop
+unfolding agreementFacts
+returns c =
+    let t = c .before .before .track-agrees in
+    let s = c .before .before .before .before in
+    let a = s .before .before .before .args in
+    refused-stays (t .result) _ (flatMap (trackAgrees (a .f .now) (a .size)) (startsFrom (λ _. entrySize) (pointsAt (a .f .now)) (s .loop .e + entrySize))) (c .enum-told2 .given .1)
+    ∙ judge-step (λ _. entrySize) (pointsAt (a .f .now)) (trackAgrees (a .f .now) (a .size)) (λ x. omega arith) (s .loop .w) _ (s .loop .e) _ (omega (arith, s .before .points-at .ensures .0)) (t .ensures) refl ∙ s .loop .inv
+
+loop-again : tie.Need-loop-again Inv-loop μ-loop
+loop-again c =
+    let t = c .before .before .track-agrees in
+    let s = c .before .before .before .before in
+    let a = s .before .before .before .args in
+    judge-step (λ _. entrySize) (pointsAt (a .f .now)) (trackAgrees (a .f .now) (a .size)) (λ x. omega arith) (s .loop .w) _ (s .loop .e) _ (omega (arith, s .before .points-at .ensures .0)) (t .ensures) refl ∙ s .loop .inv
+
+returns-2 : tie.Need-returns-2 Inv-loop μ-loop
+unfolding agreementFacts
+returns-2 c =
+    let s = c .before in
+    let a = s .before .before .before .args in
+    sym (judge-stop (λ _. entrySize) (pointsAt (a .f .now)) (trackAgrees (a .f .now) (a .size)) _ _ (omega (arith, s .before .points-at .ensures .0))) ∙ s .loop .inv
+
+pub check-agreement-spec : {M : Type 1} → statement M
+check-agreement-spec =
+    tie.close
+    (tie.spec
+    Inv-loop
+    μ-loop
+    (λ c κs. search needs)
+    loop-holds
+    (λ c κs. search needs)
+    (λ c. search needs)
+    (λ c. search needs)
+    returns
+    (λ c. search needs)
+    (λ c. search needs)
+    (λ c. search needs)
+    loop-again
+    returns-2)

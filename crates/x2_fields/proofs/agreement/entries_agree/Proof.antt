@@ -1,0 +1,43 @@
+-- `x2_fields::agreement::entries_agree` meets its contract. The invariant: the verdict so far, then the facts of the entries from i on, is the
+-- verdict before the loop and then the facts of all entries.
+use Prim.Native.Nat.{_-_}
+use mathlib.Core.Path.{_≡_, _∙_, refl, sym}
+use mathlib.Core.List.{flatMap}
+use native.Mathlib.Omega.{arith}
+use Rattle.verdict.specs.Facts.{judge}
+use Rattle.verdict.specs.Walk.{startsFrom}
+use Rattle.verdict.proofs.Checks.{judge-step, judge-stop}
+use Rattle.x2_layout.specs.Facts.{indexes}
+use Rattle.x2_fields.specs.Agreement.{entryAgrees, entriesAgree}
+use borrow.Author.Needs.{needs}
+use Rattle.x2_fields.proofs.agreement.entries_agree.Statement.{statement}
+use Rattle.x2_fields.proofs.agreement.entries_agree.Tie as tie
+
+abbrev Inv-loop : tie.InvT-loop
+Inv-loop f entries from count width w₀ i₀ w i =
+    judge w (flatMap (entryAgrees f entries from) (startsFrom (λ _. 1) count i)) ≡ judge w₀ (entriesAgree f entries from count)
+
+abbrev μ-loop : tie.MeasureT-loop
+μ-loop f entries from count width w₀ i₀ w i = count - i
+
+loop-holds : tie.Need-loop-holds Inv-loop μ-loop
+unfolding entriesAgree indexes
+loop-holds c = refl
+
+loop-again : tie.Need-loop-again Inv-loop μ-loop
+loop-again c =
+    let own = c .before in
+    let here = own .before in
+    let h = here .before .before .loop in
+    let a = here .before .before .before .before .args in
+    judge-step (λ _. 1) (a .count) (entryAgrees (a .f .now) (a .entries) (a .from)) (λ x. omega arith) (h .w) _ (h .i) _ (omega arith)
+    (simp (c .same-as .ensures, own .place-of2 .ensures, here .place-of .ensures)) refl
+    ∙ h .inv
+
+returns : tie.Need-returns Inv-loop μ-loop
+returns c =
+    let a = c .before .before .before .args in
+    sym (judge-stop (λ _. 1) (a .count) (entryAgrees (a .f .now) (a .entries) (a .from)) _ _ (omega arith)) ∙ c .before .loop .inv
+
+pub entries-agree-spec : {M : Type 1} → statement M
+entries-agree-spec = tie.close (tie.spec Inv-loop μ-loop loop-holds (λ c. search needs) (λ c. search needs) (λ c. search needs) (λ c κs. search needs) (λ c. search needs) (λ c. search needs) (λ c. search needs) (λ c κs. search needs) (λ c κs. search needs) (λ c. search needs) (λ c. search needs) loop-again returns)

@@ -1,0 +1,18 @@
+-- `x2_kinds::signal_obeys` meets its contract: the test of each rule in turn.
+use mathlib.Core.Bool.{and-true}
+use borrow.Author.Needs.{needs}
+use Rattle.x2_kinds.proofs.signal_obeys.Statement.{statement}
+use Rattle.x2_kinds.proofs.signal_obeys.Tie as tie
+
+returns : tie.Need-returns
+returns c =
+    let r6 = c .before in
+    let r5 = r6 .before in
+    let r4 = r5 .before in
+    let r3 = r4 .before in
+    let r2 = r3 .before in
+    let r1 = r2 .before in
+    simp (and-true, c .has-part3 .ensures, r6 .has-part2 .ensures, r5 .has-part .ensures, r4 .lies-between2 .ensures, r3 .lies-between .ensures, r2 .has-name .ensures, r1 .equals .ensures)
+
+pub signal-obeys-spec : {M : Type 1} → statement M
+signal-obeys-spec = tie.close (tie.spec (λ c κs. search needs) (λ c κs. search needs) (λ c κs. search needs) (λ c κs. search needs) (λ c κs. search needs) (λ c κs. search needs) (λ c κs. search needs) returns)

@@ -1,0 +1,12 @@
+pub mod Reading
+pub mod Records
+pub mod Checks
+pub mod Walks
+pub mod Obeys
+pub mod Regions
+pub mod Bounds
+pub mod Starts
+pub mod Shapes
+pub mod Walking
+pub mod Grouped
+pub mod Loops

@@ -1,0 +1,51 @@
+-- `x2_layout::balises::walk_layout` meets its contract. The invariant: the balises before `at` obey, so that the facts of the balises from `at`
+-- on give the verdict that the facts of all balises give.
+use Prim.Native.Nat.{_-_}
+use mathlib.Core.Path.{_≡_, _∙_, refl, sym}
+use mathlib.Core.List.{flatMap}
+use native.Mathlib.Omega.{arith}
+use Rattle.verdict.specs.Facts.{judge}
+use Rattle.verdict.specs.Walk.{startsFrom}
+use Rattle.verdict.proofs.Checks.{judge-stop, passes-over, fails-here}
+use Rattle.x2_layout.specs.Groups.{baliseBytes, baliseLayout, walkLayout}
+use Rattle.x2_layout.proofs.Records.{baliseBytes-pos}
+use borrow.Author.Needs.{needs}
+use Rattle.x2_layout.proofs.balises.walk_layout.Statement.{statement}
+use Rattle.x2_layout.proofs.balises.walk_layout.Tie as tie
+
+abbrev Inv-loop : tie.InvT-loop
+Inv-loop v f from until next at₀ at =
+    judge v (flatMap (baliseLayout f until next) (startsFrom (baliseBytes f) until at)) ≡ judge v (walkLayout f from until next)
+
+abbrev μ-loop : tie.MeasureT-loop
+μ-loop v f from until next at₀ at = until - at
+
+loop-holds : tie.Need-loop-holds Inv-loop μ-loop
+unfolding walkLayout
+loop-holds c = refl
+
+returns : tie.Need-returns Inv-loop μ-loop
+returns c =
+    let tested = c .before .before in
+    let h = tested .before .before .loop in
+    let a = tested .before .before .before .before .args in
+    let t = tested .balise-obeys in
+    fails-here (baliseBytes (a .f .now)) (a .until) (baliseLayout (a .f .now) (a .until) (a .next)) (baliseBytes-pos (a .f .now)) (a .v) (h .at) (t .result) (omega arith) (t .ensures) _ (c .before .if1 .taken) (c .balise-layout .ensures)
+    ∙ h .inv
+
+loop-again : tie.Need-loop-again Inv-loop μ-loop
+loop-again c =
+    let tested = c .before .before in
+    let h = tested .before .before .loop in
+    let a = tested .before .before .before .before .args in
+    let t = tested .balise-obeys in
+    passes-over (baliseBytes (a .f .now)) (a .until) (baliseLayout (a .f .now) (a .until) (a .next)) (baliseBytes-pos (a .f .now)) (a .v) (h .at) (t .result) (omega arith) (t .ensures) _ (c .before .if1 .left) (simp (c .balise-bytes .ensures .0))
+    ∙ h .inv
+
+returns-2 : tie.Need-returns-2 Inv-loop μ-loop
+returns-2 c =
+    let a = c .before .before .before .args in
+    sym (judge-stop (baliseBytes (a .f .now)) (a .until) (baliseLayout (a .f .now) (a .until) (a .next)) _ _ (omega arith)) ∙ c .before .loop .inv
+
+pub walk-layout-spec : {M : Type 1} → statement M
+walk-layout-spec = tie.close (tie.spec Inv-loop μ-loop loop-holds (λ c κs. search needs) (λ c κs. search needs) returns (λ c κs. search needs) (λ c. search needs) (λ c. search needs) loop-again returns-2)

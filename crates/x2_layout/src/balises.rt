@@ -1,0 +1,74 @@
+// The balises of a group, one after the other (01, 'Layout faults'): each has its own size.
+ghost use mathlib.Core.Path.{_≡_};
+ghost use mathlib.Core.List.{[], _∷_};
+ghost use Prim.Native.Nat.{_<_};
+ghost use Rattle.verdict.specs.Facts.{test, allTests, judge};
+ghost use Rattle.x2_layout.specs.inner.Bounds.{sliceOver};
+ghost use Rattle.x2_layout.specs.Groups.{rightSize, sizeByte, baliseLayout, walkLayout};
+use crate::SIZE_LEAST;
+use crate::SIZE_MOST;
+use crate::stream::balise_bytes;
+use octets::byte_at;
+use rules::fits;
+use verdict::Judged;
+use verdict::Reason;
+use verdict::Rule;
+use verdict::also_fact;
+use x2_records::Balise;
+
+// A size byte is 16, or 18 to 120.
+fn is_right_size(n: usize) -> bool
+    ensures { λ r. ⌜ r ≡ test (rightSize n) ⌝ }
+{
+    (n == Balise::SIZE) | ((SIZE_LEAST <= n) & (n <= SIZE_MOST))
+}
+
+// The size byte of the balise at a place is right.
+fn size_byte(v: Judged, f: &[u8], at: usize) -> Judged
+    requires { ⌜ at < sliceOver ⌝ }
+    ensures { λ r. ⌜ r ≡ judge v (sizeByte (now (f .entry)) at ∷ []) ⌝ }
+{
+    let field = at + Balise::SIZE_BYTE.0 as usize;
+    let ok = is_right_size(byte_at(f, field));
+    let rule = Rule::SizeByte(field, SIZE_LEAST, SIZE_MOST);
+    also_fact(v, ok, Reason::Layout, at, at, 0, rule)
+}
+
+// The balise at a place: 16 bytes are left of its group, its size byte is right, and it is not too large for the rest. (Where the group's
+// end is told, no test asks.)
+fn balise_obeys(f: &[u8], at: usize, until: usize) -> bool
+    requires { ⌜ at < sliceOver ⌝ }
+    ensures { λ r. ⌜ r ≡ allTests (baliseLayout (now (f .entry)) until 0 at) ⌝ }
+{
+    let n = byte_at(f, at + Balise::SIZE_BYTE.0 as usize);
+    let right = is_right_size(n);
+    (at + Balise::SIZE <= until) & (right & (at + n <= until))
+}
+
+// The same, as facts; the end of its group is told at `next`.
+fn balise_layout(v: Judged, f: &[u8], at: usize, until: usize, next: usize) -> Judged
+    requires { ⌜ at < sliceOver ⌝ }
+    ensures { λ r. ⌜ r ≡ judge v (baliseLayout (now (f .entry)) until next at) ⌝ }
+{
+    let field = at + Balise::SIZE_BYTE.0 as usize;
+    let n = byte_at(f, field);
+    let mut w = fits(v, at, at, 0, at + Balise::SIZE, at, until, next);
+    w = size_byte(w, f, at);
+    fits(w, at, at, 0, at + n, field, until, next)
+}
+
+// The balises of the group that stands from a place to another, which is told at `next`: the facts of the first that does not obey are the
+// verdict.
+pub fn walk_layout(v: Judged, f: &[u8], from: usize, until: usize, next: usize) -> Judged
+    requires { ⌜ until < sliceOver ⌝ }
+    ensures { λ r. ⌜ r ≡ judge v (walkLayout (now (f .entry)) from until next) ⌝ }
+{
+    let mut at = from;
+    while at < until {
+        if !balise_obeys(f, at, until) {
+            return balise_layout(v, f, at, until, next);
+        }
+        at = at + balise_bytes(f, at);
+    }
+    v
+}

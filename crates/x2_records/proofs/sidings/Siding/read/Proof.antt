@@ -1,0 +1,21 @@
+-- `x2_records::sidings::Siding::read` meets its contract.
+use Rattle.x2_records.specs.Tables.{sidingAt}
+use borrow.Author.Needs.{needs}
+use Rattle.x2_records.proofs.sidings.Siding.read.Statement.{statement}
+use Rattle.x2_records.proofs.sidings.Siding.read.Tie as tie
+
+returns : tie.Need-returns
+unfolding sidingAt
+returns c = simp (c .name-place3 .ensures, c .before .number-of3 .ensures .is, c .before .before .name-place2 .ensures, c .before .before .before .number-of2 .ensures .is, c .before .before .before .before .number-of .ensures .is, c .before .before .before .before .before .name-place .ensures)
+
+pub read-spec : {M : Type 1} → statement M
+read-spec =
+    tie.close
+    (tie.spec
+    (λ c κs. search needs)
+    (λ c κs. search needs)
+    (λ c κs. search needs)
+    (λ c κs. search needs)
+    (λ c κs. search needs)
+    (λ c κs. search needs)
+    returns)

@@ -1,0 +1,154 @@
+-- THEOREM: a fact of a link's return fails at a place exactly where that return is at fault. The link fields of a record stand in byte order, so
+-- that the links before one are those at lower places.
+use Prim.Native.Nat.{ℕ, _+_, _≤_, _<_}
+use mathlib.Core.Path.{_≡_, refl, sym, subst}
+use mathlib.Core.Logic.{_⊎_, inl, inr, ⊎-elim, _↔_}
+use mathlib.Core.List.{List, [], _∷_, _++_, append-assoc, List·Memᴰ, List·Memᴰ·head, List·Memᴰ·tail, List·Memᴰ·not-nil, List·Memᴰ·cases-cons, List·Memᴰ·append-cases, Memᴰ·append-left, List·Memᴰ·eq-of-singleton}
+use native.Mathlib.Omega.{arith}
+use native.Mathlib.Decide.{ℕ-discrete}
+use Rattle.verdict.specs.Facts.{Holds, Fact}
+use Rattle.refusals.proofs.Places.{Failing, failing-append, failing-each}
+use Rattle.x2_records.specs.declared.Kind.{Kind}
+use Rattle.x2_records.specs.declared.Kind.the-variants as kind
+use Rattle.x2_records.specs.Records.{linkPlaces}
+use Rattle.x2_layout.specs.declared.Layout.{Layout}
+use Rattle.x2_layout.specs.Records.{kindAt, starts}
+use Rattle.x2_links.specs.Links.{linkAt, linksTo, distinctFrom, returns, recordReturns, returnFacts}
+use Rattle.x2_links.specs.Obeys.{LinksTo}
+use Rattle.x2_theorems.specs.LinkFaults.{NonzeroLink, ReturnAtFault, not-returned, doubled}
+use Rattle.x2_links.proofs.Obeys.{links-iff}
+
+-- ---- places that rise, from `low` on
+
+abbrev Climbs : ℕ → List ℕ → Type 0
+Climbs low [] = Unit {0}
+Climbs low (x ∷ xs) = (low ≤ x) × Climbs (x + 1) xs
+
+climbs-above : (low : ℕ) (xs : List ℕ) → Climbs low xs → (y : ℕ) → List·Memᴰ y xs → low ≤ y
+climbs-above low [] c y m = absurd (List·Memᴰ·not-nil m)
+climbs-above low (x ∷ xs) c y m =
+    let ih = climbs-above (x + 1) xs (c .1) y in
+    ⊎-elim (λ (e : y ≡ x). omega (arith, c .0)) (λ (n : List·Memᴰ y xs). omega (arith, c .0, ih n)) (List·Memᴰ·cases-cons m)
+
+climbs : (k : Kind) (at : ℕ) → Climbs at (linkPlaces k at)
+climbs kind.StartBoundary at = (omega arith, tt)
+climbs kind.EndBoundary at = (omega arith, tt)
+climbs kind.Turnout at = (omega arith, (omega arith, (omega arith, tt)))
+climbs kind.Balise at = (omega arith, (omega arith, tt))
+climbs kind.Signal at = (omega arith, (omega arith, tt))
+climbs kind.Joint at = (omega arith, (omega arith, tt))
+climbs kind.Siding at = tt
+
+module _ (f : List ℕ) (l : Layout) (at : ℕ) where
+  -- no link of the record that p's link names comes back
+  abbrev Unreturned : ℕ → Type 0
+  Unreturned p = LinksTo f (kindAt l (linkAt f p)) (linkAt f p) at → ⊥
+
+  -- a lower one of the link fields has p's link
+  abbrev Doubles : List ℕ → ℕ → Type 0
+  Doubles all p = (q : ℕ) × List·Memᴰ q all × (q < p) × (linkAt f q ≡ linkAt f p)
+
+  abbrev Adrift : List ℕ → ℕ → Type 0
+  Adrift all p = (linkAt f p ≡ 0 → ⊥) × (Unreturned p ⊎ Doubles all p)
+
+  -- the link at x is one, and is that of one of the fields
+  abbrev Again : ℕ → List ℕ → Type 0
+  Again x qs = (linkAt f x ≡ 0 → ⊥) × ((q : ℕ) × List·Memᴰ q qs × (linkAt f q ≡ linkAt f x))
+
+  same-link : (x q : ℕ) → (((linkAt f x ≡ 0) ⊎ (linkAt f q ≡ linkAt f x → ⊥)) → ⊥) → linkAt f q ≡ linkAt f x
+  same-link x q n = by-case (ℕ-discrete (linkAt f q) (linkAt f x))
+    where
+      by-case : Dec (linkAt f q ≡ linkAt f x) → linkAt f q ≡ linkAt f x
+      by-case (yes e) = e
+      by-case (no d) = absurd (n (inr d))
+
+  distinct-fails : (x : ℕ) (qs : List ℕ) (p : ℕ) → Failing (distinctFrom f at x qs) p ↔ ((p ≡ x) × Again x qs)
+  distinct-fails x [] p = (λ h. absurd h, λ w. absurd (List·Memᴰ·not-nil (w .1 .1 .1)))
+  distinct-fails x (q ∷ qs) p =
+      let ih = distinct-fails x qs p in (
+        λ h. ⊎-elim (λ (y : (p ≡ x) × (((linkAt f x ≡ 0) ⊎ (linkAt f q ≡ linkAt f x → ⊥)) → ⊥)). (y .0, (λ e. y .1 (inl e), (q, List·Memᴰ·head refl, same-link x q (y .1)))))
+            (λ (y : Failing (distinctFrom f at x qs) p). let w = ih .0 y in (w .0, (w .1 .0, (w .1 .1 .0, List·Memᴰ·tail (w .1 .1 .1), w .1 .1 .2)))) h,
+        λ w. ⊎-elim (λ (e : w .1 .1 .0 ≡ q). inl (w .0, λ h. ⊎-elim (w .1 .0) (λ (d : linkAt f q ≡ linkAt f x → ⊥). d (subst (λ (z : ℕ). linkAt f z ≡ linkAt f x) e (w .1 .1 .2))) h))
+            (λ (m : List·Memᴰ (w .1 .1 .0) qs). inr (ih .1 (w .0, (w .1 .0, (w .1 .1 .0, m, w .1 .1 .2))))) (List·Memᴰ·cases-cons (w .1 .1 .1)),
+      )
+
+  -- one more before
+  below-next : (low x : ℕ) (before : List ℕ) → low ≤ x → ((q : ℕ) → List·Memᴰ q before → q < low) → (q : ℕ) → List·Memᴰ q (before ++ (x ∷ [])) → q < x + 1
+  below-next low x before c below q m =
+      ⊎-elim (λ (n : List·Memᴰ q before). let z = below q n in omega arith) (λ (n : List·Memᴰ q (x ∷ [])). let z = List·Memᴰ·eq-of-singleton n in omega arith) (List·Memᴰ·append-cases before m)
+
+  -- the link at x and those after it, where `later` is told of those
+  module _ (before xs : List ℕ) (x p : ℕ) (below : (q : ℕ) → List·Memᴰ q before → q < x) (above : Climbs (x + 1) xs)
+      (later : Failing (returns f l at (before ++ (x ∷ [])) xs) p ↔ (List·Memᴰ p xs × Adrift ((before ++ (x ∷ [])) ++ xs) p)) where
+    abbrev all : List ℕ
+    all = before ++ (x ∷ xs)
+
+    same-all : (before ++ (x ∷ [])) ++ xs ≡ all
+    same-all = append-assoc before (x ∷ []) xs
+
+    -- a field below x is one of those before it
+    lower : (q : ℕ) → List·Memᴰ q all → q < x → List·Memᴰ q before
+    lower q m less =
+        ⊎-elim (λ (n : List·Memᴰ q before). n) (λ (n : List·Memᴰ q (x ∷ xs)). ⊎-elim (λ (e : q ≡ x). absurd (omega arith))
+        (λ (o : List·Memᴰ q xs). let z = climbs-above (x + 1) xs above q o in absurd (omega arith)) (List·Memᴰ·cases-cons n)) (List·Memᴰ·append-cases before m)
+
+    next-fails : Failing (returns f l at before (x ∷ xs)) p ↔ (List·Memᴰ p (x ∷ xs) × Adrift all p)
+    next-fails = (there, back)
+      where
+        rest : List Fact
+        rest = returns f l at (before ++ (x ∷ [])) xs
+
+        cut : Failing (distinctFrom f at x before ++ rest) p ↔ (Failing (distinctFrom f at x before) p ⊎ Failing rest p)
+        cut = failing-append (distinctFrom f at x before) rest p
+
+        linked-back : Holds (linksTo f (kindAt l (linkAt f x)) (linkAt f x) at) ↔ LinksTo f (kindAt l (linkAt f x)) (linkAt f x) at
+        linked-back = links-iff f l (kindAt l (linkAt f x)) (linkAt f x) at
+
+        after : Failing (distinctFrom f at x before) p ⊎ Failing rest p → List·Memᴰ p (x ∷ xs) × Adrift all p
+        after (inl y) =
+            let w = (distinct-fails x before p) .0 y in
+            let d = w .1 .1 in
+            (List·Memᴰ·head (w .0), subst (Adrift all) (sym (w .0)) (w .1 .0, inr (d .0, Memᴰ·append-left (x ∷ xs) (d .1), below (d .0) (d .1), d .2)))
+        after (inr y) = let w = later .0 y in (List·Memᴰ·tail (w .0), subst (λ (a : List ℕ). Adrift a p) same-all (w .1))
+
+        there : Failing (returns f l at before (x ∷ xs)) p → List·Memᴰ p (x ∷ xs) × Adrift all p
+        there (inl y) = (List·Memᴰ·head (y .0), subst (Adrift all) (sym (y .0)) (λ e. y .1 (inl e), inl (λ t. y .1 (inr (linked-back .1 t)))))
+        there (inr y) = after (cut .0 y)
+
+        here : p ≡ x → (linkAt f x ≡ 0 → ⊥) → Unreturned x ⊎ Doubles all x → Failing (returns f l at before (x ∷ xs)) p
+        here e some (inl n) = inl (e, λ h. ⊎-elim some (λ (t : Holds (linksTo f (kindAt l (linkAt f x)) (linkAt f x) at)). n (linked-back .0 t)) h)
+        here e some (inr d) = inr (cut .1 (inl ((distinct-fails x before p) .1 (e, (some, (d .0, lower (d .0) (d .1) (d .2), d .3))))))
+
+        back : List·Memᴰ p (x ∷ xs) × Adrift all p → Failing (returns f l at before (x ∷ xs)) p
+        back w =
+            ⊎-elim (λ (e : p ≡ x). let v = subst (Adrift all) e (w .1) in here e (v .0) (v .1))
+            (λ (m : List·Memᴰ p xs). inr (cut .1 (inr (later .1 (m, subst (λ (a : List ℕ). Adrift a p) (sym same-all) (w .1)))))) (List·Memᴰ·cases-cons (w .0))
+
+  -- LAW: of link fields that rise, after those before them
+  list-fails : (low : ℕ) (before xs : List ℕ) → ((q : ℕ) → List·Memᴰ q before → q < low) → Climbs low xs → (p : ℕ) → Failing (returns f l at before xs) p ↔ (List·Memᴰ p xs × Adrift (before ++ xs) p)
+  list-fails low before [] below c p = (λ h. absurd h, λ w. absurd (List·Memᴰ·not-nil (w .0)))
+  list-fails low before (x ∷ xs) below c p =
+      next-fails before xs x p (λ q m. let z = below q m in omega (arith, c .0)) (c .1)
+      (list-fails (x + 1) (before ++ (x ∷ [])) xs (below-next low x before (c .0) below) (c .1) p)
+
+module _ (f : List ℕ) (l : Layout) (p : ℕ) where
+  pub returns-fail : Failing (returnFacts f l) p ↔ ReturnAtFault f l p
+  unfolding returnFacts
+  returns-fail = (λ h. there (each .0 h), λ o. each .1 (back o))
+    where
+      each : Failing (returnFacts f l) p ↔ ((at : ℕ) × List·Memᴰ at (starts f l) × Failing (recordReturns f l (kindAt l at) at) p)
+      each = failing-each (λ at. recordReturns f l (kindAt l at) at) (starts f l) p
+
+      own : (at : ℕ) → Failing (recordReturns f l (kindAt l at) at) p ↔ (List·Memᴰ p (linkPlaces (kindAt l at) at) × Adrift f l at (linkPlaces (kindAt l at) at) p)
+      own at = list-fails f l at at [] (linkPlaces (kindAt l at) at) (λ q m. absurd (List·Memᴰ·not-nil m)) (climbs (kindAt l at) at) p
+
+      there : (at : ℕ) × List·Memᴰ at (starts f l) × Failing (recordReturns f l (kindAt l at) at) p → ReturnAtFault f l p
+      there w =
+          let v = (own (w .0)) .0 (w .2) in
+          let link : NonzeroLink f l (w .0) p = record { record-there = w .1; its-field = v .0; some-link = v .1 .0 } in
+          ⊎-elim (λ (n : Unreturned f l (w .0) p). not-returned (w .0) link n)
+          (λ (d : Doubles f l (w .0) (linkPlaces (kindAt l (w .0)) (w .0)) p). doubled (w .0) link (d .0) (d .1) (d .2) (d .3)) (v .1 .1)
+
+      back : ReturnAtFault f l p → (at : ℕ) × List·Memᴰ at (starts f l) × Failing (recordReturns f l (kindAt l at) at) p
+      back (not-returned at k n) = (at, k .record-there, (own at) .1 (k .its-field, (k .some-link, inl n)))
+      back (doubled at k q m less e) = (at, k .record-there, (own at) .1 (k .its-field, (k .some-link, inr (q, m, less, e))))

@@ -1,0 +1,10 @@
+pub mod LayoutFaults
+pub mod LayoutSays
+pub mod FieldFaults
+pub mod FieldSays
+pub mod LinkFaults
+pub mod LinkSays
+pub mod Checks
+pub mod Says
+pub mod Asked
+pub mod Values

@@ -1,0 +1,67 @@
+-- What a mark of an X.2 file says, what record it is of and what it names: by the check of the mark's reason.
+use Prim.Native.Nat.{ℕ}
+use mathlib.Core.Path.{_≡_}
+use mathlib.Core.Logic.{_⊎_}
+use mathlib.Core.List.{List, List·Memᴰ}
+use Rattle.verdict.specs.declared.Mark.{Mark}
+use Rattle.verdict.specs.declared.Reason.{Reason}
+use Rattle.verdict.specs.declared.Reason.the-variants.{Length, Checksum, FileType, Structure, Layout, Field, Agreement, Target, Return}
+use Rattle.verdict.specs.declared.Reason.the-variants.{Station, Track, Position, Question, Steps, Room}
+use Rattle.verdict.specs.Facts.{Claim, always}
+use Rattle.rules.specs.Rules.{says, Names}
+use Rattle.x2_layout.specs.Layout.{layoutOf}
+use Rattle.x2_theorems.specs.LayoutSays.{layoutSays, layoutStart}
+use Rattle.x2_layout.specs.Records.{starts}
+use Rattle.x2_theorems.specs.FieldSays.{fieldSays, agreementSays}
+use Rattle.x2_theorems.specs.LinkSays.{targetSays, returnSays}
+
+-- ---- what it says
+
+-- the checks of the length, the checksum, the type and the version have no shapes of their own
+abbrev pub sealSays : List ℕ → Mark → Claim
+sealSays f = says f (λ m. always)
+
+-- what a mark of a check says; the reasons of the pair and of questions are no file's own
+abbrev pub saysFor : List ℕ → Reason → Mark → Claim
+saysFor f Length = sealSays f
+saysFor f Checksum = sealSays f
+saysFor f FileType = sealSays f
+saysFor f Structure = sealSays f
+saysFor f Layout = layoutSays f
+saysFor f Field = fieldSays f
+saysFor f Agreement = agreementSays f
+saysFor f Target = targetSays f (layoutOf f)
+saysFor f Return = returnSays f (layoutOf f)
+saysFor f Station = λ m. always
+saysFor f Track = λ m. always
+saysFor f Position = λ m. always
+saysFor f Question = λ m. always
+saysFor f Steps = λ m. always
+saysFor f Room = λ m. always
+
+abbrev pub saysOf : List ℕ → Mark → Claim
+saysOf f m = saysFor f (m .reason) m
+
+-- ---- its record, and what it names
+
+-- A mark's start is the start of the record that it is of: 0 of the header, and a record's of a record. In a layout at fault a record
+-- starts where its mark says (crate x2_layout), and there the mark names the fields that its numbers are told at.
+abbrev pub HeldFor : List ℕ → Reason → Mark → Type 0
+HeldFor f Length m = m .start ≡ 0
+HeldFor f Checksum m = m .start ≡ 0
+HeldFor f FileType m = m .start ≡ 0
+HeldFor f Structure m = m .start ≡ 0
+HeldFor f Layout m = (m .start ≡ layoutStart (layoutOf f) m) × Names f (m .place) (m .rule)
+HeldFor f Field m = (m .start ≡ 0) ⊎ List·Memᴰ (m .start) (starts f (layoutOf f))
+HeldFor f Agreement m = (m .start ≡ 0) ⊎ List·Memᴰ (m .start) (starts f (layoutOf f))
+HeldFor f Target m = List·Memᴰ (m .start) (starts f (layoutOf f))
+HeldFor f Return m = List·Memᴰ (m .start) (starts f (layoutOf f))
+HeldFor f Station m = Unit {0}
+HeldFor f Track m = Unit {0}
+HeldFor f Position m = Unit {0}
+HeldFor f Question m = Unit {0}
+HeldFor f Steps m = Unit {0}
+HeldFor f Room m = Unit {0}
+
+abbrev pub HeldOf : List ℕ → Mark → Type 0
+HeldOf f m = HeldFor f (m .reason) m

@@ -1,0 +1,63 @@
+-- THEOREM (demand 2): an X.2 file is accepted exactly where it obeys, from the theorems of its checks.
+use mathlib.Core.Path.{_≡_}
+use mathlib.Core.Logic.{_↔_}
+use mathlib.Core.List.{List, _++_}
+use Prim.Native.Nat.{ℕ}
+use Rattle.verdict.specs.Facts.{AllHold}
+use Rattle.verdict.specs.declared.Judged.the-variants.{Accepted}
+use Rattle.verdict.proofs.Facts.{accepted-iff, all-append}
+use Rattle.envelope.specs.Seal.{sealFacts}
+use Rattle.x2_layout.specs.Layout.{layoutOf}
+use Rattle.x2_layout.specs.Facts.{layoutFacts}
+use Rattle.x2_layout.proofs.Obeys.{layout-obeyed}
+use Rattle.x2_fields.specs.Fields.{fieldFacts}
+use Rattle.x2_fields.specs.Agreement.{agreementFacts}
+use Rattle.x2_fields.proofs.Obeys.{fields-iff, agreement-iff}
+use Rattle.x2_links.specs.Links.{targetFacts, returnFacts}
+use Rattle.x2_links.proofs.Obeys.{targets-iff, returns-iff}
+use Rattle.x2_verdict.specs.Facts.{fileType, recordFacts, checkFacts, facts, judgedOf}
+use Rattle.x2_verdict.specs.Obeys.{Obeys}
+
+pub accepted-obeys : (f : List ℕ) → (judgedOf f ≡ Accepted) ↔ Obeys f
+unfolding facts checkFacts recordFacts AllHold
+accepted-obeys f =
+    let l = layoutOf f in
+    let all = accepted-iff (facts f) in
+    let sealed = all-append (sealFacts f fileType) (layoutFacts f l ++ recordFacts f l) in
+    let laid = all-append (layoutFacts f l) (recordFacts f l) in
+    let filled = all-append (fieldFacts f l) (agreementFacts f l ++ (targetFacts f l ++ returnFacts f l)) in
+    let agreed = all-append (agreementFacts f l) (targetFacts f l ++ returnFacts f l) in
+    let linked = all-append (targetFacts f l) (returnFacts f l) in (
+      λ e.
+          let h = all .0 e in
+          let s = sealed .0 (h .1) in
+          let y = laid .0 (s .1) in
+          let d = filled .0 (y .1) in
+          let g = agreed .0 (d .1) in
+          let t = linked .0 (g .1) in
+          record {
+            least = h .0 .0;
+            most = h .0 .1;
+            checksum = s .0 .0;
+            file-type = s .0 .1 .0;
+            structure-version = s .0 .1 .1 .0;
+            layout = (layout-obeyed f l) .0 (y .0);
+            fields = (fields-iff f l) .0 (d .0);
+            agreement = (agreement-iff f l) .0 (g .0);
+            targets = (targets-iff f l) .0 (t .0);
+            returns = (returns-iff f l) .0 (t .1);
+          },
+      λ o. all .1 (
+        (o .least, o .most),
+        sealed .1 (
+          (o .checksum, (o .file-type, (o .structure-version, tt))),
+          laid .1 (
+            (layout-obeyed f l) .1 (o .layout),
+            filled .1 (
+              (fields-iff f l) .1 (o .fields),
+              agreed .1 ((agreement-iff f l) .1 (o .agreement), linked .1 ((targets-iff f l) .1 (o .targets), (returns-iff f l) .1 (o .returns))),
+            ),
+          ),
+        ),
+      ),
+    )

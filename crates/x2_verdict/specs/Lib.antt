@@ -1,0 +1,5 @@
+pub mod Facts
+pub mod Obeys
+pub mod Questions
+pub mod Answers
+pub mod inner

@@ -1,5 +1,0 @@
-pub mod Ways
-pub mod Links
-pub mod Listed
-pub mod Range
-pub mod Asked

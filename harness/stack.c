@@ -1,0 +1,91 @@
+/* How much stack a call of the library takes: each runs on a stack of its own that was filled with one byte before, and what it has changed is
+ * counted from the far end. A line for each, and status 1 where a call takes more than yard.h says. */
+#define _XOPEN_SOURCE 700
+#include <inttypes.h>
+#include <stdio.h>
+#include <string.h>
+#include <ucontext.h>
+
+#include "files.h"
+#include "yard.h"
+
+enum { STACK = 1 << 20, FILLED = 0xA5, LARGEST = 65535, FIRST_START = 41, WORDS = 8192, OUTPUT = 128 };
+
+/* What yard.h allows, in bytes. */
+enum { ON_X1 = 10 << 10, ON_X2 = 20 << 10, ON_PAIR = 22 << 10, ON_ROUTES = 250 << 10 };
+
+static unsigned char stack[STACK];
+static ucontext_t caller, called;
+static stored geography, application, station[2];
+static uint8_t out[OUTPUT], words[WORDS];
+static uint64_t answered;
+
+static void verdict1(void) { answered = yard_x1(geography.bytes, geography.length); }
+static void verdict2(void) { answered = yard_x2(application.bytes, application.length); }
+static void pair(void) { answered = yard_pair(station[0].bytes, station[0].length, station[1].bytes, station[1].length); }
+static void header1(void) { answered = yard_header1(geography.bytes, geography.length, out, OUTPUT); }
+static void header2(void) { answered = yard_header2(application.bytes, application.length, out, OUTPUT); }
+static void track(void) { answered = yard_track(geography.bytes, geography.length, 0, out, OUTPUT); }
+static void point(void) { answered = yard_point(geography.bytes, geography.length, 0, 1, out, OUTPUT); }
+static void coordinate(void) { answered = yard_coordinate(geography.bytes, geography.length, 1, 1, out, OUTPUT); }
+static void record(void) { answered = yard_record(application.bytes, application.length, FIRST_START, out, OUTPUT); }
+
+static void routes(size_t limit)
+{
+    answered = yard_routes(application.bytes, application.length, FIRST_START, limit, 65535, out, OUTPUT, words, WORDS);
+}
+
+static void routes_of_64(void) { routes(64); }
+static void routes_of_512(void) { routes(512); }
+
+typedef struct {
+    const char *name;
+    void (*call)(void);
+    unsigned allowed;
+} measured;
+
+static const measured calls[] = {
+    { "x1", verdict1, ON_X1 },
+    { "header1", header1, ON_X1 },
+    { "track", track, ON_X1 },
+    { "point", point, ON_X1 },
+    { "coordinate", coordinate, ON_X1 },
+    { "x2", verdict2, ON_X2 },
+    { "header2", header2, ON_X2 },
+    { "record", record, ON_X2 },
+    { "pair", pair, ON_PAIR },
+    { "routes, limit 64", routes_of_64, ON_ROUTES },
+    { "routes, limit 512", routes_of_512, ON_ROUTES },
+};
+
+/* The bytes of the stack that a call changes. */
+static unsigned taken(void (*call)(void))
+{
+    unsigned untouched = 0;
+    memset(stack, FILLED, STACK);
+    getcontext(&called);
+    called.uc_stack.ss_sp = stack;
+    called.uc_stack.ss_size = STACK;
+    called.uc_link = &caller;
+    makecontext(&called, call, 0);
+    swapcontext(&caller, &called);
+    while (untouched < STACK && stack[untouched] == FILLED)
+        untouched++;
+    return STACK - untouched;
+}
+
+int main(void)
+{
+    int over = 0;
+    worst_geography(LARGEST, &geography);
+    worst_application(LARGEST, &application);
+    largest_station(LARGEST, station);
+    for (size_t i = 0; i < sizeof calls / sizeof calls[0]; i++) {
+        unsigned bytes = taken(calls[i].call);
+        printf("%-18s %6u bytes of stack, at most %6u; number %u\n", calls[i].name, bytes, calls[i].allowed, YARD_NUMBER(answered));
+        over |= bytes > calls[i].allowed;
+    }
+    if (over)
+        fputs("stack: a call takes more than yard.h says\n", stderr);
+    return over;
+}

@@ -1,0 +1,22 @@
+/* The answers of the core to a case, and how they are printed. */
+#ifndef ANSWER_H
+#define ANSWER_H
+
+#include <stdio.h>
+
+#include "core/core.h"
+#include "generator/asked.h"
+
+/* The word that names a kind in an answer. */
+const char *kind_name(ind_kind kind);
+
+/* The answer's number, place and file. */
+ind_answer answer_case(const posed *ask);
+
+/* So many routes from a list's words: the offsets of each on one line. */
+void print_route_lines(FILE *output, const uint16_t *words, uint32_t routes);
+
+/* The whole answer as yardask prints it. */
+void print_answer(FILE *output, const posed *ask);
+
+#endif

@@ -1,0 +1,26 @@
+/* The sub-commands of the independent program. Each returns the exit status
+ * of the run; main sees to it that all that they print is written. */
+#ifndef COMMANDS_H
+#define COMMANDS_H
+
+enum {
+    RUN_WELL = 0,
+    RUN_BAD = 1,
+    /* The command line was wrong. */
+    RUN_MISUSED = 2
+};
+
+int command_sums_files(void);
+int command_sums(void);
+int command_answer(void);
+int command_list(void);
+int command_self(void);
+
+/* These take SEED COUNT [KIND..]. */
+int command_cases(int count, char **words);
+int command_kinds(int count, char **words);
+int command_places(int count, char **words);
+int command_each(int count, char **words);
+int command_exact(int count, char **words);
+
+#endif

@@ -1,0 +1,96 @@
+/* Generated cases answered from blocks that hold a file's bytes and nothing
+ * more, so that a run under a memory checker sees every read outside; lent
+ * words are looked at too. */
+#include <stdlib.h>
+#include <string.h>
+
+#include "answer.h"
+#include "commands.h"
+#include "generation.h"
+
+enum {
+    UNTOUCHED = 0xA55A
+};
+
+static int alike(ind_answer one, ind_answer other)
+{
+    return one.number == other.number && one.place == other.place
+        && one.file == other.file;
+}
+
+/* A block of so many bytes and no more. */
+static void *block(size_t size)
+{
+    void *bytes = malloc(size == 0 ? 1 : size);
+    if (bytes == NULL) {
+        fputs("independent: no memory for a block\n", stderr);
+        exit(RUN_BAD);
+    }
+    return bytes;
+}
+
+/* A block of exactly the file's bytes; an over-long file has none. */
+static uint8_t *block_of(const stored *file)
+{
+    uint32_t size = file->length > IND_LARGEST_FILE ? 0 : file->length;
+    uint8_t *bytes = block(size);
+    memcpy(bytes, file->bytes, size);
+    return bytes;
+}
+
+/* A listing into exactly the room lent: a refusal touches no word, an answer
+ * none after its list. */
+static int words_kept(const posed *ask)
+{
+    static ind_walks walks;
+    uint32_t room = ask->numbers[3];
+    uint16_t *words = block(room * sizeof *words);
+    ind_routes found;
+    uint32_t kept;
+    for (uint32_t i = 0; i < room; i++)
+        words[i] = UNTOUCHED;
+    found = ind_routes_from(ask->bytes[0], ask->length[0], ask->numbers[0],
+                            ask->numbers[1], ask->numbers[2], words, room,
+                            &walks);
+    kept = found.words;
+    while (kept < room && words[kept] == UNTOUCHED)
+        kept++;
+    free(words);
+    return kept == room;
+}
+
+static int case_right(const asked *ask)
+{
+    posed roomy = pose(ask);
+    posed exact = roomy;
+    uint8_t *blocks[FILES];
+    int right;
+    for (int i = 0; i < FILES; i++) {
+        blocks[i] = block_of(&ask->files[i]);
+        exact.bytes[i] = blocks[i];
+    }
+    right = alike(answer_case(&roomy), answer_case(&exact));
+    if (ask->question == ASK_ROUTES)
+        right = right && words_kept(&exact);
+    for (int i = 0; i < FILES; i++)
+        free(blocks[i]);
+    return right;
+}
+
+int command_exact(int count, char **words)
+{
+    static asked ask;
+    unsigned long passed = 0, failed = 0;
+    generation run;
+    if (!read_generation(count, words, &run))
+        return RUN_MISUSED;
+    for (uint64_t i = 0; i < run.count; i++) {
+        build_case(&run, i, &ask);
+        if (case_right(&ask))
+            passed++;
+        else
+            failed++;
+    }
+    printf("%lu passed, %lu failed\n", passed, failed);
+    return failed == 0 ? RUN_WELL : RUN_BAD;
+}

@@ -1,0 +1,51 @@
+/* SEED COUNT [KIND..]: which cases are wanted. */
+#include "generation.h"
+
+#include <errno.h>
+#include <stdio.h>
+#include <stdlib.h>
+#include <string.h>
+
+/* One KIND word; 0 if there is no such kind. */
+static int want_kind(const char *word, wanted *kinds)
+{
+    if (strcmp(word, "small") == 0) {
+        kinds->small = 1;
+        return 1;
+    }
+    for (uint32_t i = ASK_X1; i < QUESTIONS; i++)
+        if (strcmp(word, question_name(i)) == 0) {
+            kinds->asked_for[i] = 1;
+            return 1;
+        }
+    return 0;
+}
+
+static int read_number(const char *word, uint64_t *number)
+{
+    char *rest;
+    errno = 0;
+    *number = strtoull(word, &rest, 10);
+    return word[0] >= '0' && word[0] <= '9' && *rest == '\0' && errno == 0;
+}
+
+int read_generation(int count, char **words, generation *run)
+{
+    int named = 0;
+    memset(run, 0, sizeof *run);
+    if (count < 2 || !read_number(words[0], &run->seed)
+        || !read_number(words[1], &run->count)) {
+        fputs("independent: SEED and COUNT are numbers\n", stderr);
+        return 0;
+    }
+    for (int i = 2; i < count; i++) {
+        if (!want_kind(words[i], &run->kinds)) {
+            fprintf(stderr, "independent: no kind %s\n", words[i]);
+            return 0;
+        }
+        named += strcmp(words[i], "small") != 0;
+    }
+    for (uint32_t i = ASK_X1; named == 0 && i < QUESTIONS; i++)
+        run->kinds.asked_for[i] = 1;
+    return 1;
+}

@@ -1,0 +1,11 @@
+/* A run of the generator, as a command line asks for it. */
+#ifndef GENERATION_H
+#define GENERATION_H
+
+#include "generator/cases.h"
+
+/* Reads SEED COUNT [KIND..]. Where the words are wrong it says so on standard
+ * error and returns 0. */
+int read_generation(int count, char **words, generation *run);
+
+#endif

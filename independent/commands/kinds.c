@@ -1,0 +1,239 @@
+/* How many of the generated cases answer with each number, and at which kind
+ * of place. */
+#include <stdio.h>
+#include <stdlib.h>
+#include <string.h>
+
+#include "answer.h"
+#include "batch.h"
+#include "commands.h"
+#include "generation.h"
+
+enum {
+    /* The name of a place, and of a case with its question and number. */
+    PLACE_ROOM = 32,
+    NAME_ROOM = 64,
+    NAMES_LARGEST = 1000
+};
+
+int command_kinds(int count, char **words)
+{
+    static asked ask;
+    static unsigned long counted[QUESTIONS][IND_NUMBERS];
+    generation run;
+    if (!read_generation(count, words, &run))
+        return RUN_MISUSED;
+    for (uint64_t i = 0; i < run.count; i++) {
+        posed given;
+        build_case(&run, i, &ask);
+        given = pose(&ask);
+        counted[ask.question][answer_case(&given).number]++;
+    }
+    for (uint32_t asked_for = ASK_X1; asked_for < QUESTIONS; asked_for++)
+        for (int number = 0; number < IND_NUMBERS; number++)
+            if (counted[asked_for][number] > 0)
+                printf("%s %d %lu\n", question_name(asked_for), number,
+                       counted[asked_for][number]);
+    return RUN_WELL;
+}
+
+/* A part of a file and the place in that part. */
+static void name_part(char *name, const char *part, uint32_t place)
+{
+    snprintf(name, PLACE_ROOM, "%s+%lu", part, (unsigned long)place);
+}
+
+static void name_geography_place(const stored *file, uint32_t place,
+                                 char *name)
+{
+    uint32_t points = ind_track_place(ind_tracks(file->bytes));
+    if (place >= ind_end(file->length))
+        strcpy(name, "end");
+    else if (place < IND_TRACKS_PLACE)
+        name_part(name, "header", place);
+    else if (place < points)
+        name_part(name, "track", (place - IND_TRACKS_PLACE) % IND_TRACK_SIZE);
+    else
+        name_part(name, "point", (place - points) % IND_POINT_SIZE);
+}
+
+static void name_record_place(const stored *file, const ind_layout *layout,
+                              uint32_t place, char *name)
+{
+    ind_kind kind = ind_kind_at(layout, place);
+    ind_object record = { kind, layout->from[kind] };
+    while (record.start + ind_record_size(file->bytes, record) <= place)
+        record.start += ind_record_size(file->bytes, record);
+    name_part(name, kind_name(kind), place - record.start);
+}
+
+/* Where an X.2's end boundary count stands. */
+static uint32_t end_count_place(const stored *file)
+{
+    uint32_t starts = file->bytes[IND_START_COUNT_PLACE];
+    return IND_START_ENTRIES_PLACE + IND_ENTRY_SIZE * starts;
+}
+
+/* Where its group offsets stand. */
+static uint32_t groups_place(const stored *file)
+{
+    uint32_t count = end_count_place(file);
+    uint32_t ends = file->bytes[count];
+    return count + IND_COUNT_SIZE + IND_ENTRY_SIZE * ends;
+}
+
+static int in_header(const stored *file, uint32_t place)
+{
+    return place <= end_count_place(file)
+        || place < groups_place(file) + IND_GROUPS_SIZE;
+}
+
+/* A place of an X.2's header. */
+static void name_header_place(const stored *file, uint32_t place, char *name)
+{
+    uint32_t ends = end_count_place(file);
+    if (place < IND_START_ENTRIES_PLACE)
+        name_part(name, "header", place);
+    else if (place < ends)
+        name_part(name, "start_entry",
+                  (place - IND_START_ENTRIES_PLACE) % IND_ENTRY_SIZE);
+    else if (place == ends)
+        strcpy(name, "end_count");
+    else if (place < groups_place(file))
+        name_part(name, "end_entry",
+                  (place - ends - IND_COUNT_SIZE) % IND_ENTRY_SIZE);
+    else
+        name_part(name, "groups", place - groups_place(file));
+}
+
+/* Whether the header names any group. */
+static int any_group(const stored *file)
+{
+    const uint8_t *offsets = file->bytes + groups_place(file);
+    for (uint32_t i = 0; i < IND_GROUPS_SIZE; i++)
+        if (offsets[i] != 0)
+            return 1;
+    return 0;
+}
+
+static void name_application_place(const stored *file, ind_answer answer,
+                                   char *name)
+{
+    ind_layout layout;
+    uint32_t end = ind_end(file->length);
+    if (answer.place >= end)
+        strcpy(name, "end");
+    else if (in_header(file, answer.place))
+        name_header_place(file, answer.place, name);
+    else if (answer.number == IND_LAYOUT)
+        strcpy(name, any_group(file) ? "balise_start" : "boundaries_end");
+    else if (ind_application_layout(file->bytes, end, &layout).number == 0)
+        name_record_place(file, &layout, answer.place, name);
+}
+
+/* Whether a question is about an X.2 alone. */
+static int of_application(uint32_t question)
+{
+    return question == ASK_X2 || question == ASK_RECORD
+        || question == ASK_ROUTES || question == ASK_HEADER2;
+}
+
+static void name_place(const asked *ask, ind_answer answer, char *name)
+{
+    uint32_t which = ask->question == ASK_PAIR && answer.file == IND_FILE_X2;
+    const stored *file = &ask->files[which];
+    strcpy(name, "0");
+    if (answer.number <= IND_LENGTH || answer.number == IND_OUT_OF_RANGE
+        || answer.number >= IND_STEPS
+        || (ask->question == ASK_COORDINATE
+            && answer.number >= IND_NO_TRACK))
+        return;
+    if (which == 1 || of_application(ask->question))
+        name_application_place(file, answer, name);
+    else
+        name_geography_place(file, answer.place, name);
+}
+
+/* A count for each question, number and kind of place. */
+typedef struct {
+    char name[NAME_ROOM];
+    unsigned long count;
+} named_count;
+
+/* The names of a run's cases, counted. */
+static named_count names[NAMES_LARGEST];
+static uint32_t names_used;
+
+/* Counts a name once more, and returns its count. */
+static unsigned long count_name(const char *name)
+{
+    uint32_t i = 0;
+    while (i < names_used && strcmp(names[i].name, name) != 0)
+        i++;
+    if (i == NAMES_LARGEST) {
+        fputs("independent: more kinds of places than there is room for\n",
+              stderr);
+        exit(RUN_BAD);
+    }
+    if (i == names_used) {
+        strcpy(names[i].name, name);
+        names_used++;
+    }
+    return ++names[i].count;
+}
+
+/* The question of a case, its answer's number and kind of place. */
+static void name_case(const asked *ask, char *name)
+{
+    char place[PLACE_ROOM];
+    posed given = pose(ask);
+    ind_answer answer = answer_case(&given);
+    name_place(ask, answer, place);
+    snprintf(name, NAME_ROOM, "%s %lu %s", question_name(ask->question),
+             (unsigned long)answer.number, place);
+}
+
+/* Builds each case of the run that the words say and counts its name; hands
+ * each one on that is the first of its name. 0 if the words are wrong. */
+static int name_cases(int count, char **words,
+                      void (*first)(const asked *ask))
+{
+    static asked ask;
+    generation run;
+    if (!read_generation(count, words, &run))
+        return 0;
+    for (uint64_t i = 0; i < run.count; i++) {
+        char name[NAME_ROOM];
+        build_case(&run, i, &ask);
+        name_case(&ask, name);
+        if (count_name(name) == 1)
+            first(&ask);
+    }
+    return 1;
+}
+
+static void pass_over(const asked *ask)
+{
+    (void)ask;
+}
+
+static void write_first(const asked *ask)
+{
+    write_case(stdout, ask);
+}
+
+int command_places(int count, char **words)
+{
+    if (!name_cases(count, words, pass_over))
+        return RUN_MISUSED;
+    for (uint32_t i = 0; i < names_used; i++)
+        printf("%s %lu\n", names[i].name, names[i].count);
+    return RUN_WELL;
+}
+
+int command_each(int count, char **words)
+{
+    if (!name_cases(count, words, write_first))
+        return RUN_MISUSED;
+    return RUN_WELL;
+}

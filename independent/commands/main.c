@@ -1,0 +1,80 @@
+/* The independent program: one sub-command per run. */
+#include <stdio.h>
+#include <string.h>
+
+#include "commands.h"
+
+/* A command either takes no words or SEED COUNT [KIND..]. */
+typedef struct {
+    const char *name;
+    int (*run)(void);
+    int (*run_generated)(int count, char **words);
+    const char *usage;
+} command;
+
+static const command commands[] = {
+    { "sums-files", command_sums_files, NULL,
+      "sums-files            write the stored files of the checksum check" },
+    { "sums", command_sums, NULL,
+      "sums                  read them, print LENGTH CHECKSUM for each" },
+    { "answer", command_answer, NULL,
+      "answer                read a batch of cases, print their answers" },
+    { "list", command_list, NULL,
+      "list                  read an X.2, print what yardlist prints" },
+    { "cases", NULL, command_cases,
+      "cases SEED COUNT ..   write so many generated cases" },
+    { "kinds", NULL, command_kinds,
+      "kinds SEED COUNT ..   count those cases by question and number" },
+    { "places", NULL, command_places,
+      "places SEED COUNT ..  the same by kind of place too" },
+    { "each", NULL, command_each,
+      "each SEED COUNT ..    write the first of them for each kind of place" },
+    { "exact", NULL, command_exact,
+      "exact SEED COUNT ..   answer them from blocks of exactly their size" },
+    { "self", command_self, NULL,
+      "self                  check document 01's examples" },
+};
+
+#define COMMANDS (sizeof commands / sizeof *commands)
+
+static int usage(void)
+{
+    fputs("usage: independent COMMAND ..\n", stderr);
+    for (size_t i = 0; i < COMMANDS; i++)
+        fprintf(stderr, "  %s\n", commands[i].usage);
+    fputs("after SEED COUNT may stand kinds: x1 x2 pair track point "
+          "coordinate record\nroutes header1 header2; and small, for small "
+          "files alone\n",
+          stderr);
+    return RUN_MISUSED;
+}
+
+static int run(const command *named, int count, char **words)
+{
+    if (named->run_generated != NULL)
+        return named->run_generated(count, words);
+    if (count == 0)
+        return named->run();
+    fprintf(stderr, "independent: %s takes no words\n", named->name);
+    return RUN_MISUSED;
+}
+
+/* The status of a run, once all that it printed is written. */
+static int written(int status)
+{
+    if (fflush(stdout) == 0 && !ferror(stdout))
+        return status;
+    fputs("independent: standard output cannot be written\n", stderr);
+    return status == RUN_WELL ? RUN_BAD : status;
+}
+
+int main(int count, char **words)
+{
+    if (count < 2)
+        return usage();
+    for (size_t i = 0; i < COMMANDS; i++)
+        if (strcmp(words[1], commands[i].name) == 0)
+            return written(run(&commands[i], count - 2, words + 2));
+    fprintf(stderr, "independent: no command %s\n", words[1]);
+    return usage();
+}

@@ -1,0 +1,399 @@
+/* 01's 'Yard examples', the roundings of 'Readings that look right', and the
+ * headers and the track of the example files, each asserted of the core. */
+#include <stdio.h>
+#include <string.h>
+
+#include "answer.h"
+#include "commands.h"
+#include "list.h"
+
+/* Yard Y: its places and its links. */
+enum {
+    Y_START = 44,
+    Y_FIRST_END = 56,
+    Y_SECOND_END = 68,
+    Y_TURNOUT = 80,
+    Y_LENGTH = 108,
+    Y_START_ENTRY = 24,
+    Y_END_COUNT = 27,
+    Y_FIRST_END_ENTRY = 28,
+    Y_SECOND_END_ENTRY = 31,
+    Y_GROUPS = 34,
+    Y_ROOM = 8
+};
+
+/* The X.1 of one track and two points. */
+enum {
+    ONE_TRACK = 8,
+    ONE_FIRST_POINT = 38,
+    ONE_LAST_POINT = 51,
+    ONE_LENGTH = 68
+};
+
+enum {
+    UNTOUCHED = 0xA55A,
+    /* More than any text that is asserted here has. */
+    TEXT_ROOM = 400
+};
+
+static unsigned long passed, failed;
+
+static void expect(int holds, const char *sentence)
+{
+    if (holds) {
+        passed++;
+        return;
+    }
+    failed++;
+    printf("failed: %s\n", sentence);
+}
+
+static int says(ind_answer answer, uint32_t number, uint32_t place)
+{
+    return answer.number == number && answer.place == place;
+}
+
+static void put_y_boundary(uint8_t *bytes, uint32_t entry, uint32_t start,
+                           uint8_t type)
+{
+    bytes[entry + IND_ENTRY_TRACK] = 1;
+    put_two(bytes, entry + IND_ENTRY_OFFSET, start);
+    bytes[start + IND_TYPE_PLACE] = type;
+    put_two(bytes, start + IND_BOUNDARY_LINK, Y_TURNOUT);
+    bytes[start + IND_BOUNDARY_NEIGHBOUR_TYPE] = IND_NEIGHBOUR_UNKNOWN;
+    bytes[start + IND_BOUNDARY_TRACK] = 1;
+}
+
+static void put_y_turnout(uint8_t *turnout, uint32_t reverse)
+{
+    turnout[IND_TYPE_PLACE] = IND_TURNOUT_TYPE;
+    turnout[IND_TURNOUT_NUMBER] = 1;
+    turnout[IND_TURNOUT_DIRECTION] = 1;
+    put_two(turnout, IND_TURNOUT_FRONT, Y_START);
+    put_two(turnout, IND_TURNOUT_NORMAL, Y_FIRST_END);
+    put_two(turnout, IND_TURNOUT_REVERSE, reverse);
+    turnout[IND_TURNOUT_FRONT_TRACK] = 1;
+    turnout[IND_TURNOUT_NORMAL_TRACK] = 1;
+    turnout[IND_TURNOUT_REVERSE_TRACK] = 1;
+}
+
+/* Yard Y with this reverse link. */
+static void make_y(stored *file, uint32_t reverse)
+{
+    uint8_t *bytes = file->bytes;
+    memset(file, 0, sizeof *file);
+    file->length = Y_LENGTH;
+    put_opening(bytes, IND_X2_TYPE, 1, 1);
+    bytes[IND_STATION_NAME_PLACE] = 0xB1;
+    bytes[IND_STATION_NAME_PLACE + 1] = 0xB1;
+    bytes[IND_START_COUNT_PLACE] = 1;
+    bytes[Y_END_COUNT] = 2;
+    put_two(bytes, Y_GROUPS, Y_TURNOUT);
+    put_y_boundary(bytes, Y_START_ENTRY, Y_START, IND_DOWN_START);
+    put_y_boundary(bytes, Y_FIRST_END_ENTRY, Y_FIRST_END, IND_DOWN_END);
+    put_y_boundary(bytes, Y_SECOND_END_ENTRY, Y_SECOND_END, IND_DOWN_END);
+    put_y_turnout(bytes + Y_TURNOUT, reverse);
+    seal(file);
+}
+
+/* One track from (0, 0) to a position and a latitude, all else least. */
+static void make_one_track(stored *file, uint32_t position, int32_t latitude)
+{
+    uint8_t *bytes = file->bytes, *track = bytes + ONE_TRACK;
+    memset(file, 0, sizeof *file);
+    file->length = ONE_LENGTH;
+    put_opening(bytes, IND_X1_TYPE, 1, 1);
+    bytes[IND_TRACK_COUNT_PLACE] = 1;
+    track[IND_TRACK_NUMBER] = 1;
+    track[IND_TRACK_PROPERTY] = 1;
+    put_four(track, IND_TRACK_END_POSITION, position);
+    put_four(track, IND_TRACK_END_LATITUDE, (uint32_t)latitude);
+    put_two(track, IND_TRACK_FIRST_POINT, ONE_FIRST_POINT);
+    put_two(track, IND_TRACK_LAST_POINT, ONE_LAST_POINT);
+    put_four(bytes, ONE_LAST_POINT + IND_POINT_POSITION, position);
+    put_three(bytes, ONE_LAST_POINT + IND_POINT_LATITUDE,
+              (uint32_t)latitude);
+    seal(file);
+}
+
+static void checksum_examples(void)
+{
+    static const uint8_t ones[] = { 0xFF, 0xFF, 0xFF, 0xFF };
+    expect(ind_checksum(ones, 1) == 0xFFFFFF00,
+           "checksum of FF is 0xFFFFFF00");
+    expect(ind_checksum(ones, 4) == 0, "of FF FF FF FF is 0");
+}
+
+static void increment_examples(void)
+{
+    static const uint8_t minus_one[] = { 0xFF, 0xFF, 0xFF };
+    static const uint8_t least[] = { 0x00, 0x00, 0x80 };
+    static const uint8_t largest[] = { 0xFF, 0xFF, 0x7F };
+    expect(ind_increment(minus_one) == -1, "FF FF FF is -1");
+    expect(ind_increment(least) == -8388608, "00 00 80 is -8388608");
+    expect(ind_increment(largest) == 8388607, "FF FF 7F is 8388607");
+}
+
+/* Both ways: the fraction alone, and the coordinate of a whole file. */
+static int between_gives(uint32_t end, int32_t latitude, uint32_t position,
+                         int32_t expected)
+{
+    static stored file;
+    ind_coordinate found;
+    make_one_track(&file, end, latitude);
+    found = ind_coordinate_at(file.bytes, file.length, 1, position);
+    return ind_between(latitude, position, end) == expected
+        && says(found.answer, 0, 0) && found.latitude == expected
+        && found.longitude == 0;
+}
+
+static void coordinate_examples(void)
+{
+    expect(between_gives(3, 1, 1, 0), "(0, 0) and (3, 1): 1 gives 0");
+    expect(between_gives(3, 1, 2, 1), "(0, 0) and (3, 1): 2 gives 1");
+    expect(between_gives(2, 1, 1, 1), "(0, 0) and (2, 1): 1 gives 1");
+    expect(between_gives(2, -1, 1, 0), "(0, 0) and (2, -1): 1 gives 0");
+    expect(between_gives(3, -5, 1, -2), "-5/3 is -2");
+    expect(between_gives(2, -3, 1, -1), "-3/2 is -1");
+}
+
+/* What a listing of Y must be: its answer, counts and words. */
+typedef struct {
+    uint32_t start;
+    uint32_t limit;
+    uint32_t budget;
+    uint32_t room;
+    uint32_t number;
+    uint32_t routes;
+    uint32_t walks;
+    uint32_t words;
+    uint16_t list[Y_ROOM];
+    const char *sentence;
+} listing_example;
+
+static const listing_example listings[] = {
+    { 44, 8, 65535, 8, 0, 2, 4, 8, { 3, 44, 80, 56, 3, 44, 80, 68 },
+      "Y from 44, limit 8: 2 routes, 4 walks" },
+    { 68, 8, 65535, 8, 0, 1, 3, 4, { 3, 68, 80, 44 },
+      "from 68: 1 route, 3 walks" },
+    { 44, 2, 65535, 8, 0, 0, 2, 0, { 0 },
+      "limit 2 from 44: no route, 2 walks" },
+    { 44, 8, 3, 8, 14, 0, 0, 0, { 0 }, "budget 3 from 44: 14" },
+    { 44, 8, 4, 8, 0, 2, 4, 8, { 3, 44, 80, 56, 3, 44, 80, 68 },
+      "budget 4: answered" },
+    { 44, 8, 4, 7, 15, 0, 0, 0, { 0 }, "room 7: 15" },
+    { 44, 0, 65535, 8, 0, 2, 4, 8, { 3, 44, 80, 56, 3, 44, 80, 68 },
+      "room 8: answered" },
+    { 44, 1, 4, 8, 13, 0, 0, 0, { 0 }, "limit 1: 13" },
+    { 44, 513, 4, 8, 13, 0, 0, 0, { 0 }, "limit 513: 13" },
+    { 44, 8, 0, 8, 13, 0, 0, 0, { 0 }, "budget 0: 13" },
+    { 44, 8, 65536, 8, 13, 0, 0, 0, { 0 }, "budget 65,536: 13" },
+    { 80, 8, 4, 8, 13, 0, 0, 0, { 0 }, "from a turnout: 13" },
+    { 45, 8, 4, 8, 13, 0, 0, 0, { 0 }, "from inside a boundary: 13" }
+};
+
+static int listing_right(const stored *y, const listing_example *example)
+{
+    static ind_walks walks;
+    uint16_t words[Y_ROOM];
+    ind_routes found;
+    int right;
+    for (int i = 0; i < Y_ROOM; i++)
+        words[i] = UNTOUCHED;
+    found = ind_routes_from(y->bytes, y->length, example->start,
+                            example->limit, example->budget, words,
+                            example->room, &walks);
+    right = says(found.answer, example->number, 0)
+        && found.routes == example->routes && found.walks == example->walks
+        && found.words == example->words;
+    for (uint32_t i = 0; i < Y_ROOM; i++)
+        right = right
+            && words[i] == (i < example->words ? example->list[i] : UNTOUCHED);
+    return right;
+}
+
+static void route_examples(void)
+{
+    static stored y;
+    make_y(&y, Y_SECOND_END);
+    expect(says(ind_x2(y.bytes, y.length), 0, 0), "Y is accepted");
+    for (size_t i = 0; i < sizeof listings / sizeof *listings; i++)
+        expect(listing_right(&y, &listings[i]), listings[i].sentence);
+}
+
+static void link_examples(void)
+{
+    static stored y;
+    make_y(&y, 57);
+    expect(says(ind_x2(y.bytes, y.length), 8, 99), "reverse 57: 8 at 99");
+    make_y(&y, Y_TURNOUT);
+    expect(says(ind_x2(y.bytes, y.length), 8, 99), "reverse 80: 8 at 99");
+    make_y(&y, 0);
+    expect(says(ind_x2(y.bytes, y.length), 9, 69), "reverse 0: 9 at 69");
+    make_y(&y, Y_FIRST_END);
+    expect(says(ind_x2(y.bytes, y.length), 9, 69), "reverse 56: 9 at 69");
+}
+
+static int last_offset_gives(uint32_t last, uint32_t number, uint32_t place)
+{
+    static stored file;
+    make_one_track(&file, 1, 0);
+    put_two(file.bytes + ONE_TRACK, IND_TRACK_LAST_POINT, last);
+    seal(&file);
+    return says(ind_x1(file.bytes, file.length), number, place);
+}
+
+static void offset_examples(void)
+{
+    expect(last_offset_gives(51, 0, 0), "68 bytes, offsets 38 and 51");
+    expect(last_offset_gives(50, 6, 36), "last offset 50: 6 at 36");
+    expect(last_offset_gives(38, 6, 36), "last offset 38: 6 at 36");
+}
+
+/* Whether this text and nothing else was printed; closes what was kept. */
+static int printed(FILE *kept, const char *due)
+{
+    char text[TEXT_ROOM];
+    size_t length;
+    rewind(kept);
+    length = fread(text, 1, sizeof text, kept);
+    fclose(kept);
+    return length == strlen(due) && memcmp(text, due, length) == 0;
+}
+
+static int list_prints(const stored *y, const char *due)
+{
+    FILE *kept = tmpfile();
+    if (kept == NULL)
+        return 0;
+    print_list(kept, y->bytes, y->length);
+    return printed(kept, due);
+}
+
+/* A question about one file, all its numbers 0. */
+static int answer_prints(uint32_t question, const stored *file,
+                         const char *due)
+{
+    posed ask = { question, { 0 }, { file->bytes, NULL }, { file->length, 0 } };
+    FILE *kept = tmpfile();
+    if (kept == NULL)
+        return 0;
+    print_answer(kept, &ask);
+    return printed(kept, due);
+}
+
+static void track_example(void)
+{
+    static stored file;
+    make_one_track(&file, 3, 1);
+    expect(answer_prints(ASK_TRACK, &file, "answer 0 0\n"
+                                           "number 1\n"
+                                           "property 1\n"
+                                           "start_position 0\n"
+                                           "start_latitude 0\n"
+                                           "start_longitude 0\n"
+                                           "end_position 3\n"
+                                           "end_latitude 1\n"
+                                           "end_longitude 0\n"
+                                           "first_offset 38\n"
+                                           "last_offset 51\n"
+                                           "points 2\n"),
+           "the ten fields of a track's entry, and its points");
+}
+
+/* An X.1's header: no two of its fields alike. */
+static void header1_examples(void)
+{
+    static stored file;
+    make_one_track(&file, 1, 0);
+    put_opening(file.bytes, IND_X1_TYPE, 0x0203, 0x0405);
+    seal(&file);
+    expect(answer_prints(ASK_HEADER1, &file, "answer 0 0\n"
+                                             "structure 1\n"
+                                             "data 515\n"
+                                             "station 1029\n"),
+           "header of an X.1");
+    expect(answer_prints(ASK_HEADER2, &file, "answer 1 0\n"),
+           "an X.1 of 68 bytes is too short for header2");
+    put_two(file.bytes, IND_STATION_PLACE, 0);
+    seal(&file);
+    expect(answer_prints(ASK_HEADER1, &file, "answer 5 5\n"),
+           "header1 first gives the X.1's fault");
+}
+
+/* Y with a station name of so many bytes and zeros after them. */
+static int name_prints(const uint8_t *name, size_t size, const char *due)
+{
+    static stored y;
+    make_y(&y, Y_SECOND_END);
+    put_opening(y.bytes, IND_X2_TYPE, 7, 312);
+    memset(y.bytes + IND_STATION_NAME_PLACE, 0, IND_STATION_NAME_SIZE);
+    memcpy(y.bytes + IND_STATION_NAME_PLACE, name, size);
+    seal(&y);
+    return answer_prints(ASK_HEADER2, &y, due);
+}
+
+static void header2_examples(void)
+{
+    /* Table 5's example, and one that fills the field. */
+    static const uint8_t table_5[] = { 0xB1, 0xB1, 0xBE, 0xA9, 0xC4, 0xCF };
+    static const uint8_t full[] = { 0x81, 0x40, 0xFE, 0xFE, 0x81, 0x7E,
+                                    0x81, 0x80, 0xB1, 0xB1, 0xBE, 0xA9,
+                                    0xC4, 0xCF, 0xFE, 0x40 };
+    static stored y;
+    make_y(&y, Y_SECOND_END);
+    expect(answer_prints(ASK_HEADER2, &y, "answer 0 0\n"
+                                          "structure 1\n"
+                                          "data 1\n"
+                                          "station 1\n"
+                                          "name b1b1\n"),
+           "header of Y");
+    expect(answer_prints(ASK_HEADER1, &y, "answer 3 0\n"),
+           "Y is of the wrong type for header1");
+    make_y(&y, Y_TURNOUT);
+    expect(answer_prints(ASK_HEADER2, &y, "answer 8 99\n"),
+           "header2 first gives the X.2's fault");
+    expect(name_prints(table_5, sizeof table_5, "answer 0 0\n"
+                                                "structure 1\n"
+                                                "data 7\n"
+                                                "station 312\n"
+                                                "name b1b1bea9c4cf\n"),
+           "the station name of table 5");
+    expect(name_prints(full, sizeof full,
+                       "answer 0 0\n"
+                       "structure 1\n"
+                       "data 7\n"
+                       "station 312\n"
+                       "name 8140fefe817e8180b1b1bea9c4cffe40\n"),
+           "a station name without closing zeros");
+}
+
+static void list_example(void)
+{
+    static stored y;
+    make_y(&y, Y_SECOND_END);
+    expect(list_prints(&y, "verdict 0 0\n"
+                           "from 44 routes 2 walks 4\n"
+                           "44 80 56\n"
+                           "44 80 68\n"),
+           "yardlist on Y");
+    make_y(&y, Y_TURNOUT);
+    expect(list_prints(&y, "verdict 8 99\n"),
+           "after a refused verdict nothing follows");
+}
+
+int command_self(void)
+{
+    checksum_examples();
+    increment_examples();
+    coordinate_examples();
+    route_examples();
+    link_examples();
+    offset_examples();
+    track_example();
+    header1_examples();
+    header2_examples();
+    list_example();
+    printf("%lu passed, %lu failed\n", passed, failed);
+    return failed == 0 ? RUN_WELL : RUN_BAD;
+}

@@ -1,0 +1,121 @@
+/* 01, 'Bytes and checksum': the checksum. */
+#include "checksum.h"
+
+#include "bytes.h"
+
+#define TERM(degree) ((uint32_t)1 << (degree))
+
+/* The terms of 6.6 in the page's order; that of degree 32 is understood. */
+#define CHECKSUM_MASK                                                        \
+    (TERM(31) | TERM(30) | TERM(28) | TERM(25) | TERM(19) | TERM(18) |       \
+     TERM(16) | TERM(15) | TERM(11) | TERM(9) | TERM(7) | TERM(0))
+#define CHECKSUM_START ((uint32_t)0xFFFFFFFF)
+#define CHECKSUM_HIGH_BYTE_SHIFT 24
+
+enum {
+    TURN_SIZE = 8,
+    BYTE_VALUES = 256,
+    LOW_BYTE = 0xFF
+};
+
+/* What the register becomes of each bit of its high byte, the lowest first,
+ * when that byte has left the high end and so many others after it. Each is
+ * the one before it, shifted once more. */
+#define PASSED_0 0xD20D8A81u, 0x76169F83u, 0xEC2D3F06u, 0x0A57F48Du,         \
+                 0x14AFE91Au, 0x295FD234u, 0x52BFA468u, 0xA57F48D0u
+#define PASSED_1 0x98F31B21u, 0xE3EBBCC3u, 0x15DAF307u, 0x2BB5E60Eu,         \
+                 0x576BCC1Cu, 0xAED79838u, 0x8FA2BAF1u, 0xCD48FF63u
+#define PASSED_2 0x489C7447u, 0x9138E88Eu, 0xF07C5B9Du, 0x32F53DBBu,         \
+                 0x65EA7B76u, 0xCBD4F6ECu, 0x45A46759u, 0x8B48CEB2u
+#define PASSED_3 0xC49C17E5u, 0x5B35A54Bu, 0xB66B4A96u, 0xBEDB1FADu,         \
+                 0xAFBBB5DBu, 0x8D7AE137u, 0xC8F848EFu, 0x43FD1B5Fu
+#define PASSED_4 0x87FA36BEu, 0xDDF9E7FDu, 0x69FE457Bu, 0xD3FC8AF6u,         \
+                 0x75F49F6Du, 0xEBE93EDAu, 0x05DFF735u, 0x0BBFEE6Au
+#define PASSED_5 0x177FDCD4u, 0x2EFFB9A8u, 0x5DFF7350u, 0xBBFEE6A0u,         \
+                 0xA5F047C1u, 0x99ED0503u, 0xE1D78087u, 0x11A28B8Fu
+#define PASSED_6 0x2345171Eu, 0x468A2E3Cu, 0x8D145C78u, 0xC8253271u,         \
+                 0x4247EE63u, 0x848FDCC6u, 0xDB12330Du, 0x6429EC9Bu
+#define PASSED_7 0xC853D936u, 0x42AA38EDu, 0x855471DAu, 0xD8A56935u,         \
+                 0x634758EBu, 0xC68EB1D6u, 0x5F10E92Du, 0xBE21D25Au
+
+/* One bit leaves the register at the high end; a 1 brings the mask in. */
+#define SHIFTED(value)                                                       \
+    ((value) << 1 ^ ((value) & TERM(31) ? CHECKSUM_MASK : 0))
+
+/* The list above holds no other number: the compiler works it out. */
+#define EACH_SHIFTED(...) EACH_SHIFTED_OF(__VA_ARGS__)
+#define EACH_SHIFTED_OF(before, a, b, c, d, e, f, g, h)                      \
+    (SHIFTED(before) == a && SHIFTED(a) == b && SHIFTED(b) == c              \
+     && SHIFTED(c) == d && SHIFTED(d) == e && SHIFTED(e) == f                \
+     && SHIFTED(f) == g && SHIFTED(g) == h)
+#define LAST(...) LAST_OF(__VA_ARGS__)
+#define LAST_OF(a, b, c, d, e, f, g, h) h
+
+typedef char every_number_is_the_one_before_it_shifted
+    [EACH_SHIFTED(TERM(31), PASSED_0) && EACH_SHIFTED(LAST(PASSED_0), PASSED_1)
+     && EACH_SHIFTED(LAST(PASSED_1), PASSED_2)
+     && EACH_SHIFTED(LAST(PASSED_2), PASSED_3)
+     && EACH_SHIFTED(LAST(PASSED_3), PASSED_4)
+     && EACH_SHIFTED(LAST(PASSED_4), PASSED_5)
+     && EACH_SHIFTED(LAST(PASSED_5), PASSED_6)
+     && EACH_SHIFTED(LAST(PASSED_6), PASSED_7) ? 1 : -1];
+
+/* The bits of a byte act each for itself. */
+#define OF_BYTE(byte, a, b, c, d, e, f, g, h)                                \
+    (((byte) & 0x01 ? a : 0) ^ ((byte) & 0x02 ? b : 0)                       \
+     ^ ((byte) & 0x04 ? c : 0) ^ ((byte) & 0x08 ? d : 0)                     \
+     ^ ((byte) & 0x10 ? e : 0) ^ ((byte) & 0x20 ? f : 0)                     \
+     ^ ((byte) & 0x40 ? g : 0) ^ ((byte) & 0x80 ? h : 0))
+#define BYTES_4(byte, ...)                                                   \
+    OF_BYTE(byte, __VA_ARGS__), OF_BYTE((byte) + 1, __VA_ARGS__),            \
+    OF_BYTE((byte) + 2, __VA_ARGS__), OF_BYTE((byte) + 3, __VA_ARGS__)
+#define BYTES_16(byte, ...)                                                  \
+    BYTES_4(byte, __VA_ARGS__), BYTES_4((byte) + 4, __VA_ARGS__),            \
+    BYTES_4((byte) + 8, __VA_ARGS__), BYTES_4((byte) + 12, __VA_ARGS__)
+#define BYTES_64(byte, ...)                                                  \
+    BYTES_16(byte, __VA_ARGS__), BYTES_16((byte) + 16, __VA_ARGS__),         \
+    BYTES_16((byte) + 32, __VA_ARGS__), BYTES_16((byte) + 48, __VA_ARGS__)
+#define EVERY_BYTE(...)                                                      \
+    { BYTES_64(0, __VA_ARGS__), BYTES_64(64, __VA_ARGS__),                   \
+      BYTES_64(128, __VA_ARGS__), BYTES_64(192, __VA_ARGS__) }
+
+/* What the register becomes of each value of its high byte when that byte
+ * has left the high end and so many others after it. */
+static const uint32_t passed[TURN_SIZE][BYTE_VALUES] = {
+    EVERY_BYTE(PASSED_0), EVERY_BYTE(PASSED_1), EVERY_BYTE(PASSED_2),
+    EVERY_BYTE(PASSED_3), EVERY_BYTE(PASSED_4), EVERY_BYTE(PASSED_5),
+    EVERY_BYTE(PASSED_6), EVERY_BYTE(PASSED_7)
+};
+
+/* Four bytes as they enter the register, the first one high. */
+static uint32_t entering(const uint8_t *bytes)
+{
+    return (uint32_t)bytes[0] << 24 | (uint32_t)bytes[1] << 16
+        | (uint32_t)bytes[2] << 8 | bytes[3];
+}
+
+/* Four bytes after which so many others pass. */
+static uint32_t four_passed(uint32_t four, int others)
+{
+    return (passed[others + 3][four >> 24]
+            ^ passed[others + 2][four >> 16 & LOW_BYTE])
+        ^ (passed[others + 1][four >> 8 & LOW_BYTE]
+           ^ passed[others][four & LOW_BYTE]);
+}
+
+/* Eight bytes a turn, then the rest one by one. What the later four become
+ * does not wait for the register. */
+uint32_t ind_checksum(const uint8_t *bytes, size_t length)
+{
+    uint32_t value = CHECKSUM_START;
+    for (; length >= TURN_SIZE; length -= TURN_SIZE) {
+        uint32_t later = four_passed(entering(bytes + 4), 0);
+        value = four_passed(value ^ entering(bytes), 4) ^ later;
+        bytes += TURN_SIZE;
+    }
+    for (; length > 0; length--) {
+        uint32_t high = value >> CHECKSUM_HIGH_BYTE_SHIFT;
+        value = value << IND_BITS_PER_BYTE ^ passed[0][high ^ *bytes++];
+    }
+    return value;
+}

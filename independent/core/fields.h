@@ -1,0 +1,15 @@
+/* 01, X.2's 'Fields' and 'Agreement'. */
+#ifndef IND_FIELDS_H
+#define IND_FIELDS_H
+
+#include "layout.h"
+#include "marks.h"
+
+/* Checks 5 and 7. Both look at every record, and marks are set where a link
+ * may point: at each boundary, turnout, signal, joint and balise of place 1.
+ * The marks hold for a file that passes. */
+ind_answer ind_application_contents(const uint8_t *file,
+                                    const ind_layout *layout,
+                                    ind_marks *targets);
+
+#endif

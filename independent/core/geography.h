@@ -1,0 +1,84 @@
+/* 01, 'X.1, track geography': sizes, places and ranges of tables 2 and 3, and
+ * the verdict. */
+#ifndef IND_GEOGRAPHY_H
+#define IND_GEOGRAPHY_H
+
+#include "answer.h"
+#include "bytes.h"
+
+enum {
+    IND_X1_TYPE = 1,
+    IND_X1_LEAST_LENGTH = 68,
+    IND_TRACK_COUNT_PLACE = 7,
+    IND_TRACKS_PLACE = 8
+};
+
+/* Table 2: a track's entry. */
+enum {
+    IND_TRACK_NUMBER = 0,
+    IND_TRACK_PROPERTY = 1,
+    IND_TRACK_START_POSITION = 2,
+    IND_TRACK_START_LATITUDE = 6,
+    IND_TRACK_START_LONGITUDE = 10,
+    IND_TRACK_END_POSITION = 14,
+    IND_TRACK_END_LATITUDE = 18,
+    IND_TRACK_END_LONGITUDE = 22,
+    IND_TRACK_FIRST_POINT = 26,
+    IND_TRACK_LAST_POINT = 28,
+    IND_TRACK_SIZE = 30
+};
+
+/* Table 3: a point. */
+enum {
+    IND_POINT_POSITION = 0,
+    IND_POINT_LATITUDE = 4,
+    IND_POINT_LONGITUDE = 7,
+    IND_POINT_HEADING = 10,
+    IND_POINT_NEAR = 12,
+    IND_POINT_SIZE = 13
+};
+
+enum {
+    IND_LEAST_POINTS = 2,
+    IND_LEAST_PROPERTY = 1,
+    IND_LARGEST_PROPERTY = 5,
+    IND_START_POSITION = 0,
+    IND_LATITUDE_LIMIT = 324000000,
+    IND_LONGITUDE_LIMIT = 648000000,
+    IND_INCREMENT_LARGEST = 8388607,
+    IND_INCREMENT_LEAST = -8388608,
+    IND_HEADING_LIMIT = 31416,
+    IND_LARGEST_NEAR = 1
+};
+
+/* In a file whose layout is right: */
+static inline uint32_t ind_tracks(const uint8_t *file)
+{
+    return file[IND_TRACK_COUNT_PLACE];
+}
+
+static inline uint32_t ind_track_place(uint32_t index)
+{
+    return IND_TRACKS_PLACE + IND_TRACK_SIZE * index;
+}
+
+static inline uint32_t ind_first_point(const uint8_t *file, uint32_t track)
+{
+    return ind_two(file, track + IND_TRACK_FIRST_POINT);
+}
+
+static inline uint32_t ind_last_point(const uint8_t *file, uint32_t track)
+{
+    return ind_two(file, track + IND_TRACK_LAST_POINT);
+}
+
+static inline uint32_t ind_points(const uint8_t *file, uint32_t track)
+{
+    return (ind_last_point(file, track) - ind_first_point(file, track))
+               / IND_POINT_SIZE + 1;
+}
+
+/* The verdict of an X.1. */
+ind_answer ind_x1(const uint8_t *file, size_t length);
+
+#endif

@@ -1,0 +1,48 @@
+/* A case: a question, its numbers and its files. */
+#ifndef ASKED_H
+#define ASKED_H
+
+#include "stored.h"
+
+/* The questions, by the number that asks each. */
+enum {
+    ASK_X1 = 1,
+    ASK_X2,
+    ASK_PAIR,
+    ASK_TRACK,
+    ASK_POINT,
+    ASK_COORDINATE,
+    ASK_RECORD,
+    ASK_ROUTES,
+    ASK_HEADER1,
+    ASK_HEADER2,
+    QUESTIONS
+};
+
+enum {
+    NUMBERS = 4,
+    FILES = 2,
+    /* The most words that a generated case lends for routes. */
+    ROOM_LARGEST = 65535
+};
+
+typedef struct {
+    uint32_t question;
+    uint32_t numbers[NUMBERS];
+    stored files[FILES];
+} asked;
+
+/* A case as the core is to see it: the files' bytes wherever they stand. */
+typedef struct {
+    uint32_t question;
+    uint32_t numbers[NUMBERS];
+    const uint8_t *bytes[FILES];
+    uint32_t length[FILES];
+} posed;
+
+posed pose(const asked *ask);
+
+/* The word that names a question on a command line. */
+const char *question_name(uint32_t asked_for);
+
+#endif

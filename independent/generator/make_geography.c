@@ -1,0 +1,198 @@
+/* Right track geographies: few and many tracks and points, extremes of every
+ * range, increments of both signs, near flags both ways. */
+#include "make.h"
+
+#include "core/core.h"
+
+enum {
+    TRACK_NUMBERS = 255,
+    SURVEY_STEP = 20000,
+    /* So many tracks fill a file of points to its last byte. */
+    TRACKS_OF_FULL_FILE = 17
+};
+
+static int64_t clamped(int64_t value, int64_t low, int64_t high)
+{
+    return value < low ? low : value > high ? high : value;
+}
+
+static uint32_t track_count(source *from, size_wanted size)
+{
+    switch (size) {
+    case SIZE_SMALL: return once_in(from, 2) ? 1 : 1 + draw(from, 4);
+    case SIZE_MIDDLE:
+        return once_in(from, 10) ? TRACK_NUMBERS : 1 + draw(from, 20);
+    default:
+        return once_in(from, 2) ? TRACKS_OF_FULL_FILE : 1 + draw(from, 60);
+    }
+}
+
+/* Points for the first of so many tracks, with so many points still left. */
+static uint32_t point_count(source *from, size_wanted size, uint32_t tracks,
+                            uint32_t left)
+{
+    uint32_t spare = left - IND_LEAST_POINTS * tracks;
+    uint32_t more = draw(from, size == SIZE_SMALL ? 6 : 25);
+    if (size == SIZE_LARGE)
+        more = spare / tracks;
+    else if (once_in(from, 3))
+        more = 0;
+    return IND_LEAST_POINTS + (more < spare ? more : spare);
+}
+
+/* Rising track numbers: the numbers left must be enough for those to come. */
+static uint32_t next_number(source *from, uint32_t before, uint32_t to_come)
+{
+    uint32_t spare = TRACK_NUMBERS - before - to_come;
+    if (once_in(from, 3))
+        return before + 1;
+    return before + 1 + (once_in(from, 8) ? spare : draw(from, spare + 1));
+}
+
+static int32_t start_coordinate(source *from, int32_t limit)
+{
+    switch (draw(from, 6)) {
+    case 0: return limit;
+    case 1: return -limit;
+    case 2: return 0;
+    case 3: return limit - (int32_t)draw(from, IND_INCREMENT_LARGEST);
+    default: return (int32_t)draw_between(from, -limit, limit);
+    }
+}
+
+/* The next increment after one, kept where start plus increment is in range. */
+static int32_t next_increment(source *from, int style, int32_t before,
+                              int32_t start, int32_t limit)
+{
+    int64_t low = clamped(-(int64_t)limit - start, IND_INCREMENT_LEAST, 0);
+    int64_t high = clamped((int64_t)limit - start, 0, IND_INCREMENT_LARGEST);
+    int64_t wanted = before;
+    switch (style) {
+    case 0: break;
+    case 1: wanted += draw_between(from, -3, 3); break;
+    case 2: wanted += draw_between(from, -9000, 9000); break;
+    case 3: wanted = once_in(from, 2) ? low : high; break;
+    default: wanted = draw_between(from, low, high); break;
+    }
+    return (int32_t)clamped(wanted, low, high);
+}
+
+static int32_t heading(source *from)
+{
+    switch (draw(from, 5)) {
+    case 0: return IND_HEADING_LIMIT;
+    case 1: return -IND_HEADING_LIMIT;
+    case 2: return (int32_t)draw_between(from, -IND_HEADING_LIMIT,
+                                         IND_HEADING_LIMIT);
+    default: return 0;
+    }
+}
+
+/* The largest step from point to point in a track of so many points. */
+static uint32_t largest_step(source *from, uint32_t points)
+{
+    switch (draw(from, 4)) {
+    case 0: return 1;
+    case 1: return 4;
+    case 2: return SURVEY_STEP;
+    default: return IND_LARGEST_POSITION / points;
+    }
+}
+
+typedef struct {
+    int style[2];
+    int32_t start[2];
+    int32_t increment[2];
+    uint32_t step;
+    uint32_t position;
+    int far;
+} track_draft;
+
+static void put_point(source *from, const track_draft *draft, uint8_t *point)
+{
+    put_four(point, IND_POINT_POSITION, draft->position);
+    put_three(point, IND_POINT_LATITUDE, (uint32_t)draft->increment[0]);
+    put_three(point, IND_POINT_LONGITUDE, (uint32_t)draft->increment[1]);
+    put_two(point, IND_POINT_HEADING, (uint32_t)heading(from));
+    point[IND_POINT_NEAR] = (uint8_t)draw(from, 2);
+}
+
+static void next_point(source *from, track_draft *draft, int last)
+{
+    draft->increment[0] =
+        next_increment(from, draft->style[0], draft->increment[0],
+                       draft->start[0], IND_LATITUDE_LIMIT);
+    draft->increment[1] =
+        next_increment(from, draft->style[1], draft->increment[1],
+                       draft->start[1], IND_LONGITUDE_LIMIT);
+    draft->position += 1 + draw(from, draft->step);
+    if (last && draft->far)
+        draft->position = IND_LARGEST_POSITION;
+}
+
+static void put_points(source *from, track_draft *draft, uint8_t *first,
+                       uint32_t points)
+{
+    for (uint32_t i = 0; i < points; i++) {
+        if (i > 0)
+            next_point(from, draft, i + 1 == points);
+        put_point(from, draft, first + IND_POINT_SIZE * i);
+    }
+    first[IND_POINT_NEAR] = first[IND_POINT_SIZE + IND_POINT_NEAR];
+}
+
+static void put_track(source *from, stored *file, uint32_t track,
+                      uint32_t number, uint32_t first, uint32_t points)
+{
+    uint8_t *entry = file->bytes + track;
+    track_draft draft = { { 0, 0 }, { 0, 0 }, { 0, 0 }, 0, 0, 0 };
+    draft.style[0] = (int)draw(from, 5);
+    draft.style[1] = (int)draw(from, 5);
+    draft.start[0] = start_coordinate(from, IND_LATITUDE_LIMIT);
+    draft.start[1] = start_coordinate(from, IND_LONGITUDE_LIMIT);
+    draft.step = largest_step(from, points);
+    draft.far = once_in(from, 4);
+    put_points(from, &draft, file->bytes + first, points);
+    entry[IND_TRACK_NUMBER] = (uint8_t)number;
+    entry[IND_TRACK_PROPERTY] =
+        (uint8_t)draw_between(from, IND_LEAST_PROPERTY, IND_LARGEST_PROPERTY);
+    put_four(entry, IND_TRACK_START_POSITION, IND_START_POSITION);
+    put_four(entry, IND_TRACK_START_LATITUDE, (uint32_t)draft.start[0]);
+    put_four(entry, IND_TRACK_START_LONGITUDE, (uint32_t)draft.start[1]);
+    put_four(entry, IND_TRACK_END_POSITION, draft.position);
+    put_four(entry, IND_TRACK_END_LATITUDE,
+             (uint32_t)(draft.start[0] + draft.increment[0]));
+    put_four(entry, IND_TRACK_END_LONGITUDE,
+             (uint32_t)(draft.start[1] + draft.increment[1]));
+    put_two(entry, IND_TRACK_FIRST_POINT, first);
+    put_two(entry, IND_TRACK_LAST_POINT,
+            first + IND_POINT_SIZE * (points - 1));
+}
+
+static void put_header(source *from, uint32_t station, uint32_t tracks,
+                       uint8_t *bytes)
+{
+    uint32_t version = once_in(from, 4) ? 65535 : 1 + draw(from, 300);
+    put_opening(bytes, IND_X1_TYPE, version, station);
+    bytes[IND_TRACK_COUNT_PLACE] = (uint8_t)tracks;
+}
+
+void make_geography(source *from, size_wanted size, uint32_t station,
+                    stored *file)
+{
+    uint32_t tracks = track_count(from, size);
+    uint32_t place = ind_track_place(tracks);
+    uint32_t left = (IND_LARGEST_FILE - IND_CHECKSUM_SIZE - place)
+        / IND_POINT_SIZE;
+    uint32_t number = 0;
+    put_header(from, station, tracks, file->bytes);
+    for (uint32_t i = 0; i < tracks; i++) {
+        uint32_t points = point_count(from, size, tracks - i, left);
+        number = next_number(from, number, tracks - i);
+        put_track(from, file, ind_track_place(i), number, place, points);
+        place += IND_POINT_SIZE * points;
+        left -= points;
+    }
+    file->length = place + IND_CHECKSUM_SIZE;
+    seal(file);
+}
