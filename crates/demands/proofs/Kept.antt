@@ -6,7 +6,7 @@ use Rattle.verdict.specs.Answers.{Answer, answered, refused, answerNumber}
 use Rattle.promises.proofs.OfExports.{yard-checksum-determined, yard-x1-determined, yard-x2-determined, yard-pair-determined, yard-header1-determined, yard-header2-determined, yard-track-determined, yard-point-determined, yard-coordinate-determined, yard-record-determined, yard-routes-determined}
 use Rattle.c_values.specs.Shown.{leaves}
 use Rattle.export_theorems.proofs.Fit.{track-back, point-back, coordinate-back, record-back}
-use Rattle.x1_verdict.specs.Obeys.{entryPlace}
+use Rattle.x1_obeys.specs.Obeys.{entryPlace}
 use Rattle.x1_theorems.proofs.Numbers as x1
 use Rattle.x1_lookup.specs.Lookup.{numberAt}
 use Rattle.x1_lookup.proofs.Lookup.{found-iff}

@@ -16,7 +16,7 @@ use Rattle.promises.specs.Determined.{Determined}
 use Rattle.x1_questions.specs.declared.answers.Coordinate.{Coordinate}
 use Rattle.x1_layout.specs.Layout.{countOf}
 use Rattle.x1_verdict.specs.Facts.{verdictOf as x1Verdict}
-use Rattle.x1_verdict.specs.Obeys.{entryPlace, Obeys as X1Obeys}
+use Rattle.x1_obeys.specs.Obeys.{entryPlace, Obeys as X1Obeys}
 use Rattle.x1_theorems.specs.Faults.{checks as x1Checks}
 use Rattle.x1_lookup.specs.Lookup.{numberAt}
 use Rattle.x1_questions.specs.Answers.{headerAnswer, trackAnswer, pointAnswer, coordinateAnswer}

@@ -11,7 +11,7 @@ use Rattle.verdict.specs.Facts.{Claim, test, Holds, Fact, fact, firstFault}
 use Rattle.verdict.specs.Reasons.{numberOf, shownOf, numberIn, placeIn}
 use Rattle.verdict.specs.Order.{Check, check, Reported}
 use Rattle.verdict.proofs.Facts.{Agrees, agrees}
-use Rattle.x1_verdict.specs.Obeys.{Obeys}
+use Rattle.x1_obeys.specs.Obeys.{Obeys}
 use Rattle.x1_lookup.specs.Lookup.{findTrack}
 use Rattle.x2_layout.specs.declared.Layout.{Layout}
 use Rattle.x2_layout.specs.Records.{kindAt, starts}

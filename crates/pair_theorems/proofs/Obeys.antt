@@ -14,7 +14,7 @@ use Rattle.verdict.specs.declared.PairVerdict.the-variants as pair
 use Rattle.verdict.specs.Reasons.{shownOf}
 use Rattle.verdict.proofs.Facts.{accepted-iff, all-append, all-each}
 use Rattle.x1_verdict.specs.Facts as geography
-use Rattle.x1_verdict.specs.Obeys.{entryPlace, Obeys}
+use Rattle.x1_obeys.specs.Obeys.{entryPlace, Obeys}
 use Rattle.x1_lookup.specs.declared.Found.{Found}
 use Rattle.x1_lookup.specs.declared.Found.the-variants.{At, Absent}
 use Rattle.x1_lookup.specs.Lookup.{findTrack}

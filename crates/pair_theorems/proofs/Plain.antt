@@ -11,8 +11,8 @@ use native.Mathlib.Omega.{arith}
 use Rattle.octets.specs.Octets.{numAt}
 use Rattle.verdict.specs.Order.{Check, check, fresh, Answered, Reported}
 use Rattle.verdict.proofs.Orders.{le-or-lt}
-use Rattle.x1_verdict.specs.Obeys.{entryPlace}
-use Rattle.x1_verdict.specs.Obeys as geography
+use Rattle.x1_obeys.specs.Obeys.{entryPlace}
+use Rattle.x1_obeys.specs.Obeys as geography
 use Rattle.x1_theorems.specs.Faults as first
 use Rattle.x2_layout.specs.Layout.{layoutOf}
 use Rattle.x2_verdict.specs.Obeys as application

@@ -21,7 +21,7 @@ use Rattle.verdict.specs.Reasons.{numberOf, faultOf, shownOf, numberIn, placeIn
 use Rattle.verdict.specs.Order.{Reported}
 use Rattle.verdict.proofs.Facts.{true-reason, marked-each}
 use Rattle.refusals.proofs.Sections.{Each, each-append}
-use Rattle.x1_verdict.specs.Obeys.{entryPlace, Obeys}
+use Rattle.x1_obeys.specs.Obeys.{entryPlace, Obeys}
 use Rattle.x1_lookup.specs.declared.Found.{Found}
 use Rattle.x1_lookup.proofs.Lookup as lookup
 use Rattle.x2_records.specs.declared.Kind.{Kind}

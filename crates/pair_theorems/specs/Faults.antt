@@ -7,8 +7,8 @@ use mathlib.Core.Path.{_≡_}
 use mathlib.Core.List.{List, [], _∷_, _++_, flatMap, List·Memᴰ}
 use Rattle.octets.specs.Octets.{numAt}
 use Rattle.verdict.specs.Order.{Check, check, Answered, Reported}
-use Rattle.x1_verdict.specs.Obeys.{entryPlace}
-use Rattle.x1_verdict.specs.Obeys as geography
+use Rattle.x1_obeys.specs.Obeys.{entryPlace}
+use Rattle.x1_obeys.specs.Obeys as geography
 use Rattle.x1_theorems.specs.Faults as first
 use Rattle.x2_layout.specs.declared.Layout.{Layout}
 use Rattle.x2_layout.specs.Layout.{layoutOf}

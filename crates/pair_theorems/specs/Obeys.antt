@@ -4,8 +4,8 @@ use mathlib.Core.Path.{_≡_}
 use mathlib.Core.List.{List, List·Memᴰ}
 use Rattle.octets.specs.Octets.{numAt}
 use Rattle.x1_layout.specs.Layout.{countOf}
-use Rattle.x1_verdict.specs.Obeys.{entryPlace}
-use Rattle.x1_verdict.specs.Obeys as geography
+use Rattle.x1_obeys.specs.Obeys.{entryPlace}
+use Rattle.x1_obeys.specs.Obeys as geography
 use Rattle.x2_layout.specs.Layout.{layoutOf}
 use Rattle.x2_layout.specs.Records.{kindAt, starts}
 use Rattle.x2_verdict.specs.Obeys as application

@@ -16,7 +16,7 @@ use Rattle.envelope.specs.Header.{headerIn}
 use Rattle.x1_records.specs.Places.{pointSize}
 use Rattle.x1_records.specs.Tracks.{trackAt, pointAt, pointsIn}
 use Rattle.x1_layout.specs.Layout.{countOf, firstOf, lastOf}
-use Rattle.x1_verdict.specs.Obeys.{entryPlace, pointPlace}
+use Rattle.x1_obeys.specs.Obeys.{entryPlace, pointPlace}
 use Rattle.x1_verdict.specs.Facts as geography
 use Rattle.x1_lookup.specs.Lookup.{findTrack}
 use Rattle.x1_lookup.specs.declared.Found.{Found}

@@ -17,8 +17,8 @@ use Rattle.x1_fields.specs.Fields.{headerFields, entryFields, pointFields}
 use Rattle.x1_verdict.specs.Fields.{allPoints, fieldFacts}
 use Rattle.x1_verdict.specs.Agreement.{numberAgrees, opens, rises, stays, closes, pointAgrees, pointsOf, trackAgrees, agreementFacts}
 use Rattle.x1_verdict.specs.Facts.{fileType, checkFacts, facts, verdictOf}
-use Rattle.x1_verdict.specs.Obeys.{entryPlace, LayoutObeys}
-use Rattle.x1_verdict.proofs.Obeys.{start-entry, entries-iff, layout-iff}
+use Rattle.x1_obeys.specs.Obeys.{entryPlace, LayoutObeys}
+use Rattle.x1_obeys.proofs.Obeys.{start-entry, entries-iff, layout-iff}
 use Rattle.x2_layout.proofs.Walks.{starts-between}
 use Rattle.places.specs.Places.{placeOver, PlacesBelow}
 use Rattle.places.proofs.Lists.{below-append, below-both, below-each, below-if, fault-below}

@@ -15,7 +15,7 @@ use Rattle.verdict.specs.Answers.{Answer, answered, refused, answerNumber, answ
 use Rattle.verdict.specs.Order.{Check, check, Asked}
 use Rattle.verdict.proofs.Questions.{asked-is, AnswerIs, all-passed, passed, failed, some-number}
 use Rattle.x2_layout.specs.Layout.{layoutOf}
-use Rattle.x2_links.specs.Obeys.{Target}
+use Rattle.x2_obeys.specs.Links.{Target}
 use Rattle.x2_verdict.specs.Facts.{verdictOf}
 use Rattle.route_graph.specs.Objects.{objectAt, boundaryStarts}
 use Rattle.route_walks.specs.declared.Tally.{Tally}

@@ -12,7 +12,7 @@ use Rattle.x2_layout.specs.declared.Layout.{Layout}
 use Rattle.x2_layout.specs.Records.{kindAt}
 use Rattle.x2_layout.specs.inner.Regions.{Regions}
 use Rattle.x2_layout.proofs.Starts.{start-least}
-use Rattle.x2_links.specs.Obeys.{Linkable, Target, Distinct, TargetsObey, ReturnsObey}
+use Rattle.x2_obeys.specs.Links.{Linkable, Target, Distinct, TargetsObey, ReturnsObey}
 use Rattle.route_graph.specs.Objects.{viewAt, objectAt, linksOf, isBoundary, offsetMost, boundaryStarts}
 use Rattle.route_graph.specs.Links.{Single, Joined}
 use Rattle.route_graph.proofs.Places.{links-are, boundary-iff}

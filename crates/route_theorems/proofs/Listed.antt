@@ -20,7 +20,7 @@ use Rattle.x2_layout.specs.Layout.{layoutOf}
 use Rattle.x2_layout.specs.inner.Regions.{Regions}
 use Rattle.x2_layout.proofs.Regions.{regions}
 use Rattle.x2_layout.proofs.Bounds.{regions-bounded}
-use Rattle.x2_links.specs.Obeys.{Target}
+use Rattle.x2_obeys.specs.Links.{Target}
 use Rattle.x2_verdict.specs.Facts.{verdictOf}
 use Rattle.x2_verdict.specs.Obeys.{Obeys}
 use Rattle.x2_verdict.proofs.Questions.{verdict-obeys}

@@ -13,7 +13,7 @@ use Rattle.x2_records.specs.declared.Kind.{Kind}
 use Rattle.x2_records.specs.declared.Kind.the-variants as kind
 use Rattle.x2_layout.specs.Layout.{layoutOf}
 use Rattle.x2_layout.specs.Records.{kindAt}
-use Rattle.x2_links.specs.Obeys.{Target}
+use Rattle.x2_obeys.specs.Links.{Target}
 use Rattle.x2_verdict.specs.Facts.{verdictOf}
 use Rattle.route_graph.specs.Objects.{viewAt, objectAt, isBoundary, boundaryStarts}
 use Rattle.route_graph.proofs.Places.{boundary-iff}

@@ -10,8 +10,8 @@ use Rattle.verdict.specs.declared.Verdict.the-variants as verdict
 use Rattle.x1_records.specs.Places as place
 use Rattle.x1_layout.specs.Layout.{countOf, pointsAt, entries}
 use Rattle.x1_verdict.specs.Facts.{judgedOf, verdictOf}
-use Rattle.x1_verdict.specs.Obeys.{entryPlace, Obeys}
-use Rattle.x1_verdict.proofs.Obeys.{accepted-obeys}
+use Rattle.x1_obeys.specs.Obeys.{entryPlace, Obeys}
+use Rattle.x1_obeys.proofs.Obeys.{accepted-obeys}
 use Rattle.x1_lookup.specs.Lookup.{numberAt, hasNumber, findTrack}
 use Rattle.x1_lookup.specs.declared.Found.the-variants.{At, Absent}
 use Rattle.verdict.proofs.Questions.{shown-accepted}

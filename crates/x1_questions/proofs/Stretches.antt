@@ -12,7 +12,7 @@ use borrow.Author.Tests.{le-ltb, leb-true, leb-false}
 use Rattle.x1_records.specs.Places as place
 use Rattle.x1_records.specs.Tracks.{pointsIn}
 use Rattle.x1_layout.specs.Layout.{countOf, firstOf, lastOf}
-use Rattle.x1_verdict.specs.Obeys.{entryPlace, pointPlace, Obeys}
+use Rattle.x1_obeys.specs.Obeys.{entryPlace, pointPlace, Obeys}
 use Rattle.rounding.specs.Way.{farthest, Limits}
 use Rattle.x1_lookup.specs.declared.Found.the-variants.{At, Absent}
 use Rattle.x1_lookup.specs.Lookup.{findTrack}

@@ -5,7 +5,7 @@ use Prim.Native.Nat.{ℕ, suc, _-_, _≤_}
 use mathlib.Core.List.{List}
 use lib.IntN.{ℤ}
 use Rattle.x1_layout.specs.Layout.{lastOf}
-use Rattle.x1_verdict.specs.Obeys.{pointPlace}
+use Rattle.x1_obeys.specs.Obeys.{pointPlace}
 use Rattle.rounding.specs.Nearest.{Nearest, exactOf}
 use Rattle.x1_questions.specs.declared.answers.Coordinate.{Coordinate}
 use Rattle.x1_questions.specs.Stretch.{positionOf, latitudeOf, longitudeOf}

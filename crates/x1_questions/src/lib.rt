@@ -3,7 +3,7 @@
 ghost use mathlib.Core.Path.{_≡_};
 ghost use Prim.Native.Nat.{_+_, _*_, _≤_, _<_};
 ghost use Rattle.envelope.specs.Seal.{mostLength};
-ghost use Rattle.x1_verdict.specs.Obeys.{entryPlace};
+ghost use Rattle.x1_obeys.specs.Obeys.{entryPlace};
 ghost use Rattle.x1_questions.specs.Questions.{headerOf, trackOf, pointOf, onTrack, coordinateAsked};
 ghost use Rattle.x1_questions.specs.inner.Requires.{TrackObeys};
 

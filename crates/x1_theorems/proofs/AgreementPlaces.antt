@@ -16,9 +16,9 @@ use Rattle.x1_records.specs.Places as place
 use Rattle.x1_records.specs.Rows as rows
 use Rattle.x1_layout.specs.Layout.{countOf, pointsAt, entries, firstOf, lastOf, isFirst}
 use Rattle.x1_verdict.specs.Agreement.{sumOf, numberAgrees, opens, rises, closes, pointAgrees, pointsOf, trackAgrees, agreementFacts}
-use Rattle.x1_verdict.specs.Obeys.{entryPlace, pointPlace, LayoutObeys}
+use Rattle.x1_obeys.specs.Obeys.{entryPlace, pointPlace, LayoutObeys}
 use Rattle.x1_theorems.specs.Faults.{NumberRises, StartAgrees, EndAgrees, PointAgrees, TrackAtFault, number, point}
-use Rattle.x1_verdict.proofs.Obeys.{apart-iff, in-track, start-part, end-part, parts-iff, opens-first, rises-later, closes-last, closes-none, before, next-near, numbers-iff}
+use Rattle.x1_obeys.proofs.Obeys.{apart-iff, in-track, start-part, end-part, parts-iff, opens-first, rises-later, closes-last, closes-none, before, next-near, numbers-iff}
 use Rattle.x1_theorems.proofs.Speaks.{each-point}
 
 -- ---- a point of a track whose last point stands k + 1 sizes after its first

@@ -11,7 +11,7 @@ use Rattle.verdict.specs.declared.Reason.the-variants as reason
 use Rattle.verdict.proofs.Orders.{le-or-lt}
 use Rattle.x1_records.specs.Places as place
 use Rattle.x1_layout.specs.Layout.{countOf, lastOf}
-use Rattle.x1_verdict.specs.Obeys.{entryPlace, pointPlace, Obeys}
+use Rattle.x1_obeys.specs.Obeys.{entryPlace, pointPlace, Obeys}
 use Rattle.rounding.specs.Nearest.{coordinateOf}
 use Rattle.rounding.proofs.Ends.{coordinate-is, coordinate-only, at-start, at-end}
 use Rattle.x1_lookup.specs.Lookup.{numberAt, findTrack}

@@ -17,9 +17,9 @@ use Rattle.x1_records.specs.Rows as rows
 use Rattle.x1_layout.specs.Layout.{endOf, countOf, pointsAt, entries, firstOf, lastOf, stopBefore, dueAt, spread, entryLayout, countLayout, stopLayout, layoutFacts}
 use Rattle.x1_fields.specs.Fields.{headerTable, headerFields, entryFields, pointFields}
 use Rattle.x1_verdict.specs.Fields.{allPoints, fieldFacts}
-use Rattle.x1_verdict.specs.Obeys.{Between, entryPlace}
+use Rattle.x1_obeys.specs.Obeys.{Between, entryPlace}
 use Rattle.x1_theorems.specs.Faults.{CountAtFault, FirstDue, LastRight, OffsetAtFault, first-offset, last-offset, StopsAt, LayoutPlace, FieldAtFault, in-header, in-entry, in-point}
-use Rattle.x1_verdict.proofs.Obeys.{entry-start, start-entry, two-iff, due-first, due-next, stop-last}
+use Rattle.x1_obeys.proofs.Obeys.{entry-start, start-entry, two-iff, due-first, due-next, stop-last}
 use Rattle.refusals.proofs.TableFails.{table-fails}
 
 -- ---- by track

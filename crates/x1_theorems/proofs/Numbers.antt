@@ -26,10 +26,10 @@ use Rattle.x1_layout.specs.Layout.{countOf, layoutFacts}
 use Rattle.x1_verdict.specs.Fields.{fieldFacts}
 use Rattle.x1_verdict.specs.Agreement.{agreementFacts}
 use Rattle.x1_verdict.specs.Facts.{fileType, checkFacts, facts, judgedOf, verdictOf}
-use Rattle.x1_verdict.specs.Obeys.{LayoutObeys, FieldsObey, AgreementObeys, Obeys}
+use Rattle.x1_obeys.specs.Obeys.{LayoutObeys, FieldsObey, AgreementObeys, Obeys}
 use Rattle.x1_theorems.specs.Faults.{LayoutPlace, FieldAtFault, TrackAtFault, checks}
 use Rattle.x1_theorems.specs.Says.{saysOf}
-use Rattle.x1_verdict.proofs.Obeys.{layout-iff, fields-iff, agreement-iff}
+use Rattle.x1_obeys.proofs.Obeys.{layout-iff, fields-iff, agreement-iff}
 use Rattle.x1_theorems.proofs.Speaks.{layout-speaks, fields-speak, agreement-speaks, facts-marked}
 use Rattle.x1_theorems.proofs.FieldPlaces.{layout-located, only-layout, fields-located}
 use Rattle.x1_theorems.proofs.AgreementPlaces.{agreement-located}

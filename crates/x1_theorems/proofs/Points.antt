@@ -5,7 +5,7 @@ use mathlib.Core.List.{List}
 use native.Mathlib.Omega.{arith}
 use Rattle.x1_records.specs.Places.{pointSize}
 use Rattle.x1_layout.specs.Layout.{countOf, pointsAt, firstOf, lastOf}
-use Rattle.x1_verdict.specs.Obeys.{entryPlace, pointPlace, PointObeys, Obeys}
+use Rattle.x1_obeys.specs.Obeys.{entryPlace, pointPlace, PointObeys, Obeys}
 
 module _ (f : List ℕ) (o : Obeys f) where
   -- the first point of track i stands a number of points after where the points start

@@ -26,7 +26,7 @@ use Rattle.x1_records.specs.declared.Track.{Track}
 use Rattle.x1_records.specs.declared.Point.{Point}
 use Rattle.x1_layout.specs.Layout.{countOf, firstOf, lastOf}
 use Rattle.x1_verdict.specs.Facts.{verdictOf}
-use Rattle.x1_verdict.specs.Obeys.{Between, Within, entryPlace, pointPlace, Obeys}
+use Rattle.x1_obeys.specs.Obeys.{Between, Within, entryPlace, pointPlace, Obeys}
 use Rattle.rounding.proofs.Ends.{coordinate-only, coordinate-size}
 use Rattle.rounding.proofs.Sizes.{minus-size}
 use Rattle.x1_lookup.specs.Lookup.{findTrack}

@@ -6,7 +6,7 @@ use mathlib.Core.List.{List, [], _∷_}
 use Rattle.verdict.specs.Order.{Check, check}
 use Rattle.x1_records.specs.Places as place
 use Rattle.x1_layout.specs.Layout.{countOf, lastOf}
-use Rattle.x1_verdict.specs.Obeys.{entryPlace, pointPlace}
+use Rattle.x1_obeys.specs.Obeys.{entryPlace, pointPlace}
 use Rattle.x1_lookup.specs.Lookup.{numberAt}
 use Rattle.x1_questions.specs.Stretch.{endPositionOf}
 

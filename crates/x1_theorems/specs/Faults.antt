@@ -14,7 +14,7 @@ use Rattle.tables.specs.Rows.{RowAtFault}
 use Rattle.x1_records.specs.Rows.{entryTable, pointTable}
 use Rattle.x1_layout.specs.Layout.{endOf, countOf, pointsAt, firstOf, lastOf}
 use Rattle.x1_fields.specs.Fields.{headerTable}
-use Rattle.x1_verdict.specs.Obeys.{Between, Within, entryPlace, pointPlace, LayoutObeys, FieldsObey, AgreementObeys}
+use Rattle.x1_obeys.specs.Obeys.{Between, Within, entryPlace, pointPlace, LayoutObeys, FieldsObey, AgreementObeys}
 
 -- ---- layout: the count; then by track, the first offset and the last one; at last, where the points stop
 

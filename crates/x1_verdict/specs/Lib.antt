@@ -1,4 +1,3 @@
 pub mod Fields
 pub mod Agreement
 pub mod Facts
-pub mod Obeys

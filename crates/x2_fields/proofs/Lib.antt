@@ -1,4 +1,1 @@
 pub mod Checks
-pub mod Values
-pub mod Tables
-pub mod Obeys

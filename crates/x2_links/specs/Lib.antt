@@ -1,3 +1,2 @@
 pub mod Links
-pub mod Obeys
 pub mod inner

@@ -20,9 +20,9 @@ use Rattle.x2_layout.specs.Records.{kindAt, starts}
 use Rattle.x2_fields.specs.Fields.{headerFields, headerTrackAt, entryFields, entriesFields, recordFields, fieldFacts}
 use Rattle.x2_kinds.specs.KindFields.{messageFields, messageOf, kindFields}
 use Rattle.x2_fields.specs.Agreement.{entryAgrees, entriesAgree, kindAgrees, recordAgrees, agreementFacts}
-use Rattle.x2_fields.specs.Obeys.{MessageEnds}
+use Rattle.x2_obeys.specs.Fields.{MessageEnds}
 use Rattle.x2_theorems.specs.FieldFaults.{FieldAtFault, data-version, station, station-name, start-track, end-track, in-record, message, AgreementAtFault, start-own, end-own, group}
-use Rattle.x2_fields.proofs.Obeys.{message-iff, rank-is, start-track as start-place, end-track as end-place}
+use Rattle.x2_obeys.proofs.Fields.{message-iff, rank-is, start-track as start-place, end-track as end-place}
 use Rattle.refusals.proofs.TableFails.{table-fails}
 use Rattle.x2_theorems.proofs.FieldRows.{message-each}
 use Rattle.x2_theorems.proofs.BoundaryEntries.{entries-fail}

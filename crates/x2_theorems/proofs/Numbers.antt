@@ -28,17 +28,17 @@ use Rattle.x2_theorems.proofs.LayoutSpeaks.{layout-speak}
 use Rattle.x2_theorems.proofs.LayoutPlaces.{layout-located, only-layout}
 use Rattle.x2_fields.specs.Fields.{fieldFacts}
 use Rattle.x2_fields.specs.Agreement.{agreementFacts}
-use Rattle.x2_fields.specs.Obeys.{FieldsObey, AgreementObeys}
+use Rattle.x2_obeys.specs.Fields.{FieldsObey, AgreementObeys}
 use Rattle.x2_theorems.specs.FieldFaults.{FieldAtFault, AgreementAtFault}
 use Rattle.x2_theorems.specs.FieldSays.{fieldSays, agreementSays}
-use Rattle.x2_fields.proofs.Obeys.{fields-iff, agreement-iff}
+use Rattle.x2_obeys.proofs.Fields.{fields-iff, agreement-iff}
 use Rattle.x2_theorems.proofs.FieldSpeaks.{fields-speak, agreement-speak}
 use Rattle.x2_theorems.proofs.FieldPlaces.{fields-located, agreement-located}
 use Rattle.x2_links.specs.Links.{targetFacts, returnFacts}
-use Rattle.x2_links.specs.Obeys.{TargetsObey, ReturnsObey}
+use Rattle.x2_obeys.specs.Links.{TargetsObey, ReturnsObey}
 use Rattle.x2_theorems.specs.LinkFaults.{TargetAtFault, ReturnAtFault}
 use Rattle.x2_theorems.specs.LinkSays.{targetSays, returnSays}
-use Rattle.x2_links.proofs.Obeys.{targets-iff, returns-iff}
+use Rattle.x2_obeys.proofs.Links.{targets-iff, returns-iff}
 use Rattle.x2_theorems.proofs.LinkSpeaks.{targets-speak, returns-speak}
 use Rattle.x2_theorems.proofs.LinkPlaces.{targets-located, returns-located}
 use Rattle.x2_verdict.specs.Facts.{leastLength, fileType, recordFacts, checkFacts, facts, judgedOf, verdictOf}

@@ -14,9 +14,9 @@ use Rattle.x2_records.specs.Records.{linkPlaces}
 use Rattle.x2_layout.specs.declared.Layout.{Layout}
 use Rattle.x2_layout.specs.Records.{kindAt, starts}
 use Rattle.x2_links.specs.Links.{linkAt, linksTo, distinctFrom, returns, recordReturns, returnFacts}
-use Rattle.x2_links.specs.Obeys.{LinksTo}
+use Rattle.x2_obeys.specs.Links.{LinksTo}
 use Rattle.x2_theorems.specs.LinkFaults.{NonzeroLink, ReturnAtFault, not-returned, doubled}
-use Rattle.x2_links.proofs.Obeys.{links-iff}
+use Rattle.x2_obeys.proofs.Links.{links-iff}
 
 -- ---- places that rise, from `low` on
 

@@ -12,9 +12,9 @@ use Rattle.x2_records.specs.Records.{linkPlaces}
 use Rattle.x2_layout.specs.declared.Layout.{Layout}
 use Rattle.x2_layout.specs.Records.{kindAt, starts}
 use Rattle.x2_links.specs.Links.{linkAt, isTarget, targets, linked, recordTargets, targetFacts}
-use Rattle.x2_links.specs.Obeys.{Target, HasLink}
+use Rattle.x2_obeys.specs.Links.{Target, HasLink}
 use Rattle.x2_theorems.specs.LinkFaults.{NonzeroLink, TargetAtFault, no-link, itself, no-target}
-use Rattle.x2_links.proofs.Obeys.{target-iff}
+use Rattle.x2_obeys.proofs.Links.{target-iff}
 
 module _ (f : List ℕ) (l : Layout) (at : ℕ) where
   -- the link at p is one, and names its own record or none that may be linked to

@@ -14,7 +14,7 @@ use Rattle.x2_records.specs.Tables.{turnoutAt, baliseAt, signalAt, natureOf, gr
 use Rattle.x2_theorems.proofs.RecordNumbers.{direction-kept, facing-kept, duty-kept}
 use Rattle.x2_layout.specs.Layout.{layoutOf}
 use Rattle.x2_layout.specs.Records.{kindAt, starts}
-use Rattle.x2_fields.specs.Obeys.{OneOfTwo, OneOfFour, RecordObeys}
+use Rattle.x2_obeys.specs.Fields.{OneOfTwo, OneOfFour, RecordObeys}
 use Rattle.x2_verdict.specs.Facts.{verdictOf}
 use Rattle.x2_theorems.specs.Values.{EnumsKept}
 use Rattle.x2_verdict.proofs.Questions.{verdict-obeys}

@@ -13,9 +13,9 @@ use Rattle.envelope.specs.Seal.{endOf}
 use Rattle.x2_layout.specs.Layout.{layoutOf}
 use Rattle.x2_layout.specs.Obeys.{LayoutObeys}
 use Rattle.x2_theorems.specs.LayoutFaults.{LayoutPlace}
-use Rattle.x2_fields.specs.Obeys.{FieldsObey, AgreementObeys}
+use Rattle.x2_obeys.specs.Fields.{FieldsObey, AgreementObeys}
 use Rattle.x2_theorems.specs.FieldFaults.{FieldAtFault, AgreementAtFault}
-use Rattle.x2_links.specs.Obeys.{TargetsObey, ReturnsObey}
+use Rattle.x2_obeys.specs.Links.{TargetsObey, ReturnsObey}
 use Rattle.x2_theorems.specs.LinkFaults.{TargetAtFault, ReturnAtFault}
 
 -- 01: No.1, No.2, No.3, No.4, No.6, No.5, No.7, No.8, No.9, Order.1

@@ -12,7 +12,7 @@ use Rattle.x2_records.specs.declared.Kind.the-variants as kind
 use Rattle.x2_records.specs.Rows.{tableOf}
 use Rattle.x2_layout.specs.declared.Layout.{Layout}
 use Rattle.x2_layout.specs.Records.{kindAt, starts}
-use Rattle.x2_fields.specs.Obeys.{MessageEnds}
+use Rattle.x2_obeys.specs.Fields.{MessageEnds}
 
 -- ---- fields
 

@@ -8,7 +8,7 @@ use Rattle.x2_records.specs.Records.{linkPlaces}
 use Rattle.x2_layout.specs.declared.Layout.{Layout}
 use Rattle.x2_layout.specs.Records.{kindAt, starts}
 use Rattle.x2_links.specs.Links.{linkAt}
-use Rattle.x2_links.specs.Obeys.{Target, LinksTo, HasLink}
+use Rattle.x2_obeys.specs.Links.{Target, LinksTo, HasLink}
 
 -- p is a link field of the record at `at`, and its link is not 0
 pub record NonzeroLink (f : List ℕ) (l : Layout) (at p : ℕ) : Type 0 where

@@ -12,9 +12,9 @@ use Rattle.x2_layout.specs.Facts.{layoutFacts}
 use Rattle.x2_layout.proofs.Obeys.{layout-obeyed}
 use Rattle.x2_fields.specs.Fields.{fieldFacts}
 use Rattle.x2_fields.specs.Agreement.{agreementFacts}
-use Rattle.x2_fields.proofs.Obeys.{fields-iff, agreement-iff}
+use Rattle.x2_obeys.proofs.Fields.{fields-iff, agreement-iff}
 use Rattle.x2_links.specs.Links.{targetFacts, returnFacts}
-use Rattle.x2_links.proofs.Obeys.{targets-iff, returns-iff}
+use Rattle.x2_obeys.proofs.Links.{targets-iff, returns-iff}
 use Rattle.x2_verdict.specs.Facts.{fileType, recordFacts, checkFacts, facts, judgedOf}
 use Rattle.x2_verdict.specs.Obeys.{Obeys}
 

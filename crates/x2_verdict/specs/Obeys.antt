@@ -9,8 +9,8 @@ use Rattle.checksum.specs.Checksum.{checksumOf}
 use Rattle.envelope.specs.Seal.{mostLength, endOf, typeAt, structureAt}
 use Rattle.x2_layout.specs.Layout.{layoutOf}
 use Rattle.x2_layout.specs.Obeys.{LayoutObeys}
-use Rattle.x2_fields.specs.Obeys.{FieldsObey, AgreementObeys}
-use Rattle.x2_links.specs.Obeys.{TargetsObey, ReturnsObey}
+use Rattle.x2_obeys.specs.Fields.{FieldsObey, AgreementObeys}
+use Rattle.x2_obeys.specs.Links.{TargetsObey, ReturnsObey}
 use Rattle.x2_verdict.specs.Facts.{leastLength, fileType}
 
 pub record Obeys (f : List ℕ) : Type 0 where

@@ -4,7 +4,7 @@ use mathlib.Core.Path.{_≡_}
 use mathlib.Core.List.{List}
 use Rattle.envelope.specs.Seal.{mostLength}
 use Rattle.x1_layout.specs.Layout.{lastOf}
-use Rattle.x1_verdict.specs.Obeys.{pointPlace, EntryObeys, TrackAgrees}
+use Rattle.x1_obeys.specs.Obeys.{pointPlace, EntryObeys, TrackAgrees}
 use Rattle.rounding.specs.Way.{Limits}
 use Rattle.x1_questions.specs.Stretch.{positionOf, latitudeOf, longitudeOf, pastOf, lengthOf}
 

@@ -24,10 +24,10 @@ use Rattle.x1_records.specs.Places as place
 use Rattle.x1_records.specs.Rows as rows
 use Rattle.x1_layout.specs.Layout.{endOf, countOf, pointsAt, entries, firstOf, lastOf, stopBefore, dueAt, entryLayout, countLayout, stopLayout, layoutFacts}
 use Rattle.x1_fields.specs.Fields.{headerFields, entryFields, pointFields}
 use Rattle.x1_verdict.specs.Fields.{allPoints, fieldFacts}
 use Rattle.x1_verdict.specs.Agreement.{sumOf, numberAgrees, opens, rises, stays, closes, pointAgrees, pointsOf, trackAgrees, agreementFacts}
 use Rattle.x1_verdict.specs.Facts.{fileType, checkFacts, facts, judgedOf}
-use Rattle.x1_verdict.specs.Obeys.{entryPlace, pointPlace, LayoutObeys, EntryObeys, PointObeys, FieldsObey, TrackAgrees, AgreementObeys, Obeys}
+use Rattle.x1_obeys.specs.Obeys.{entryPlace, pointPlace, LayoutObeys, EntryObeys, PointObeys, FieldsObey, TrackAgrees, AgreementObeys, Obeys}
 
 -- ---- two signed numbers that are 0 apart
 

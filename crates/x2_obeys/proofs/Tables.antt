@@ -13,8 +13,8 @@ use Rattle.x2_records.specs.declared.Kind.{Kind}
 use Rattle.x2_records.specs.Rows.{boundaryTable, turnoutFrontTrack, turnoutNormalTrack, turnoutReverseTrack, turnoutTable, baliseTable, signalByte, signalTable, jointTable, sidingTable, tableOf}
 use Rattle.x2_records.specs.Records.{fixedSize}
 use Rattle.x2_records.proofs.Whole.{whole}
-use Rattle.x2_fields.specs.Obeys.{BoundaryObeys, StartBoundaryObeys, EndBoundaryObeys, TurnoutObeys, MessageEnds, BaliseObeys, SignalObeys, JointObeys, SidingObeys}
-use Rattle.x2_fields.proofs.Values.{two-iff, two-down-iff, most-iff, below-iff, zero-iff, low-bits}
+use Rattle.x2_obeys.specs.Fields.{BoundaryObeys, StartBoundaryObeys, EndBoundaryObeys, TurnoutObeys, MessageEnds, BaliseObeys, SignalObeys, JointObeys, SidingObeys}
+use Rattle.x2_obeys.proofs.Values.{two-iff, two-down-iff, most-iff, below-iff, zero-iff, low-bits}
 
 -- each row of a table in turn
 abbrev RowsObey : List ℕ → ℕ → List Row → Type 0

@@ -11,8 +11,8 @@ use Rattle.x2_records.specs.declared.Kind.the-variants as kind
 use Rattle.x2_records.specs.Records.{linkPlaces}
 use Rattle.x2_layout.specs.declared.Layout.{Layout}
 use Rattle.x2_layout.specs.Records.{kindAt, starts}
 use Rattle.x2_links.specs.Links.{linkAt, linkable, isTarget, targets, linked, recordTargets, targetFacts, linksTo, distinctFrom, returns, recordReturns, returnFacts}
-use Rattle.x2_links.specs.Obeys.{Linkable, Target, LinksTo, HasLink, Distinct, TargetsObey, ReturnsObey}
+use Rattle.x2_obeys.specs.Links.{Linkable, Target, LinksTo, HasLink, Distinct, TargetsObey, ReturnsObey}
 
 linkable-iff : (f : List ℕ) (k : Kind) (at : ℕ) → Holds (linkable f k at) ↔ Linkable f k at
 linkable-iff f kind.StartBoundary at = (λ h. h, λ h. h)

@@ -10,7 +10,7 @@ use Rattle.verdict.proofs.Orders.{le-or-lt}
 use Rattle.rules.specs.Rules.{Between}
 use Rattle.x2_layout.specs.Facts.{indexes}
 use Rattle.x2_layout.proofs.Walks.{index-iff}
-use Rattle.x2_fields.specs.Obeys.{OneOfTwo}
+use Rattle.x2_obeys.specs.Fields.{OneOfTwo}
 
 -- between a number and the next
 pub two-iff : (low x : ℕ) → Between low (low + 1) x ↔ OneOfTwo low (low + 1) x

@@ -23,12 +23,12 @@ use Rattle.x2_records.specs.Tables.{rankOf}
 use Rattle.x2_layout.specs.declared.Layout.{Layout}
 use Rattle.x2_layout.specs.Places.{nameAt, startEntriesAt, endEntriesAt}
 use Rattle.x2_layout.specs.Records.{kindAt, starts}
 use Rattle.x2_fields.specs.Fields.{headerFields, headerTrackAt, entryFields, entriesFields, recordFields, fieldFacts}
 use Rattle.x2_kinds.specs.KindFields.{sizeByteOf, messageFields, kindFields}
 use Rattle.x2_fields.specs.Agreement.{entryAgrees, entriesAgree, groupByteOf, kindAgrees, recordAgrees, agreementFacts}
-use Rattle.x2_fields.specs.Obeys.{MessageEnds, RecordObeys, FieldsObey, AgreementObeys}
-use Rattle.x2_fields.proofs.Values.{low-bits, indexes-iff}
-use Rattle.x2_fields.proofs.Tables.{start-boundary-table, end-boundary-table, turnout-table, balise-table, signal-table, joint-table, siding-table}
+use Rattle.x2_obeys.specs.Fields.{MessageEnds, RecordObeys, FieldsObey, AgreementObeys}
+use Rattle.x2_obeys.proofs.Values.{low-bits, indexes-iff}
+use Rattle.x2_obeys.proofs.Tables.{start-boundary-table, end-boundary-table, turnout-table, balise-table, signal-table, joint-table, siding-table}
 
 -- ---- the fields of a record
 
