@@ -462,7 +462,7 @@ int main(int count, char **words)
     out_room = make_room(OUT_ROOM);
     words_room = make_room(LENT_WORDS_ROOM);
     catch_signals();
-    while (seen.calls < run.count)
+    while (seen.calls < run.end)
         run_case(&seen, &run, index++);
     print_figures(&seen);
     return seen.differ + seen.changed == 0 ? RUN_WELL : RUN_BAD;

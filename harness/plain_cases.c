@@ -35,7 +35,7 @@ plain_figures plain_compared(uint64_t seed, uint64_t count)
     static const uint32_t read_by_plain[] = { ASK_X1, ASK_X2, ASK_PAIR,
                                               ASK_COORDINATE };
     plain_figures seen = { 0, 0, 0 };
-    generation run = { seed, count, { { 0 }, 0 } };
+    generation run = { seed, 0, count, { { 0 }, 0 } };
     for (size_t i = 0; i < sizeof read_by_plain / sizeof *read_by_plain; i++)
         run.kinds.asked_for[read_by_plain[i]] = 1;
     for (uint64_t i = 0; i < count; i++) {

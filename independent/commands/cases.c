@@ -11,7 +11,7 @@ int command_cases(int count, char **words)
     generation run;
     if (!read_generation(count, words, &run))
         return RUN_MISUSED;
-    for (uint64_t i = 0; i < run.count; i++) {
+    for (uint64_t i = run.first; i < run.end; i++) {
         build_case(&run, i, &ask);
         write_case(stdout, &ask);
     }

@@ -84,7 +84,7 @@ int command_exact(int count, char **words)
     generation run;
     if (!read_generation(count, words, &run))
         return RUN_MISUSED;
-    for (uint64_t i = 0; i < run.count; i++) {
+    for (uint64_t i = run.first; i < run.end; i++) {
         build_case(&run, i, &ask);
         if (case_right(&ask))
             passed++;

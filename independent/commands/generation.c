@@ -1,4 +1,5 @@
-/* SEED COUNT [KIND..]: which cases are wanted. */
+/* SEED COUNT [KIND..]: which cases are wanted. COUNT may be a part of them,
+ * FIRST..END. */
 #include "generation.h"
 
 #include <errno.h>
@@ -29,12 +30,25 @@ static int read_number(const char *word, uint64_t *number)
     return word[0] >= '0' && word[0] <= '9' && *rest == '\0' && errno == 0;
 }
 
+/* COUNT, or FIRST..END: the cases from an index up to another. */
+static int read_range(char *word, generation *run)
+{
+    char *dots = strstr(word, "..");
+    if (dots == NULL)
+        return read_number(word, &run->end);
+    char *end = dots + 2;
+    *dots = '\0';
+    int right = read_number(word, &run->first) && read_number(end, &run->end);
+    *dots = '.';
+    return right;
+}
+
 int read_generation(int count, char **words, generation *run)
 {
     int named = 0;
     memset(run, 0, sizeof *run);
     if (count < 2 || !read_number(words[0], &run->seed)
-        || !read_number(words[1], &run->count)) {
+        || !read_range(words[1], run)) {
         fputs("independent: SEED and COUNT are numbers\n", stderr);
         return 0;
     }

@@ -4,7 +4,7 @@
 
 #include "generator/cases.h"
 
-/* Reads SEED COUNT [KIND..]. Where the words are wrong it says so on standard
+/* Reads SEED COUNT [KIND..]; COUNT may be FIRST..END, a part of the cases. Where the words are wrong it says so on standard
  * error and returns 0. */
 int read_generation(int count, char **words, generation *run);
 

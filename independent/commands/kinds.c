@@ -23,7 +23,7 @@ int command_kinds(int count, char **words)
     generation run;
     if (!read_generation(count, words, &run))
         return RUN_MISUSED;
-    for (uint64_t i = 0; i < run.count; i++) {
+    for (uint64_t i = run.first; i < run.end; i++) {
         posed given;
         build_case(&run, i, &ask);
         given = pose(&ask);
@@ -202,7 +202,7 @@ static int name_cases(int count, char **words,
     generation run;
     if (!read_generation(count, words, &run))
         return 0;
-    for (uint64_t i = 0; i < run.count; i++) {
+    for (uint64_t i = run.first; i < run.end; i++) {
         char name[NAME_ROOM];
         build_case(&run, i, &ask);
         name_case(&ask, name);

@@ -10,10 +10,12 @@ typedef struct {
     int small;
 } wanted;
 
-/* A run of the generator: how many cases, of which kinds. */
+/* A run of the generator: the cases from one index up to another, of which
+ * kinds. */
 typedef struct {
     uint64_t seed;
-    uint64_t count;
+    uint64_t first;
+    uint64_t end;
     wanted kinds;
 } generation;
 

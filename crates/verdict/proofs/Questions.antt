@@ -1,13 +1,14 @@
 -- What is answered of a file: its verdict is accepted where no fact fails, and a question first gives the file's own fault. `say` makes an
--- answer of a fault, and w is the file's verdict.
-use Prim.Native.Nat.{ℕ}
+-- answer of a fault, and w is the file's verdict. And what a refused answer holds besides its number and place.
+use Prim.Native.Nat.{ℕ, suc, zero}
 use mathlib.Core.Bool.{Bool, true, false, cond}
-use lib.IntN.{ℤ}
+use lib.IntN.{ℤ, pos}
+use lib.ListN.{replicate}
 use lib.Dec.{eqb}
 use borrow.Author.Tests.{eqb-true, eqb-false}
 use mathlib.Core.Path.{_≡_, refl, sym, ap, _∙_}
 use mathlib.Core.Logic.{_⊎_, inl, inr, ⊎-elim, _↔_}
-use mathlib.Core.List.{List, [], _∷_}
+use mathlib.Core.List.{List, [], _∷_, List·Memᴰ, List·Memᴰ·not-nil, List·Memᴰ·cases-cons}
 use native.Mathlib.Omega.{arith}
 use Rattle.verdict.specs.declared.Reason.{Reason}
 use Rattle.verdict.specs.declared.Reason.the-variants as why
@@ -17,7 +18,7 @@ use Rattle.verdict.specs.declared.Judged.the-variants as judged
 use Rattle.verdict.specs.declared.Verdict.{Verdict}
 use Rattle.verdict.specs.declared.Verdict.the-variants.{Accepted, Refused}
 use Rattle.verdict.specs.Reasons.{numberOf, shownOf}
-use Rattle.verdict.specs.Answers.{Answer, answered, refused, answerNumber, answerPlace, refusal, afterVerdict, faultIn}
+use Rattle.verdict.specs.Answers.{Answer, answered, refused, answerNumber, answerPlace, answerValues, refusal, afterVerdict, faultIn}
 use Rattle.verdict.specs.Order.{Check, check, Answered, Asked}
 
 pub shown-accepted : (v : Judged) → (shownOf v ≡ Accepted) ↔ (v ≡ judged.Accepted)
@@ -108,3 +109,15 @@ some-number why.Position e = omega arith
 some-number why.Question e = omega arith
 some-number why.Steps e = omega arith
 some-number why.Room e = omega arith
+
+-- ---- a refused answer: all else in it is 0
+
+all-zero : (n : ℕ) (v : ℤ) → List·Memᴰ v (replicate n (pos 0)) → v ≡ pos 0
+unfolding replicate
+all-zero zero v m = absurd (List·Memᴰ·not-nil m)
+all-zero (suc n) v m = ⊎-elim (λ (e : v ≡ pos 0). e) (λ (k : List·Memᴰ v (replicate n (pos 0))). all-zero n v k) (List·Memᴰ·cases-cons m)
+
+-- THEOREM
+pub refused-zeros : (a : Answer) → (answerNumber a ≡ 0 → ⊥) → (v : ℤ) → List·Memᴰ v (answerValues a) → v ≡ pos 0
+refused-zeros (answered values) n v m = absurd (n refl)
+refused-zeros (refused k t) n v m = all-zero k v m
