@@ -9,7 +9,8 @@
  *   line II  B2 -- X2 ---------------------------------- [3] -- J2 -- B4
  *
  * station 1 writes its X.1 to standard output, station 2 its X.2. The track of each line starts at its start boundary; positions are in
- * centimetres, coordinates in milliarcseconds. Tables are those of the standard. */
+ * centimetres, coordinates in milliarcseconds. The balises are a group of two: both have the same links, and others link to number 1 alone.
+ * Tables are those of the standard. */
 #include <stdio.h>
 #include <string.h>
 
@@ -91,7 +92,7 @@ static void put_records(void)
     put_turnout(2, 1, (side){ 6000, T1, 4 }, (side){ 0, S3, 3 }, (side){ 9300, S4, 4 });
     put_turnout(3, 0, (side){ 83300, J2, 2 }, (side){ 80000, X2, 2 }, (side){ 54700, J4, 4 });
     put_balise(X1, T1, BALISE_NUMBER, 12000, FIRST_OF_TWO, "\x90\x02\x7F\x81\x3C\xFF", MESSAGE);
-    put_balise(0, 0, BALISE_NUMBER + 1, 12500, SECOND_OF_TWO, "", 0);
+    put_balise(X1, T1, BALISE_NUMBER + 1, 12500, SECOND_OF_TWO, "", 0);
     put_signal(B1, FIRST_BALISE, "X1", 9000, 1, DOWN_ENTRY);
     put_signal(B2, T3, "X2", 9000, 2, UP_ENTRY);
     put_signal(T2, J3, "S3", 6000, 3, UP_EXIT);

@@ -122,7 +122,7 @@ static uint32_t joint_on(yard *made, uint32_t before, uint32_t port)
     return plain(made, IND_JOINT, IND_JOINT_SIZE, before, port);
 }
 
-/* A group of two balises with messages, of which the first is linked. */
+/* A group of two balises with messages; others link to the first alone. */
 static uint32_t balises_on(yard *made, uint32_t before)
 {
     uint32_t size = IND_BALISE_PLAIN_SIZE + MESSAGE;
@@ -130,6 +130,7 @@ static uint32_t balises_on(yard *made, uint32_t before)
     uint32_t second = add(made, IND_BALISE, size);
     made->objects[first].group_byte = 1 << IND_GROUP_COUNT_SHIFT;
     made->objects[second].group_byte = 1 << IND_GROUP_COUNT_SHIFT | 1;
+    made->objects[second].first = first;
     return first;
 }
 

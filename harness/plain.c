@@ -378,9 +378,19 @@ static int turnouts_right(const uint8_t *file, uint32_t at, uint32_t to,
     return at == to;
 }
 
+/* A balise of place above 1 comes directly after one of its count and a lower
+ * place. The middle bits of both group bytes are 0, so that the bytes can be
+ * compared as they are. */
+static int follows(const balise *before, const balise *of)
+{
+    return before != NULL && of->group > before->group
+        && of->group >> 5 == before->group >> 5;
+}
+
 static int balises_right(const uint8_t *file, uint32_t at, uint32_t to,
                          starts_map starts_at)
 {
+    const balise *before = NULL;
     while (at < to) {
         const balise *of = (const void *)(file + at);
         if (to - at < sizeof *of || of->size > to - at || of->size < 16
@@ -393,6 +403,9 @@ static int balises_right(const uint8_t *file, uint32_t at, uint32_t to,
             return 0;
         if ((of->group & 7) == 0)
             starts_at[at] = A_PLAIN_ONE;
+        else if (!follows(before, of))
+            return 0;
+        before = of;
         at += of->size;
     }
     return at == to;
@@ -535,24 +548,46 @@ static int turnout_links_right(const uint8_t *file, const layout *found,
     return 1;
 }
 
-/* Balises, signals or joints. */
-static int plain_links_right(const uint8_t *file, const layout *found,
-                             const starts_map starts_at, uint32_t end,
-                             int group)
+/* Previous and next of a balise of place 1, a signal or a joint. */
+static int both_links_right(const uint8_t *file, const starts_map starts_at,
+                            uint32_t end, uint32_t at)
 {
-    uint32_t at = found->from[group];
-    while (at < found->to[group]) {
+    const balise *of = (const void *)(file + at);
+    uint32_t previous = of->link[0], next = of->link[1];
+    return (previous == 0
+            || (previous != next
+                && returned(file, starts_at, end, previous, at)))
+        && (next == 0 || returned(file, starts_at, end, next, at));
+}
+
+/* A balise of place above 1, which is never the first, has the links of the
+ * one before it. */
+static int balise_links_right(const uint8_t *file, const layout *found,
+                              const starts_map starts_at, uint32_t end)
+{
+    const balise *before = NULL;
+    uint32_t at = found->from[BALISES];
+    while (at < found->to[BALISES]) {
         const balise *of = (const void *)(file + at);
-        uint32_t previous = of->link[0], next = of->link[1];
-        if ((previous != 0
-             && (previous == next
-                 || !returned(file, starts_at, end, previous, at)))
-            || (next != 0 && !returned(file, starts_at, end, next, at)))
+        if ((of->group & 7) == 0
+                ? !both_links_right(file, starts_at, end, at)
+                : of->link[0] != before->link[0]
+                    || of->link[1] != before->link[1])
             return 0;
-        at += group == BALISES ? of->size
-            : group == SIGNALS ? (uint32_t)sizeof(signal)
-                               : (uint32_t)sizeof(joint);
+        before = of;
+        at += of->size;
     }
+    return 1;
+}
+
+/* Signals or joints. */
+static int joint_links_right(const uint8_t *file, const layout *found,
+                             const starts_map starts_at, uint32_t end,
+                             int group, uint32_t size)
+{
+    for (uint32_t at = found->from[group]; at < found->to[group]; at += size)
+        if (!both_links_right(file, starts_at, end, at))
+            return 0;
     return 1;
 }
 
@@ -569,9 +604,11 @@ static int x2_right(const uint8_t *file, size_t length, layout *found)
         && groups_right(file, end, found, starts_at)
         && boundary_links_right(file, found, starts_at, end)
         && turnout_links_right(file, found, starts_at, end)
-        && plain_links_right(file, found, starts_at, end, BALISES)
-        && plain_links_right(file, found, starts_at, end, SIGNALS)
-        && plain_links_right(file, found, starts_at, end, JOINTS);
+        && balise_links_right(file, found, starts_at, end)
+        && joint_links_right(file, found, starts_at, end, SIGNALS,
+                             sizeof(signal))
+        && joint_links_right(file, found, starts_at, end, JOINTS,
+                             sizeof(joint));
 }
 
 int plain_x2(const uint8_t *file, size_t length)

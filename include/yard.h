@@ -48,9 +48,9 @@ enum yard_number {
     YARD_STRUCTURE = 4,  /* structure version not 1 */
     YARD_LAYOUT = 6,     /* layout */
     YARD_FIELD = 5,      /* a field outside its values */
-    YARD_AGREEMENT = 7,  /* agreement */
+    YARD_AGREEMENT = 7,  /* agreement; also a balise out of sequence in its group, at its group byte */
     YARD_TARGET = 8,     /* link target wrong */
-    YARD_RETURN = 9,     /* link not returned, or the second of a doubled link */
+    YARD_RETURN = 9,     /* link not returned, the second of a doubled link, or a link unlike that of the balise before it in its group */
     YARD_STATION = 10,   /* of a pair: stations differ */
     YARD_TRACK = 11,     /* track not in the X.1 */
     YARD_POSITION = 12,  /* position beyond the track's end */
@@ -217,7 +217,8 @@ enum yard_turnout_value {
     YARD_TURNOUT_REVERSE_TRACK
 };
 
-/* A balise, table 9. */
+/* A balise, table 9. The balises of a group follow each other in the file by rising place and have the same links; what links to them names
+ * number 1 alone. */
 enum yard_balise_value {
     YARD_BALISE_PREVIOUS = 1, /* link */
     YARD_BALISE_NEXT,         /* link */

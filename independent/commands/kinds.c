@@ -57,14 +57,63 @@ static void name_geography_place(const stored *file, uint32_t place,
         name_part(name, "point", (place - points) % IND_POINT_SIZE);
 }
 
-static void name_record_place(const stored *file, const ind_layout *layout,
-                              uint32_t place, char *name)
+/* A balise of place above 1, where that is not above its count: other rules
+ * hold for it than for number 1 of a group. */
+static int is_member(const uint8_t *bytes, ind_object record)
 {
-    ind_kind kind = ind_kind_at(layout, place);
+    return record.kind == IND_BALISE
+        && ind_balise_place(bytes, record.start) > 1
+        && ind_balise_place(bytes, record.start)
+            <= ind_balise_count(bytes, record.start);
+}
+
+/* Why a member is out of sequence; the balise before it is 0 where there is
+ * none. */
+static const char *sequence_name(const uint8_t *bytes, uint32_t before,
+                                 uint32_t balise)
+{
+    if (before == 0)
+        return "member_at_head";
+    if (ind_balise_count(bytes, before) != ind_balise_count(bytes, balise))
+        return "member_other_count";
+    if (ind_balise_place(bytes, before) == ind_balise_place(bytes, balise))
+        return "member_equal_place";
+    return "member_lower_place";
+}
+
+/* How a member's link differs from that of the balise before it. */
+static const char *link_name(const uint8_t *bytes, uint32_t before,
+                             uint32_t balise, uint32_t field)
+{
+    if (ind_two(bytes, balise + field) == 0)
+        return "member_no_link";
+    if (ind_two(bytes, before + field) == 0)
+        return "member_new_link";
+    return "member_other_link";
+}
+
+static void name_record_place(const stored *file, const ind_layout *layout,
+                              ind_answer answer, char *name)
+{
+    ind_kind kind = ind_kind_at(layout, answer.place);
     ind_object record = { kind, layout->from[kind] };
-    while (record.start + ind_record_size(file->bytes, record) <= place)
+    uint32_t before = 0, field;
+    while (record.start + ind_record_size(file->bytes, record)
+           <= answer.place) {
+        before = record.start;
         record.start += ind_record_size(file->bytes, record);
-    name_part(name, kind_name(kind), place - record.start);
+    }
+    field = answer.place - record.start;
+    if (!is_member(file->bytes, record))
+        name_part(name, kind_name(kind), field);
+    else if (answer.number == IND_AGREEMENT)
+        name_part(name, sequence_name(file->bytes, before, record.start),
+                  field);
+    else if (answer.number == IND_LINK_RETURN)
+        name_part(name, link_name(file->bytes, before, record.start, field),
+                  field);
+    else
+        name_part(name, "member", field);
 }
 
 /* Where an X.2's end boundary count stands. */
@@ -128,7 +177,7 @@ static void name_application_place(const stored *file, ind_answer answer,
     else if (answer.number == IND_LAYOUT)
         strcpy(name, any_group(file) ? "balise_start" : "boundaries_end");
     else if (ind_application_layout(file->bytes, end, &layout).number == 0)
-        name_record_place(file, &layout, answer.place, name);
+        name_record_place(file, &layout, answer, name);
 }
 
 /* Whether a question is about an X.2 alone. */

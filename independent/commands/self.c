@@ -1,5 +1,6 @@
-/* 01's 'Yard examples', the roundings of 'Readings that look right', and the
- * headers and the track of the example files, each asserted of the core. */
+/* 01's 'Yard examples', the roundings of 'Readings that look right', the
+ * headers and the track of the example files, and balise groups by 02's ticket
+ * 2, each asserted of the core. */
 #include <stdio.h>
 #include <string.h>
 
@@ -30,6 +31,22 @@ enum {
     ONE_LENGTH = 68
 };
 
+/* A line from a start boundary to an end boundary over a group of balises:
+ * numbers 1, 3 and 4 of five. */
+enum {
+    G_START = 41,
+    G_END = 53,
+    G_ONE = 65,
+    G_THREE = 81,
+    G_FOUR = 97,
+    G_LENGTH = 117,
+    G_START_ENTRY = 24,
+    G_END_COUNT = 27,
+    G_END_ENTRY = 28,
+    G_BALISE_GROUP = 33,
+    G_COUNT = 5
+};
+
 enum {
     UNTOUCHED = 0xA55A,
     /* More than any text that is asserted here has. */
@@ -53,13 +70,13 @@ static int says(ind_answer answer, uint32_t number, uint32_t place)
     return answer.number == number && answer.place == place;
 }
 
-static void put_y_boundary(uint8_t *bytes, uint32_t entry, uint32_t start,
-                           uint8_t type)
+static void put_boundary(uint8_t *bytes, uint32_t entry, uint32_t start,
+                         uint8_t type, uint32_t link)
 {
     bytes[entry + IND_ENTRY_TRACK] = 1;
     put_two(bytes, entry + IND_ENTRY_OFFSET, start);
     bytes[start + IND_TYPE_PLACE] = type;
-    put_two(bytes, start + IND_BOUNDARY_LINK, Y_TURNOUT);
+    put_two(bytes, start + IND_BOUNDARY_LINK, link);
     bytes[start + IND_BOUNDARY_NEIGHBOUR_TYPE] = IND_NEIGHBOUR_UNKNOWN;
     bytes[start + IND_BOUNDARY_TRACK] = 1;
 }
@@ -77,22 +94,70 @@ static void put_y_turnout(uint8_t *turnout, uint32_t reverse)
     turnout[IND_TURNOUT_REVERSE_TRACK] = 1;
 }
 
-/* Yard Y with this reverse link. */
-static void make_y(stored *file, uint32_t reverse)
+/* The header of an X.2 with one start boundary, up to its entry. */
+static void begin_yard(stored *file, uint32_t length)
 {
     uint8_t *bytes = file->bytes;
     memset(file, 0, sizeof *file);
-    file->length = Y_LENGTH;
+    file->length = length;
     put_opening(bytes, IND_X2_TYPE, 1, 1);
     bytes[IND_STATION_NAME_PLACE] = 0xB1;
     bytes[IND_STATION_NAME_PLACE + 1] = 0xB1;
     bytes[IND_START_COUNT_PLACE] = 1;
+}
+
+/* Yard Y with this reverse link. */
+static void make_y(stored *file, uint32_t reverse)
+{
+    uint8_t *bytes = file->bytes;
+    begin_yard(file, Y_LENGTH);
     bytes[Y_END_COUNT] = 2;
     put_two(bytes, Y_GROUPS, Y_TURNOUT);
-    put_y_boundary(bytes, Y_START_ENTRY, Y_START, IND_DOWN_START);
-    put_y_boundary(bytes, Y_FIRST_END_ENTRY, Y_FIRST_END, IND_DOWN_END);
-    put_y_boundary(bytes, Y_SECOND_END_ENTRY, Y_SECOND_END, IND_DOWN_END);
+    put_boundary(bytes, Y_START_ENTRY, Y_START, IND_DOWN_START, Y_TURNOUT);
+    put_boundary(bytes, Y_FIRST_END_ENTRY, Y_FIRST_END, IND_DOWN_END,
+                 Y_TURNOUT);
+    put_boundary(bytes, Y_SECOND_END_ENTRY, Y_SECOND_END, IND_DOWN_END,
+                 Y_TURNOUT);
     put_y_turnout(bytes + Y_TURNOUT, reverse);
+    seal(file);
+}
+
+static void put_g_balise(uint8_t *balise, uint32_t place)
+{
+    balise[IND_TYPE_PLACE] = IND_BALISE_TYPE;
+    put_two(balise, IND_BALISE_PREVIOUS, G_START);
+    put_two(balise, IND_BALISE_NEXT, G_END);
+    balise[IND_BALISE_SIZE_BYTE] = IND_BALISE_PLAIN_SIZE;
+    balise[IND_BALISE_ATTRIBUTE] = IND_ATTRIBUTE_PHYSICAL_SAME;
+    balise[IND_BALISE_TRACK] = 1;
+    put_group(balise, place, G_COUNT);
+}
+
+/* The line over a group: others link to number 1 alone, and all of the group
+ * have its links. */
+static void make_g(stored *file)
+{
+    uint8_t *bytes = file->bytes;
+    begin_yard(file, G_LENGTH);
+    bytes[G_END_COUNT] = 1;
+    put_two(bytes, G_BALISE_GROUP, G_ONE);
+    put_boundary(bytes, G_START_ENTRY, G_START, IND_DOWN_START, G_ONE);
+    put_boundary(bytes, G_END_ENTRY, G_END, IND_DOWN_END, G_ONE);
+    put_g_balise(bytes + G_ONE, 1);
+    put_g_balise(bytes + G_THREE, 3);
+    put_g_balise(bytes + G_FOUR, 4);
+    seal(file);
+}
+
+/* The same, where no link names the group and its balises have none. */
+static void make_loose_g(stored *file)
+{
+    make_g(file);
+    put_two(file->bytes, G_START + IND_BOUNDARY_LINK, G_END);
+    put_two(file->bytes, G_END + IND_BOUNDARY_LINK, G_START);
+    put_four(file->bytes, G_ONE + IND_BALISE_PREVIOUS, 0);
+    put_four(file->bytes, G_THREE + IND_BALISE_PREVIOUS, 0);
+    put_four(file->bytes, G_FOUR + IND_BALISE_PREVIOUS, 0);
     seal(file);
 }
 
@@ -232,6 +297,88 @@ static void link_examples(void)
     expect(says(ind_x2(y.bytes, y.length), 9, 69), "reverse 0: 9 at 69");
     make_y(&y, Y_FIRST_END);
     expect(says(ind_x2(y.bytes, y.length), 9, 69), "reverse 56: 9 at 69");
+}
+
+/* The verdict once a balise of a file is of this place and count. */
+static int group_gives(stored *file, uint32_t balise, uint32_t place,
+                       uint32_t count, uint32_t number, uint32_t at)
+{
+    put_group(file->bytes + balise, place, count);
+    seal(file);
+    return says(ind_x2(file->bytes, file->length), number, at);
+}
+
+/* The verdict once the link at a place is this one. */
+static int link_gives(stored *file, uint32_t place, uint32_t link,
+                      uint32_t number, uint32_t at)
+{
+    put_two(file->bytes, place, link);
+    seal(file);
+    return says(ind_x2(file->bytes, file->length), number, at);
+}
+
+/* Members out of sequence: 7 at the group byte. Each change stays until the
+ * file is made anew. */
+static void sequence_examples(void)
+{
+    static stored g;
+    make_g(&g);
+    expect(says(ind_x2(g.bytes, g.length), 0, 0),
+           "1, 3 and 4 of five with number 1's links are accepted");
+    expect(group_gives(&g, G_FOUR, 5, 5, 0, 0), "1, 3 and 5 of five too");
+    expect(group_gives(&g, G_FOUR, 3, 5, 7, 112), "3 after 3: 7 at 112");
+    expect(group_gives(&g, G_FOUR, 2, 5, 7, 112), "2 after 3: 7 at 112");
+    expect(group_gives(&g, G_FOUR, 4, 6, 7, 112),
+           "4 of six after 3 of five: 7 at 112");
+    expect(group_gives(&g, G_THREE, 3, 6, 7, 96),
+           "3 of six after 1 of five: 7 at 96");
+    expect(group_gives(&g, G_ONE, 1, 6, 0, 0),
+           "1, 3 and 4 of six are accepted");
+    expect(group_gives(&g, G_ONE, 2, 6, 7, 80),
+           "2 after a boundary: 7 at 80");
+    expect(group_gives(&g, G_ONE, 7, 6, 7, 80),
+           "7 of six, and after a boundary: 7 at 80");
+    make_loose_g(&g);
+    expect(says(ind_x2(g.bytes, g.length), 0, 0),
+           "a group without links is accepted");
+    expect(group_gives(&g, G_ONE, 2, 5, 7, 80),
+           "2, 3 and 4 without links: 7 at 80");
+}
+
+/* Members whose links are not number 1's: 9 at the link. Each change stays
+ * until the file is made anew. */
+static void member_link_examples(void)
+{
+    static stored g;
+    make_g(&g);
+    expect(link_gives(&g, G_FOUR + IND_BALISE_NEXT, 0, 9, 100),
+           "4's next is 0: 9 at 100");
+    expect(link_gives(&g, G_FOUR + IND_BALISE_PREVIOUS, 0, 9, 98),
+           "4 has no links: 9 at 98");
+    expect(link_gives(&g, G_FOUR + IND_BALISE_PREVIOUS, G_END, 9, 98),
+           "4's previous is 1's next: 9 at 98");
+    expect(link_gives(&g, G_THREE + IND_BALISE_NEXT, G_START, 9, 84),
+           "3's next is 1's previous: 9 at 84");
+    expect(link_gives(&g, G_THREE + IND_BALISE_PREVIOUS, G_ONE, 9, 82),
+           "3's previous is number 1: 9 at 82");
+    expect(link_gives(&g, G_FOUR + IND_BALISE_NEXT, G_FOUR, 8, 100),
+           "4's next is 4 itself: 8 at 100, before all of 9");
+    expect(link_gives(&g, G_THREE + IND_BALISE_NEXT, G_FOUR, 8, 84),
+           "3's next is 4: 8 at 84");
+    make_g(&g);
+    expect(link_gives(&g, G_START + IND_BOUNDARY_LINK, G_THREE, 8, 42),
+           "a boundary's link to 3: 8 at 42");
+    make_g(&g);
+    expect(link_gives(&g, G_ONE + IND_BALISE_NEXT, 0, 9, 54),
+           "1's next is 0: the end boundary's link is not returned");
+    make_g(&g);
+    expect(group_gives(&g, G_THREE, 1, 5, 9, 82),
+           "another number 1: its previous link is not returned");
+    make_loose_g(&g);
+    expect(link_gives(&g, G_THREE + IND_BALISE_NEXT, G_END, 9, 84),
+           "3 has a next and 1 has none: 9 at 84");
+    expect(link_gives(&g, G_THREE + IND_BALISE_PREVIOUS, G_START, 9, 82),
+           "3 has a previous and 1 has none: 9 at 82");
 }
 
 static int last_offset_gives(uint32_t last, uint32_t number, uint32_t place)
@@ -380,6 +527,11 @@ static void list_example(void)
     make_y(&y, Y_TURNOUT);
     expect(list_prints(&y, "verdict 8 99\n"),
            "after a refused verdict nothing follows");
+    make_g(&y);
+    expect(list_prints(&y, "verdict 0 0\n"
+                           "from 41 routes 1 walks 3\n"
+                           "41 65 53\n"),
+           "walks meet number 1 of a group alone");
 }
 
 int command_self(void)
@@ -389,6 +541,8 @@ int command_self(void)
     coordinate_examples();
     route_examples();
     link_examples();
+    sequence_examples();
+    member_link_examples();
     offset_examples();
     track_example();
     header1_examples();

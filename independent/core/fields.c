@@ -1,5 +1,5 @@
-/* 01, X.2's 'Fields' and 'Agreement'. A record's fault is given as the
- * field's place in the record. */
+/* 01, X.2's 'Fields' and 'Agreement', with what 02's ticket 2 says of balise
+ * groups. A record's fault is given as the field's place in the record. */
 #include "fields.h"
 
 #include "opening.h"
@@ -222,8 +222,8 @@ static uint32_t header_fault(const uint8_t *file, const ind_layout *layout)
 }
 
 /* What the pass over the records is made with, and what it finds for the
- * checks after it: the places where a link may point, and the first balise's
- * group byte whose place is above its count. */
+ * checks after it: the places where a link may point, and the first group
+ * byte that does not agree. */
 typedef struct {
     const uint8_t *file;
     const ind_layout *layout;
@@ -248,19 +248,34 @@ static inline uint32_t kind_fault(pass *over, ind_kind kind, int may_be_named,
     return IND_NO_FAULT;
 }
 
+/* The record directly before a balise of place above 1 is a balise of the
+ * same count and a lower place. Before the first balise of all stands a
+ * turnout or a boundary: a null pointer here. */
+static int in_sequence(const uint8_t *before, const uint8_t *balise)
+{
+    if (ind_balise_place(balise, 0) == 1)
+        return 1;
+    return before != NULL
+        && ind_balise_count(before, 0) == ind_balise_count(balise, 0)
+        && ind_balise_place(before, 0) < ind_balise_place(balise, 0);
+}
+
 static uint32_t balises_fault(pass *over)
 {
     uint32_t to = over->layout->to[IND_BALISE];
     uint32_t at = over->layout->from[IND_BALISE];
+    const uint8_t *before = NULL;
     while (at < to) {
         const uint8_t *balise = over->file + at;
         uint32_t fault = balise_fault(balise);
         if (fault != IND_NO_FAULT)
             return at + fault;
-        if (ind_balise_place(balise, 0) > ind_balise_count(balise, 0)
+        if ((ind_balise_place(balise, 0) > ind_balise_count(balise, 0)
+             || !in_sequence(before, balise))
             && over->group_fault == IND_NO_FAULT)
             over->group_fault = at + IND_BALISE_GROUP;
         ind_mark_if(over->targets, at, ind_balise_place(balise, 0) == 1);
+        before = balise;
         at += balise[IND_BALISE_SIZE_BYTE];
     }
     return IND_NO_FAULT;

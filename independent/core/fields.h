@@ -1,4 +1,5 @@
-/* 01, X.2's 'Fields' and 'Agreement'. */
+/* 01, X.2's 'Fields' and 'Agreement', with what 02's ticket 2 says of balise
+ * groups. */
 #ifndef IND_FIELDS_H
 #define IND_FIELDS_H
 

@@ -1,9 +1,11 @@
-/* 01, X.2's 'Links': targets (8), then returns and doubled links (9). */
+/* 01, X.2's 'Links': targets (8), then returns and doubled links (9). By 02's
+ * ticket 2 a balise of place above 1 has the links of the balise before it,
+ * and no return is due for them. */
 #include "links.h"
 
 /* What the pass over the links is made with, and what it finds: the first
- * link that is not returned or names what an earlier one of its record
- * names. */
+ * link that is not returned, or names what an earlier one of its record
+ * names, or is not that of the balise before. */
 typedef struct {
     const uint8_t *file;
     const ind_marks *targets;
@@ -39,20 +41,33 @@ static inline int returned(const pass *over, uint32_t target, uint32_t place)
     return previous_of(both) == place || next_of(both) == place;
 }
 
+/* Whether a link of a record, not 0, names what it must not. */
+static inline int wrong_target(const pass *over, uint32_t record,
+                               uint32_t link)
+{
+    return link == record || link >= over->end
+        || !ind_marked(over->targets, link);
+}
+
+/* The first fault of check 9 is kept until the end, since every wrong target
+ * comes before it. */
+static inline void keep_first(pass *over, uint32_t field)
+{
+    if (over->return_fault == IND_NO_FAULT)
+        over->return_fault = field;
+}
+
 /* Whether the link at a field of a record names what it must not; 0 names
- * nothing. The first that is not returned or is doubled is kept until the
- * end, since every wrong target comes before it. */
+ * nothing. */
 static inline int names_wrongly(pass *over, uint32_t record, uint32_t field,
                                 uint32_t link, int doubled)
 {
     if (link == 0)
         return 0;
-    if (link == record || link >= over->end
-        || !ind_marked(over->targets, link))
+    if (wrong_target(over, record, link))
         return 1;
-    if ((doubled || !returned(over, link, record))
-        && over->return_fault == IND_NO_FAULT)
-        over->return_fault = field;
+    if (doubled || !returned(over, link, record))
+        keep_first(over, field);
     return 0;
 }
 
@@ -89,22 +104,67 @@ static uint32_t turnouts_fault(pass *over)
     return IND_NO_FAULT;
 }
 
-/* Balises, signals or joints. */
+/* Both links of a balise of place 1, a signal or a joint. */
+static inline uint32_t both_fault(pass *over, uint32_t at, uint32_t both)
+{
+    uint32_t previous = previous_of(both), next = next_of(both);
+    if (names_wrongly(over, at, at + IND_BALISE_PREVIOUS, previous, 0))
+        return at + IND_BALISE_PREVIOUS;
+    if (names_wrongly(over, at, at + IND_BALISE_NEXT, next, next == previous))
+        return at + IND_BALISE_NEXT;
+    return IND_NO_FAULT;
+}
+
+/* Both links of a balise of place above 1, beside those of the balise before
+ * it. Where they are equal nothing is left to judge: the targets are those of
+ * the balise before, and neither names this one, since no link may. */
+static inline uint32_t member_fault(pass *over, uint32_t at, uint32_t both,
+                                    uint32_t before)
+{
+    uint32_t previous = previous_of(both), next = next_of(both);
+    if (both == before)
+        return IND_NO_FAULT;
+    if (previous != 0 && wrong_target(over, at, previous))
+        return at + IND_BALISE_PREVIOUS;
+    if (next != 0 && wrong_target(over, at, next))
+        return at + IND_BALISE_NEXT;
+    keep_first(over, previous != previous_of(before)
+                         ? at + IND_BALISE_PREVIOUS
+                         : at + IND_BALISE_NEXT);
+    return IND_NO_FAULT;
+}
+
+/* By agreement a balise of place above 1 is never the first. */
+static uint32_t balises_fault(pass *over, const ind_layout *layout)
+{
+    uint32_t to = layout->to[IND_BALISE];
+    uint32_t at = layout->from[IND_BALISE];
+    uint32_t before = 0;
+    while (at < to) {
+        const uint8_t *balise = over->file + at;
+        uint32_t both = ind_four(balise, IND_BALISE_PREVIOUS);
+        uint32_t fault = ind_balise_place(balise, 0) == 1
+            ? both_fault(over, at, both)
+            : member_fault(over, at, both, before);
+        if (fault != IND_NO_FAULT)
+            return fault;
+        before = both;
+        at += balise[IND_BALISE_SIZE_BYTE];
+    }
+    return IND_NO_FAULT;
+}
+
+/* Signals or joints. */
 static inline uint32_t plain_fault(pass *over, const ind_layout *layout,
                                    ind_kind kind)
 {
-    ind_object record = { kind, layout->from[kind] };
     uint32_t to = layout->to[kind];
-    while (record.start < to) {
-        uint32_t at = record.start;
+    uint32_t size = ind_fixed_size(kind);
+    for (uint32_t at = layout->from[kind]; at < to; at += size) {
         uint32_t both = ind_four(over->file + at, IND_BALISE_PREVIOUS);
-        uint32_t previous = previous_of(both), next = next_of(both);
-        if (names_wrongly(over, at, at + IND_BALISE_PREVIOUS, previous, 0))
-            return at + IND_BALISE_PREVIOUS;
-        if (names_wrongly(over, at, at + IND_BALISE_NEXT, next,
-                          next == previous))
-            return at + IND_BALISE_NEXT;
-        record.start += ind_record_size(over->file, record);
+        uint32_t fault = both_fault(over, at, both);
+        if (fault != IND_NO_FAULT)
+            return fault;
     }
     return IND_NO_FAULT;
 }
@@ -119,7 +179,7 @@ ind_answer ind_application_links(const uint8_t *file,
     if (fault == IND_NO_FAULT)
         fault = turnouts_fault(&over);
     if (fault == IND_NO_FAULT)
-        fault = plain_fault(&over, layout, IND_BALISE);
+        fault = balises_fault(&over, layout);
     if (fault == IND_NO_FAULT)
         fault = plain_fault(&over, layout, IND_SIGNAL);
     if (fault == IND_NO_FAULT)

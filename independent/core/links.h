@@ -1,4 +1,4 @@
-/* 01, X.2's 'Links'. */
+/* 01, X.2's 'Links', with what 02's ticket 2 says of balise groups. */
 #ifndef IND_LINKS_H
 #define IND_LINKS_H
 

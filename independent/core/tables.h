@@ -107,7 +107,8 @@ enum {
 enum {
     IND_GROUP_PLACE_BITS = 0x07,
     IND_GROUP_MIDDLE_BITS = 0x18,
-    IND_GROUP_COUNT_SHIFT = 5
+    IND_GROUP_COUNT_SHIFT = 5,
+    IND_GROUP_LARGEST = 8
 };
 
 enum {

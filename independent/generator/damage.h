@@ -15,8 +15,8 @@ uint32_t edge_offset(source *from, uint32_t old, uint32_t end);
 /* The header's first fields: type, versions, station. */
 void damage_opening(source *from, stored *file);
 
-/* One aimed change of a field of an X.1 or X.2 whose layout is right; the
- * layout stays. */
+/* One aimed change of a field of an X.1 or X.2 whose layout is right, or of
+ * one balise group; the layout stays right. */
 void poke_geography(source *from, stored *file);
 void poke_application(source *from, stored *file);
 

@@ -1,4 +1,4 @@
-/* Damage aimed at X.2: layout, fields, agreement, links. */
+/* Damage aimed at X.2: layout, fields, agreement, links, balise groups. */
 #include "damage.h"
 
 #include <string.h>
@@ -291,6 +291,169 @@ static void poke_group_byte(source *from, stored *file,
         file->bytes[balise + IND_BALISE_GROUP] = edge_byte(from, HOLDS_GROUP);
 }
 
+/* A balise, the one directly before it, and the last of place 1 before it;
+ * 0 where there is none. */
+typedef struct {
+    uint32_t first;
+    uint32_t before;
+    uint32_t at;
+} member;
+
+/* Some balise of place above 1 that has one before it; where there is none,
+ * some balise after the first. */
+static member some_member(source *from, const stored *file,
+                          const ind_layout *layout)
+{
+    const uint8_t *bytes = file->bytes;
+    uint32_t members = 0, others = 0;
+    member found = { 0, 0, 0 };
+    member seen = { 0, 0, layout->from[IND_BALISE] };
+    while (seen.at < layout->to[IND_BALISE]) {
+        int above = ind_balise_place(bytes, seen.at) > 1;
+        if (seen.before != 0
+            && (above ? once_in(from, ++members)
+                      : members == 0 && once_in(from, ++others)))
+            found = seen;
+        if (!above)
+            seen.first = seen.at;
+        seen.before = seen.at;
+        seen.at += bytes[seen.at + IND_BALISE_SIZE_BYTE];
+    }
+    return found;
+}
+
+/* Another count than a balise has. */
+static uint32_t other_count(source *from, const uint8_t *balise)
+{
+    uint32_t more = 1 + draw(from, IND_GROUP_LARGEST - 1);
+    return 1 + (ind_balise_count(balise, 0) - 1 + more) % IND_GROUP_LARGEST;
+}
+
+/* A place out of sequence: that of the balise before, a lower one, the two
+ * exchanged, or one of another count. */
+static void poke_sequence(source *from, uint8_t *before, uint8_t *balise)
+{
+    uint8_t kept = balise[IND_BALISE_GROUP];
+    switch (draw(from, 4)) {
+    case 0: balise[IND_BALISE_GROUP] = before[IND_BALISE_GROUP]; break;
+    case 1:
+        put_group(balise, 1 + draw(from, ind_balise_place(before, 0)),
+                  ind_balise_count(before, 0));
+        break;
+    case 2:
+        balise[IND_BALISE_GROUP] = before[IND_BALISE_GROUP];
+        before[IND_BALISE_GROUP] = kept;
+        break;
+    default:
+        put_group(balise, ind_balise_place(balise, 0),
+                  other_count(from, balise));
+        break;
+    }
+}
+
+/* The first balise of all becomes one of place above 1. */
+static void poke_head(source *from, uint8_t *balise)
+{
+    uint32_t count = (uint32_t)draw_between(from, 2, IND_GROUP_LARGEST);
+    put_group(balise, (uint32_t)draw_between(from, 2, count), count);
+}
+
+/* A balise comes next in the group of the one before it, whatever its own
+ * was. */
+static void join_group(const uint8_t *before, uint8_t *balise)
+{
+    uint32_t place = ind_balise_place(before, 0);
+    uint32_t count = ind_balise_count(before, 0);
+    put_group(balise, place < count ? place + 1 : place, count);
+}
+
+/* The start of some record that a link may name. */
+static uint32_t some_target(source *from, const stored *file,
+                            const ind_layout *layout)
+{
+    ind_object record;
+    do
+        record = some_record(from, file, layout);
+    while (record.kind == IND_SIDING
+           || (record.kind == IND_BALISE
+               && ind_balise_place(file->bytes, record.start) > 1));
+    return record.start;
+}
+
+/* One link or both become others than those of the balise before: none, the
+ * other one, number 1 of the group, some record that a link may name, or those
+ * of the first balise of all. */
+static void poke_member_link(source *from, stored *file,
+                             const ind_layout *layout, const member *of)
+{
+    uint8_t *balise = file->bytes + of->at;
+    const uint8_t *other = file->bytes + layout->from[IND_BALISE];
+    uint32_t which = once_in(from, 2) ? IND_BALISE_PREVIOUS : IND_BALISE_NEXT;
+    uint32_t sibling = which ^ IND_BALISE_PREVIOUS ^ IND_BALISE_NEXT;
+    switch (draw(from, 8)) {
+    case 0:
+    case 1: put_two(balise, which, 0); break;
+    case 2: put_two(balise, which, ind_two(balise, sibling)); break;
+    case 3: put_two(balise, which, of->first); break;
+    case 4: swap_links(file, (ind_object){ IND_BALISE, of->at }); break;
+    case 5:
+        put_four(balise, IND_BALISE_PREVIOUS,
+                 ind_four(other, IND_BALISE_PREVIOUS));
+        break;
+    default: put_two(balise, which, some_target(from, file, layout)); break;
+    }
+}
+
+/* Without one balise of several: every offset behind it moves up, so that
+ * the layout stays right. */
+static void remove_balise(stored *file, const ind_layout *layout, uint32_t at)
+{
+    uint8_t *bytes = file->bytes;
+    uint32_t size = bytes[at + IND_BALISE_SIZE_BYTE];
+    ind_object record = { IND_NO_KIND, layout->header };
+    for (uint32_t i = 1; i <= IND_GROUPS; i++) {
+        uint32_t group = layout->header - IND_OFFSET_SIZE * i;
+        uint32_t offset = ind_two(bytes, group);
+        put_two(bytes, group, offset > at ? offset - size : offset);
+    }
+    while (record.start < layout->end) {
+        record.kind = ind_kind_at(layout, record.start);
+        for (uint32_t i = 0; i < ind_links(record.kind); i++) {
+            uint32_t link = ind_two(bytes, ind_link_place(record, i));
+            put_two(bytes, ind_link_place(record, i),
+                    link > at ? link - size : link);
+        }
+        record.start += ind_record_size(bytes, record);
+    }
+    remove_bytes(file, at, size);
+}
+
+/* A group of balises: out of sequence, at the head of all balises, joined to
+ * another, with other links, without its number 1 or another of its balises.
+ * Any record, where there are no two balises. */
+static void poke_group(source *from, stored *file, const ind_layout *layout)
+{
+    uint8_t *bytes = file->bytes;
+    member of = some_member(from, file, layout);
+    if (of.at == 0) {
+        poke_record(from, file, layout);
+        return;
+    }
+    switch (draw(from, 10)) {
+    case 0:
+    case 1:
+    case 2:
+    case 3: poke_sequence(from, bytes + of.before, bytes + of.at); break;
+    case 4: poke_head(from, bytes + layout->from[IND_BALISE]); break;
+    case 5: join_group(bytes + of.before, bytes + of.at); break;
+    case 6:
+        remove_balise(file, layout, of.first != 0 ? of.first : of.before);
+        break;
+    case 7: remove_balise(file, layout, of.before); break;
+    default: poke_member_link(from, file, layout, &of); break;
+    }
+}
+
 void poke_application(source *from, stored *file)
 {
     ind_layout layout;
@@ -304,6 +467,9 @@ void poke_application(source *from, stored *file)
     case 2:
     case 3: poke_header_track(from, file, &layout); break;
     case 4: poke_group_byte(from, file, &layout); break;
+    case 5:
+    case 6:
+    case 7: poke_group(from, file, &layout); break;
     default: poke_record(from, file, &layout); break;
     }
 }

@@ -31,15 +31,18 @@ enum {
 };
 
 /* An object of a yard. Links name objects, from 1; 0 is no link. Order says
- * where it stands among its kind. The fields that no link or size fixes are
- * drawn from the object's own seed, so that they stay when the yard is laid
- * out anew. */
+ * where it stands among its kind. A balise of place above 1 names number 1 of
+ * its group as its first: it stands after it, in the order in which they were
+ * added, and is laid out with its links. The fields that no link or size
+ * fixes are drawn from the object's own seed, so that they stay when the yard
+ * is laid out anew. */
 typedef struct {
     ind_kind kind;
     uint32_t links[PORTS];
     uint32_t size;
     uint32_t start;
     uint32_t group_byte;
+    uint32_t first;
     uint32_t order;
     uint64_t seed;
 } object;

@@ -5,12 +5,23 @@
 
 #include "core/core.h"
 
-/* Objects in stored order. */
+/* Objects in stored order. The others of a balise group stand directly after
+ * its number 1. */
 typedef struct {
     uint32_t kind;
     uint32_t order;
+    uint32_t first;
     uint32_t at;
 } rank;
+
+static rank rank_of(const yard *made, uint32_t at)
+{
+    uint32_t first = made->objects[at].first;
+    if (first == NO_OBJECT)
+        first = at;
+    return (rank){ made->objects[at].kind, made->objects[first].order, first,
+                   at };
+}
 
 static int by_rank(const void *left, const void *right)
 {
@@ -19,6 +30,8 @@ static int by_rank(const void *left, const void *right)
         return one->kind < other->kind ? -1 : 1;
     if (one->order != other->order)
         return one->order < other->order ? -1 : 1;
+    if (one->first != other->first)
+        return one->first < other->first ? -1 : 1;
     return one->at < other->at ? -1 : 1;
 }
 
@@ -209,12 +222,16 @@ static void put_record(const object *made, const stored *geography,
     }
 }
 
-/* Each link as the start of the object that it names. */
+/* Each link as the start of the object that it names. All balises of a group
+ * have the links of number 1. */
 static void put_links(const yard *made, const object *of, uint8_t *bytes)
 {
     ind_object record = { of->kind, of->start };
+    const uint32_t *links = of->first == NO_OBJECT
+        ? of->links
+        : made->objects[of->first].links;
     for (uint32_t i = 0; i < ind_links(of->kind); i++) {
-        uint32_t other = of->links[i];
+        uint32_t other = links[i];
         put_two(bytes, ind_link_place(record, i),
                 other == NO_OBJECT ? 0 : made->objects[other].start);
     }
@@ -274,10 +291,8 @@ void lay_out(yard *made, const stored *geography, stored *file)
         + count_kind(made, IND_END_BOUNDARY);
     uint32_t header = IND_START_ENTRIES_PLACE + IND_COUNT_SIZE
         + IND_ENTRY_SIZE * boundaries + IND_GROUPS_SIZE;
-    for (uint32_t i = 0; i < made->count; i++) {
-        const object *of = &made->objects[i + 1];
-        ranks[i] = (rank){ of->kind, of->order, i + 1 };
-    }
+    for (uint32_t i = 0; i < made->count; i++)
+        ranks[i] = rank_of(made, i + 1);
     qsort(ranks, made->count, sizeof *ranks, by_rank);
     file->length = place_objects(made, ranks, header) + IND_CHECKSUM_SIZE;
     put_station(made, file->bytes);

@@ -1,12 +1,16 @@
 /* Right yards as objects and their links: lines, tangles, ladders,
- * crossovers, wyes, balloon loops, diamonds, dead ends, rings. */
+ * crossovers, wyes, balloon loops, diamonds, dead ends, rings, and groups of
+ * balises. */
 #include "make.h"
 
 #include "core/core.h"
 
 enum {
-    COUNT_LARGEST = 8,
     BOUNDARIES_LARGEST = 255,
+    /* A ring that is filled in has fewer objects than this, and nothing is
+     * filled in where there might be no room for one. */
+    WORST_RING = 12,
+    RING_ROOM = WORST_RING * IND_BALISE_LARGEST,
     /* The header without boundaries, and the checksum. */
     BARE_FILE = IND_START_ENTRIES_PLACE + IND_COUNT_SIZE + IND_GROUPS_SIZE
         + IND_CHECKSUM_SIZE
@@ -47,7 +51,8 @@ static uint32_t add_sized(source *from, yard *made, ind_kind kind,
         added->links[port] = NO_OBJECT;
     added->size = size;
     added->start = 0;
-    added->group_byte = draw(from, COUNT_LARGEST) << IND_GROUP_COUNT_SHIFT;
+    added->group_byte = draw(from, IND_GROUP_LARGEST) << IND_GROUP_COUNT_SHIFT;
+    added->first = NO_OBJECT;
     added->order = (uint32_t)draw_bits(from);
     added->seed = draw_bits(from);
     made->bytes += size + (ind_is_boundary(kind) ? IND_ENTRY_SIZE : 0);
@@ -380,24 +385,6 @@ static void build_shape(source *from, yard_shape shape, yard *made)
     }
 }
 
-/* A balise that no link names: of any place in its group. */
-static void add_loose_balise(source *from, yard *made)
-{
-    object *balise = &made->objects[add(from, made, IND_BALISE)];
-    uint32_t count = 1 + draw(from, COUNT_LARGEST);
-    uint32_t place = 1 + draw(from, count);
-    balise->group_byte = (count - 1) << IND_GROUP_COUNT_SHIFT | (place - 1);
-}
-
-/* An object without links. */
-static void add_loose(source *from, yard *made, ind_kind kind)
-{
-    if (kind == IND_BALISE)
-        add_loose_balise(from, made);
-    else
-        add(from, made, kind);
-}
-
 /* Plain objects linked in a circle that leads nowhere. */
 static void add_ring(source *from, yard *made, uint32_t objects)
 {
@@ -432,7 +419,7 @@ static void complete(source *from, yard *made)
         if (!made->allowed[kind])
             continue;
         if (count_kind(made, (ind_kind)kind) == 0 || once_in(from, 6))
-            add_loose(from, made, (ind_kind)kind);
+            add(from, made, (ind_kind)kind);
     }
     if (plain_allowed(made) && once_in(from, 8))
         add_ring(from, made, 3 + draw(from, 4));
@@ -444,20 +431,45 @@ static void complete(source *from, yard *made)
     }
 }
 
-/* Loose objects and rings until hardly anything more fits. */
+/* The other balises of the group of a number 1: all of them, or any. */
+static void add_members(source *from, yard *made, uint32_t first)
+{
+    uint32_t group = made->objects[first].group_byte;
+    uint32_t count = (group >> IND_GROUP_COUNT_SHIFT) + 1;
+    int all = once_in(from, 2);
+    for (uint32_t place = 2; place <= count; place++)
+        if ((all || once_in(from, 2)) && bytes_left(made) > RING_ROOM) {
+            uint32_t member = add(from, made, IND_BALISE);
+            made->objects[member].group_byte = group | (place - 1);
+            made->objects[member].first = first;
+        }
+}
+
+/* Of the balises after so many objects, each number 1 of its group until now,
+ * one in three gets others of its group. */
+static void add_groups(source *from, yard *made, uint32_t after)
+{
+    uint32_t count = made->count;
+    for (uint32_t at = after + 1; at <= count; at++)
+        if (made->objects[at].kind == IND_BALISE && once_in(from, 3))
+            add_members(from, made, at);
+}
+
+/* Loose objects, rings and groups until hardly anything more fits. */
 static void fill_up(source *from, yard *made)
 {
-    enum { WORST_RING = 12, OBJECTS_LARGEST = LARGEST_YARD - 20 };
-    while (bytes_left(made) > WORST_RING * IND_BALISE_LARGEST
-           && made->count < OBJECTS_LARGEST) {
+    enum { OBJECTS_LARGEST = LARGEST_YARD - 20 };
+    while (bytes_left(made) > RING_ROOM && made->count < OBJECTS_LARGEST) {
         int kind = (int)draw_between(from, IND_TURNOUT, IND_SIDING);
+        uint32_t count = made->count;
         if (plain_allowed(made) && once_in(from, 2))
             add_ring(from, made, 3 + draw(from, WORST_RING - 3));
         else if (made->allowed[kind])
-            add_loose(from, made, (ind_kind)kind);
+            add(from, made, (ind_kind)kind);
         else if (!plain_allowed(made) && !made->allowed[IND_TURNOUT]
                  && !made->allowed[IND_SIDING])
             return;
+        add_groups(from, made, count);
     }
 }
 
@@ -506,6 +518,7 @@ void make_yard(source *from, size_wanted size, uint32_t station, yard *made)
         shape = (yard_shape)draw(from, YARD_SHAPES);
     build_shape(from, shape, made);
     complete(from, made);
+    add_groups(from, made, 0);
     if (size == SIZE_LARGE) {
         fill_up(from, made);
         fill_to_last_byte(from, made);
@@ -523,6 +536,7 @@ void make_route_yard(source *from, yard_shape shape, size_wanted size,
         add_missing_boundaries(from, made);
     else
         complete(from, made);
+    add_groups(from, made, 0);
 }
 
 /* A port of some object that has a link. */

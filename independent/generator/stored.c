@@ -30,6 +30,12 @@ void put_opening(uint8_t *bytes, uint8_t type, uint32_t data_version,
     put_two(bytes, IND_STATION_PLACE, station);
 }
 
+void put_group(uint8_t *balise, uint32_t place, uint32_t count)
+{
+    balise[IND_BALISE_GROUP] =
+        (uint8_t)((count - 1) << IND_GROUP_COUNT_SHIFT | (place - 1));
+}
+
 void seal(stored *file)
 {
     if (file->length >= IND_CHECKSUM_SIZE && file->length <= FILE_ROOM)

@@ -23,6 +23,9 @@ void put_four(uint8_t *bytes, uint32_t place, uint32_t value);
 void put_opening(uint8_t *bytes, uint8_t type, uint32_t data_version,
                  uint32_t station);
 
+/* The group byte of a balise: its place in the group, and the count. */
+void put_group(uint8_t *balise, uint32_t place, uint32_t count);
+
 /* Writes the right checksum into the last four bytes, if there are four. */
 void seal(stored *file);
 

@@ -71,4 +71,4 @@ accepts = record {
 
 -- PROMISE 3
 pub lists : Lists
-lists = record { which = routes-asked; listed = yard.listed; one-list = λ f e start b limit x y p q. range.one-list f e start b limit x y p q; objects = λ f at. object-read f (layoutOf f) at }
+lists = record { which = routes-asked; listed = yard.listed; one-list = λ f e start b limit x y p q. range.one-list f e start b limit x y p q; first-only = λ f e start b limit w h x m. range.first-only f e start b limit w h x m; objects = λ f at. object-read f (layoutOf f) at }

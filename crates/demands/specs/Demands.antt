@@ -28,6 +28,7 @@ use Rattle.x1_questions.specs.declared.answers.CoordinateAnswer.the-variants as
 use Rattle.x2_records.specs.Records.{recordAt}
 use Rattle.x2_layout.specs.Layout.{layoutOf}
 use Rattle.x2_layout.specs.Records.{kindAt, starts}
+use Rattle.x2_obeys.specs.Fields.{Member}
 use Rattle.x2_verdict.specs.Facts.{verdictOf as x2Verdict}
 use Rattle.x2_verdict.specs.Obeys.{Obeys as X2Obeys}
 use Rattle.x2_theorems.specs.Checks.{checks as x2Checks}
@@ -41,6 +42,7 @@ use Rattle.route_graph.specs.Objects.{objectAt}
 use Rattle.route_graph.specs.Read.{objectOf}
 use Rattle.route_walks.specs.declared.Tally.{Tally}
 use Rattle.route_walks.specs.Lent.{roomOf}
+use Rattle.route_walks.specs.Legal.{Walk}
 use Rattle.route_walks.specs.All.{AllRoutes}
 use Rattle.route_lister.specs.declared.RoutesAnswer.the-variants as routes
 use Rattle.route_lister.specs.Answered.{limitOf, routesAnswer}
@@ -151,5 +153,9 @@ pub record Lists : Type 0 where
   -- there is no second such list
   pub one-list : (f : List ℕ) → x2Verdict f ≡ verdict.Accepted → (start : ℕ) → BoundaryHere f start → (limit : ℕ) (a b : List (List ℕ))
       → AllRoutes (objectAt f (layoutOf f)) start limit a → AllRoutes (objectAt f (layoutOf f)) start limit b → a ≡ b
+  -- of a group of balises a walk meets the first alone (02, ticket 2)
+  -- 02: Ticket2.5
+  pub first-only : (f : List ℕ) → x2Verdict f ≡ verdict.Accepted → (start : ℕ) → BoundaryHere f start → (limit : ℕ) (w : List ℕ)
+      → Walk (objectAt f (layoutOf f)) start limit w → (x : ℕ) → List·Memᴰ x w → Member f (layoutOf f) x → ⊥
   -- what the lister reads of a record is what the record's bytes mean
   pub objects : (f : List ℕ) (at : ℕ) → objectAt f (layoutOf f) at ≡ objectOf (recordAt f (kindAt (layoutOf f) at) at)

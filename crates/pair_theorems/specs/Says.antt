@@ -42,6 +42,7 @@ ownClaim f g place width (rule.Above field other w) = always
 ownClaim f g place width (rule.SumWithin field base limit) = always
 ownClaim f g place width (rule.SumIs field base end) = always
 ownClaim f g place width rule.RankInCount = always
+ownClaim f g place width (rule.InSequence field) = always
 ownClaim f g place width rule.NamesObject = always
 ownClaim f g place width rule.IsReturned = always
 ownClaim f g place width (rule.NotDoubled field) = always

@@ -17,6 +17,7 @@ use Rattle.x2_records.specs.declared.Kind.the-variants as kind
 use Rattle.tables.specs.Rows.{tableFacts}
 use Rattle.x2_records.specs.Places.{boundarySize, baliseSize, baliseMessage}
 use Rattle.x2_records.specs.Rows.{baliseTable}
+use Rattle.x2_records.specs.Records.{linkPlaces}
 use Rattle.x2_layout.specs.declared.Layout.{Layout}
 use Rattle.x2_layout.specs.Places.{startCountAt, startEntriesAt, endCountAt, endEntriesAt, groupsAt, yardCount}
 use Rattle.x2_layout.specs.Layout.{layoutOf, yardOffsets}
@@ -26,14 +27,14 @@ use Rattle.x2_layout.specs.declared.Made.the-variants.{Fixed, Balises}
 use Rattle.x2_layout.specs.declared.Offsets.{Offsets}
 use Rattle.x2_layout.specs.Groups.{Group, groupIn, groupsFrom, groupStart, nextStart, nextField, groupEnd, groupLayout, baliseBytes, baliseLayout, walkLayout, madeFacts, oneGroup, groupFacts}
 use Rattle.x2_layout.specs.Facts.{countLayout, indexes, offsetLayout, offsetsLayout, groupsIn, layoutFacts}
-use Rattle.x2_layout.specs.Records.{kindAt, sizeAt, starts}
+use Rattle.x2_layout.specs.Records.{kindAt, sizeAt, starts, recordBefore}
 use Rattle.x2_layout.proofs.Grouped.{one-inside}
 use Rattle.x2_layout.proofs.Obeys.{layout-obeyed}
 use Rattle.x2_layout.proofs.Walks.{starts-between, index-iff}
 use Rattle.x2_fields.specs.Fields.{headerFields, entryFields, entriesFields, recordFields, fieldFacts}
 use Rattle.x2_kinds.specs.KindFields.{sizeByteOf, lastByte, messageEnd, messageFields, kindFields}
 use Rattle.x2_fields.specs.Agreement.{entryAgrees, entriesAgree, kindAgrees, recordAgrees, agreementFacts}
-use Rattle.x2_links.specs.Links.{recordTargets, targetFacts, recordReturns, returnFacts}
+use Rattle.x2_links.specs.Links.{recordTargets, targetFacts, returns, sameLinks, isMember, recordReturns, returnFacts}
 use Rattle.x2_verdict.specs.Facts.{fileType, recordFacts, checkFacts, facts, verdictOf}
 use Rattle.places.specs.Places.{placeOver, PlacesBelow}
 use Rattle.places.proofs.Lists.{below-append, below-both, below-each, below-if, fault-below}
@@ -84,17 +85,18 @@ module _ (f : List ℕ) (at : ℕ) (inside : at < mostLength) where
   fields-of kind.Joint = omega arith
   fields-of kind.Siding = omega arith
 
-  agreement-of : (k : Kind) → PlacesBelow placeOver (kindAgrees f k at)
-  unfolding kindAgrees
-  agreement-of kind.StartBoundary = tt
-  agreement-of kind.EndBoundary = tt
-  agreement-of kind.Turnout = tt
-  agreement-of kind.Balise = omega arith
-  agreement-of kind.Signal = tt
-  agreement-of kind.Joint = tt
-  agreement-of kind.Siding = tt
-
   module _ (l : Layout) where
+    -- after the record at b
+    agreement-of : (b : ℕ) (k : Kind) → PlacesBelow placeOver (kindAgrees f l b k at)
+    unfolding kindAgrees
+    agreement-of b kind.StartBoundary = tt
+    agreement-of b kind.EndBoundary = tt
+    agreement-of b kind.Turnout = tt
+    agreement-of b kind.Balise = omega arith
+    agreement-of b kind.Signal = tt
+    agreement-of b kind.Joint = tt
+    agreement-of b kind.Siding = tt
+
     targets-of : (k : Kind) → PlacesBelow placeOver (recordTargets f l k at)
     targets-of kind.StartBoundary = omega arith
     targets-of kind.EndBoundary = omega arith
@@ -104,14 +106,17 @@ module _ (f : List ℕ) (at : ℕ) (inside : at < mostLength) where
     targets-of kind.Joint = omega arith
     targets-of kind.Siding = tt
 
-    returns-of : (k : Kind) → PlacesBelow placeOver (recordReturns f l k at)
-    returns-of kind.StartBoundary = omega arith
-    returns-of kind.EndBoundary = omega arith
-    returns-of kind.Turnout = omega arith
-    returns-of kind.Balise = omega arith
-    returns-of kind.Signal = omega arith
-    returns-of kind.Joint = omega arith
-    returns-of kind.Siding = tt
+    links-of : (k : Kind) → PlacesBelow placeOver (returns f l at [] (linkPlaces k at))
+    links-of kind.StartBoundary = omega arith
+    links-of kind.EndBoundary = omega arith
+    links-of kind.Turnout = omega arith
+    links-of kind.Balise = omega arith
+    links-of kind.Signal = omega arith
+    links-of kind.Joint = omega arith
+    links-of kind.Siding = tt
+
+    returns-of : (b : ℕ) (k : Kind) → PlacesBelow placeOver (recordReturns f l b k at)
+    returns-of b k = below-if placeOver (isMember f k at) (sameLinks f b at) (returns f l at [] (linkPlaces k at)) (omega arith) (links-of k)
 
 -- what is asked of every record: each starts before End
 pub records-below :
@@ -149,14 +154,14 @@ module _ (f : List ℕ) (l : Layout) (most : l .end ≤ mostLength) where
         let each = flatMap (recordAgrees f l) (starts f l) in
         let p = entries-below (entryAgrees f startEntriesAt (l .starts)) (l .n) (λ i h. omega arith) in
         let q = entries-below (entryAgrees f (endEntriesAt (l .n)) (l .ends)) (l .k) (λ i h. omega arith) in
-        let r = records-below f l most (recordAgrees f l) (λ at h. agreement-of f at h (kindAt l at)) in
+        let r = records-below f l most (recordAgrees f l) (λ at h. agreement-of f at h l (recordBefore f l at) (kindAt l at)) in
         below-both placeOver one (two ++ each) p (below-both placeOver two each q r)
 
     checks-below : PlacesBelow placeOver (recordFacts f l)
     unfolding recordFacts targetFacts returnFacts
     checks-below =
         let t = records-below f l most (λ at. recordTargets f l (kindAt l at) at) (λ at h. targets-of f at h l (kindAt l at)) in
-        let r = records-below f l most (λ at. recordReturns f l (kindAt l at) at) (λ at h. returns-of f at h l (kindAt l at)) in
+        let r = records-below f l most (λ at. recordReturns f l (recordBefore f l at) (kindAt l at) at) (λ at h. returns-of f at h l (recordBefore f l at) (kindAt l at)) in
         below-both placeOver (fieldFacts f l) (agreementFacts f l ++ (targetFacts f l ++ returnFacts f l)) fields-below
         (below-both placeOver (agreementFacts f l) (targetFacts f l ++ returnFacts f l) agreement-below (below-both placeOver (targetFacts f l) (returnFacts f l) t r))
 

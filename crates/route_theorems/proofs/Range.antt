@@ -1,11 +1,11 @@
--- In an accepted file: where a boundary of either kind starts, where a question is in range, and that from a boundary there is one list with
--- all routes in their order.
+-- In an accepted file: where a boundary of either kind starts, where a question is in range, that from a boundary there is one list with
+-- all routes in their order, and that no walk meets a balise of place above 1.
 use Prim.Native.Nat.{ℕ, _≤_}
 use native.Mathlib.Omega.{arith}
 use mathlib.Core.Path.{_≡_, refl, sym}
 use mathlib.Core.Bool.{Bool, true, false, cond, true≢false}
 use mathlib.Core.Logic.{_⊎_, inl, inr, ⊎-elim, _↔_}
-use mathlib.Core.List.{List}
+use mathlib.Core.List.{List, List·Memᴰ}
 use lib.Dec.{eqb}
 use borrow.Author.Tests.{eqb-true, eqb-false}
 use Rattle.verdict.specs.declared.Verdict.the-variants.{Accepted}
@@ -13,15 +13,19 @@ use Rattle.x2_records.specs.declared.Kind.{Kind}
 use Rattle.x2_records.specs.declared.Kind.the-variants as kind
 use Rattle.x2_layout.specs.Layout.{layoutOf}
 use Rattle.x2_layout.specs.Records.{kindAt}
+use Rattle.x2_obeys.specs.Fields.{Member}
 use Rattle.x2_obeys.specs.Links.{Target}
 use Rattle.x2_verdict.specs.Facts.{verdictOf}
 use Rattle.route_graph.specs.Objects.{viewAt, objectAt, isBoundary, boundaryStarts}
 use Rattle.route_graph.proofs.Places.{boundary-iff}
+use Rattle.route_walks.specs.Legal.{Walk}
 use Rattle.route_walks.specs.All.{AllRoutes}
+use Rattle.route_walks.proofs.Legal.{walk-good}
 use Rattle.route_lister.specs.Answered.{defaultLimit, limitOf}
 use Rattle.route_lister.specs.Listing.{Within}
 use Rattle.route_theorems.proofs.OneList as routes
 use Rattle.route_theorems.specs.Asked.{BoundaryHere, InRange}
+use Rattle.route_theorems.proofs.Links.{no-member}
 use Rattle.route_theorems.proofs.Listed.{whole, small, linked, place}
 
 -- a record is seen as a boundary exactly where its kind is one of the two
@@ -75,3 +79,7 @@ module _ (f : List ℕ) (e : verdictOf f ≡ Accepted) where
     -- THEOREM: there is one list with all routes, each once and in their order
     pub one-list : (limit : ℕ) (a b : List (List ℕ)) → AllRoutes (objectAt f (layoutOf f)) start limit a → AllRoutes (objectAt f (layoutOf f)) start limit b → a ≡ b
     one-list limit = routes.one-list (objectAt f (layoutOf f)) (Target f (layoutOf f)) (linked f e) start limit target
+
+    -- THEOREM (02, ticket 2): no walk meets a balise of place above 1
+    pub first-only : (limit : ℕ) (w : List ℕ) → Walk (objectAt f (layoutOf f)) start limit w → (x : ℕ) → List·Memᴰ x w → Member f (layoutOf f) x → ⊥
+    first-only limit w h x m = no-member f (layoutOf f) x (walk-good (objectAt f (layoutOf f)) (Target f (layoutOf f)) (linked f e) start limit w x target h m)

@@ -5,7 +5,7 @@ use mathlib.Core.Bool.{Bool, true, false, not, _&&_, _||_, or-assoc, or-false, a
 use mathlib.Core.List.{List, flatMap}
 use borrow.Author.Tests.{not-true, not-false}
 use Rattle.verdict.specs.declared.Judged.{Judged}
-use Rattle.verdict.specs.Facts.{anyOf, allOf, Fact, allTests, judge, along}
+use Rattle.verdict.specs.Facts.{anyOf, allOf, Fact, allTests, judge}
 use Rattle.verdict.specs.Walk.{startsFrom}
 use Rattle.verdict.proofs.Facts.{judge-append, tests-hold, tests-fail}
 use Rattle.verdict.proofs.Walk.{starts-step, starts-stop}
@@ -32,19 +32,6 @@ module _ (size : ℕ → ℕ) (end : ℕ) (facts : ℕ → List Fact) where
     unfolding flatMap
     fails-here r n p =
         rw (starts-step size end pos at h) (p ∙ sym (tests-fail v (facts at) (flatMap facts (startsFrom size end (at + size at))) (sym e ∙ not-true t n)))
-
--- One turn of a loop that judges each record with the one before it.
-module _ (size : ℕ → ℕ) (end : ℕ) (facts : ℕ → ℕ → List Fact) where
-  pub along-step :
-      ((x : ℕ) → 0 < size x) → (v w : Judged) (before at next : ℕ) → at < end → w ≡ judge v (facts before at) → next ≡ at + size at
-      → judge w (along facts at (startsFrom size end next)) ≡ judge v (along facts before (startsFrom size end at))
-  unfolding along
-  along-step pos v w before at next h e q =
-      rw (e, q, starts-step size end pos at h) (sym (judge-append v (facts before at) (along facts at (startsFrom size end (at + size at)))))
-
-  pub along-stop : (v : Judged) (before at : ℕ) → end ≤ at → judge v (along facts before (startsFrom size end at)) ≡ v
-  unfolding along
-  along-stop v before at h = rw (starts-stop size end at h)
 
 -- One turn of a loop that looks for a record: what was found, or is at this record, or is at one that follows.
 module _ (size : ℕ → ℕ) (end : ℕ) (t : ℕ → Bool) where

@@ -90,11 +90,6 @@ abbrev pub judge : Judged → List Fact → Judged
 judge v [] = v
 judge v (fact c m ∷ fs) = judge (also v (test c) m) fs
 
--- the facts of each number of a list with the one before it, which is p before the first
-unfoldable pub along : (ℕ → ℕ → List Fact) → ℕ → List ℕ → List Fact
-along g p [] = []
-along g p (x ∷ xs) = g p x ++ along g x xs
-
 -- each fact is the claim that its mark names
 abbrev pub Marked : (Mark → Claim) → List Fact → Type 0
 Marked says [] = Unit {0}

@@ -92,6 +92,8 @@ pub enum Rule {
     SumIs(usize, usize, usize),
     // a balise's rank in its group, which 01 calls its place, is at most the group's count
     RankInCount,
+    // a balise's rank is 1, or the record directly before it is a balise of the same count and a lower rank; its group byte is this field
+    InSequence(usize),
     // a link is 0 or names the start of another object
     NamesObject,
     // a link is 0 or is returned by a link of its target

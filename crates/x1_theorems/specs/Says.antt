@@ -32,6 +32,7 @@ sumClaim f (rule.Zero field w) = always
 sumClaim f (rule.SameAs field next w) = always
 sumClaim f (rule.Above field next w) = always
 sumClaim f rule.RankInCount = always
+sumClaim f (rule.InSequence field) = always
 sumClaim f rule.NamesObject = always
 sumClaim f rule.IsReturned = always
 sumClaim f (rule.NotDoubled field) = always

@@ -2,10 +2,10 @@
 ghost use mathlib.Core.Path.{_≡_};
 ghost use mathlib.Core.List.{[], _∷_};
 ghost use Prim.Native.Nat.{_≤_};
-ghost use Rattle.verdict.specs.Facts.{allTests, judge};
+ghost use Rattle.verdict.specs.Facts.{test, allTests, judge};
 ghost use Rattle.x2_layout.specs.inner.Bounds.{countMost, placeMost, headerMost, Bounded, ifBounded};
-ghost use Rattle.x2_layout.specs.Records.{eachRecord};
-ghost use Rattle.x2_fields.specs.Agreement.{entriesAgree, rankInCount, kindAgrees, agreementFacts};
+ghost use Rattle.x2_layout.specs.Records.{eachAfter};
+ghost use Rattle.x2_fields.specs.Agreement.{entriesAgree, rankInCount, goesBefore, inSequence, kindAgrees, agreementFacts};
 use rules::same_as;
 use tables::number_of;
 use tables::place_of;
@@ -59,15 +59,54 @@ fn rank_in_count(v: Judged, f: &[u8], at: u32) -> Judged
     also_fact(v, ok, Reason::Agreement, at as usize, place, 1, rule)
 }
 
-// A record of a kind: only a balise has a rule.
-fn agreement_obeys(f: &[u8], k: Kind, at: u32) -> bool
-    ensures { λ r. ⌜ r ≡ allTests (kindAgrees (now (f .entry)) k at) ⌝ }
+// The record of a kind at `before` is a balise of the same count and a lower rank than the balise at `at`.
+fn goes_before(f: &[u8], k: Kind, before: u32, at: u32) -> bool
+    ensures { λ r. ⌜ r ≡ test (goesBefore (now (f .entry)) k before at) ⌝ }
+{
+    match k {
+        Kind::StartBoundary => false,
+        Kind::EndBoundary => false,
+        Kind::Turnout => false,
+        Kind::Balise => {
+            let there = number_of(f, before, Balise::GROUP);
+            let here = number_of(f, at, Balise::GROUP);
+            (Balise::count_of(there) == Balise::count_of(here))
+                & (Balise::rank_of(there) < Balise::rank_of(here))
+        }
+        Kind::Signal => false,
+        Kind::Joint => false,
+        Kind::Siding => false,
+    }
+}
+
+// A balise is the first of its group, or in sequence after the record before it.
+fn sequence_obeys(f: &[u8], l: Layout, before: u32, at: u32) -> bool
+    ensures { λ r. ⌜ r ≡ allTests (inSequence (now (f .entry)) l before at ∷ []) ⌝ }
+{
+    let rank = Balise::rank_of(number_of(f, at, Balise::GROUP));
+    let k = kind_at(l, before as usize);
+    (rank == 1) | goes_before(f, k, before, at)
+}
+
+// The same, as a fact.
+fn in_sequence(v: Judged, f: &[u8], l: Layout, before: u32, at: u32) -> Judged
+    ensures { λ r. ⌜ r ≡ judge v (inSequence (now (f .entry)) l before at ∷ []) ⌝ }
+{
+    let ok = sequence_obeys(f, l, before, at);
+    let place = place_of(at, Balise::GROUP);
+    let rule = Rule::InSequence(place_of(before, Balise::GROUP));
+    also_fact(v, ok, Reason::Agreement, at as usize, place, 1, rule)
+}
+
+// A record of a kind, after the one at `before`: only a balise has rules.
+fn agreement_obeys(f: &[u8], l: Layout, before: u32, k: Kind, at: u32) -> bool
+    ensures { λ r. ⌜ r ≡ allTests (kindAgrees (now (f .entry)) l before k at) ⌝ }
 {
     match k {
         Kind::StartBoundary => true,
         Kind::EndBoundary => true,
         Kind::Turnout => true,
-        Kind::Balise => rank_obeys(f, at),
+        Kind::Balise => rank_obeys(f, at) & sequence_obeys(f, l, before, at),
         Kind::Signal => true,
         Kind::Joint => true,
         Kind::Siding => true,
@@ -75,32 +114,37 @@ fn agreement_obeys(f: &[u8], k: Kind, at: u32) -> bool
 }
 
 // The same, as facts.
-fn kind_agrees(v: Judged, f: &[u8], k: Kind, at: u32) -> Judged
-    ensures { λ r. ⌜ r ≡ judge v (kindAgrees (now (f .entry)) k at) ⌝ }
+fn kind_agrees(v: Judged, f: &[u8], l: Layout, before: u32, k: Kind, at: u32) -> Judged
+    ensures { λ r. ⌜ r ≡ judge v (kindAgrees (now (f .entry)) l before k at) ⌝ }
 {
     match k {
         Kind::StartBoundary => v,
         Kind::EndBoundary => v,
         Kind::Turnout => v,
-        Kind::Balise => rank_in_count(v, f, at),
+        Kind::Balise => {
+            let w = rank_in_count(v, f, at);
+            in_sequence(w, f, l, before, at)
+        }
         Kind::Signal => v,
         Kind::Joint => v,
         Kind::Siding => v,
     }
 }
 
-// Every record: the facts of the first that does not obey are the verdict.
+// Every record, with the one before it: the facts of the first that does not obey are the verdict.
 fn records_agree(v: Judged, f: &[u8], l: Layout) -> Judged
     requires { ⌜ Bounded l ⌝ }
-    ensures { λ r. ⌜ r ≡ judge v (eachRecord (now (f .entry)) l (kindAgrees (now (f .entry)))) ⌝ }
+    ensures { λ r. ⌜ r ≡ judge v (eachAfter (now (f .entry)) l (kindAgrees (now (f .entry)) l)) ⌝ }
 {
     let end = l.end;
+    let mut before = 0;
     let mut at = l.starts;
     while at < end {
         let k = kind_at(l, at);
-        if !agreement_obeys(f, k, at as u32) {
-            return kind_agrees(v, f, k, at as u32);
+        if !agreement_obeys(f, l, before, k, at as u32) {
+            return kind_agrees(v, f, l, before, k, at as u32);
         }
+        before = at as u32;
         at = at + size_of(f, k, at);
     }
     v

@@ -8,5 +8,6 @@ pub mod Bounds
 pub mod Starts
 pub mod Shapes
 pub mod Walking
+pub mod Before
 pub mod Grouped
 pub mod Loops

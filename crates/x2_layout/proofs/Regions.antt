@@ -1,5 +1,5 @@
 -- A file whose layout obeys has regions of whole records.
-use Prim.Native.Nat.{ℕ, _≤_}
+use Prim.Native.Nat.{ℕ, _≤_, _<_}
 use mathlib.Core.Path.{_≡_, _∙_, refl, sym, subst, subst⁻¹}
 use mathlib.Core.List.{List, [], _∷_, List·Memᴰ}
 use native.Mathlib.Nat.{sub-self, zero-mod}
@@ -7,6 +7,7 @@ use native.Mathlib.Omega.{arith}
 use Rattle.verdict.specs.Walk.{startsFrom}
 use Rattle.verdict.proofs.Walk.{reach-le}
 use Rattle.x2_records.specs.Places.{sidingSize}
+use Rattle.x2_layout.specs.declared.Layout.{Layout}
 use Rattle.x2_layout.specs.declared.Made.{Made}
 use Rattle.x2_layout.specs.declared.Made.the-variants.{Fixed, Balises}
 use Rattle.x2_layout.specs.Layout.{endOf, layoutOf}
@@ -83,3 +84,10 @@ module _ (f : List ℕ) (o : LayoutObeys f (layoutOf f)) where
         sidings = subst (Whole sidingSize (layoutOf f .sidings)) (grouped-none f (endOf f) (d .rest)) (record { order = d .order; whole = d .made });
         inside = omega arith;
       }
+
+-- the first record is a start boundary
+pub some-boundary : {f : List ℕ} {l : Layout} → Regions f l → l .starts < l .ends
+some-boundary r =
+    let some = r .some-start in
+    let end = r .start-boundaries in
+    omega arith

@@ -1,8 +1,11 @@
 -- The links of X.2 (01, 'Links'): checks 8 and 9. A link names the start of a boundary, turnout, balise, signal or joint, never the
 -- record itself, and of balises only the first of its group; every nonzero link is returned by some link of its target, and no two links
--- of one record name the same target.
+-- of one record name the same target. The links of a balise of place above 1 (02, ticket 2) are those of the record directly before it,
+-- and no return is due for them.
 use Prim.Native.Nat.{ℕ}
+use mathlib.Core.Bool.{Bool, false, not, cond}
 use mathlib.Core.List.{List, [], _∷_, _++_}
+use lib.Dec.{eqb}
 use Rattle.octets.specs.Octets.{numAt}
 use Rattle.octets.specs.declared.Width.the-variants.{Two}
 use Rattle.verdict.specs.Facts.{Claim, always, same, both, either, denied, some, Fact, fact}
@@ -18,11 +21,15 @@ use Rattle.envelope.specs.Seal.{numberMost}
 use Rattle.x2_records.specs.Rows as row
 use Rattle.x2_records.specs.Records.{linkSize, linkPlaces}
 use Rattle.x2_layout.specs.declared.Layout.{Layout}
-use Rattle.x2_layout.specs.Records.{kindAt, starts, eachRecord}
+use Rattle.x2_layout.specs.Records.{kindAt, starts, eachRecord, eachAfter}
 
 -- the link at a place
 abbrev pub linkAt : List ℕ → ℕ → ℕ
 linkAt f p = numAt 2 f p
+
+-- the bits of a balise's group byte that give its place in its group: 0 in the first, which has place 1
+abbrev pub rankBits : List ℕ → ℕ → ℕ
+rankBits f at = bitsOf row.baliseRank (valueOf f at row.baliseGroup)
 
 -- ---- 8: the target
 
@@ -31,7 +38,7 @@ abbrev pub linkable : List ℕ → Kind → ℕ → Claim
 linkable f kind.StartBoundary at = always
 linkable f kind.EndBoundary at = always
 linkable f kind.Turnout at = always
-linkable f kind.Balise at = same (bitsOf row.baliseRank (valueOf f at row.baliseGroup)) 0
+linkable f kind.Balise at = same (rankBits f at) 0
 linkable f kind.Signal at = always
 linkable f kind.Joint at = always
 linkable f kind.Siding at = denied always
@@ -105,8 +112,32 @@ abbrev pub returns : List ℕ → Layout → ℕ → List ℕ → List ℕ → L
 returns f l at before [] = []
 returns f l at before (p ∷ ps) = back f l at p ∷ (distinctFrom f at p before ++ returns f l at (before ++ (p ∷ [])) ps)
 
-abbrev pub recordReturns : List ℕ → Layout → Kind → ℕ → List Fact
-recordReturns f l k at = returns f l at [] (linkPlaces k at)
+-- the link at p of the record at `at` is the link at q of the record before it
+abbrev pub sameLink : List ℕ → ℕ → ℕ → ℕ → Fact
+sameLink f at p q = fact (same (linkAt f p) (linkAt f q)) (returnMark at p (rule.SameAs p q linkSize))
+
+-- both links of a balise are those of the record at `before`
+-- 02: Ticket2.3
+abbrev pub sameLinks : List ℕ → ℕ → ℕ → List Fact
+sameLinks f before at =
+    sameLink f at (fieldPlace at row.balisePrevious) (fieldPlace before row.balisePrevious)
+    ∷ sameLink f at (fieldPlace at row.baliseNext) (fieldPlace before row.baliseNext)
+    ∷ []
+
+-- a record of a kind is a balise of place above 1
+abbrev pub isMember : List ℕ → Kind → ℕ → Bool
+isMember f kind.StartBoundary at = false
+isMember f kind.EndBoundary at = false
+isMember f kind.Turnout at = false
+isMember f kind.Balise at = not (eqb (rankBits f at) 0)
+isMember f kind.Signal at = false
+isMember f kind.Joint at = false
+isMember f kind.Siding at = false
+
+-- the links of a record of a kind, after the one at `before`
+-- 02: Ticket2.4
+abbrev pub recordReturns : List ℕ → Layout → ℕ → Kind → ℕ → List Fact
+recordReturns f l before k at = cond (isMember f k at) (sameLinks f before at) (returns f l at [] (linkPlaces k at))
 
 unfoldable pub returnFacts : List ℕ → Layout → List Fact
-returnFacts f l = eachRecord f l (recordReturns f l)
+returnFacts f l = eachAfter f l (recordReturns f l)

@@ -1,8 +1,13 @@
 -- The facts of checks 8 and 9 hold exactly where the links obey: record by record, and link by link in field order.
-use Prim.Native.Nat.{ℕ, _+_}
-use mathlib.Core.Path.{_≡_, refl, sym, subst}
+use Prim.Native.Nat.{ℕ, _+_, _<_}
+use mathlib.Core.Path.{_≡_, refl, sym, subst, subst⁻¹}
+use mathlib.Core.Bool.{Bool, true, false, cond, not, true≢false}
 use mathlib.Core.Logic.{_⊎_, ⊎-elim, _↔_}
 use mathlib.Core.List.{List, [], _∷_, _++_, List·Memᴰ, List·Memᴰ·head, List·Memᴰ·tail, List·Memᴰ·not-nil, List·Memᴰ·cases-cons, List·Memᴰ·append-cases, Memᴰ·append-left, Memᴰ·append-right, List·Memᴰ·eq-of-singleton}
+use native.Mathlib.Omega.{arith}
+use borrow.Author.Tests.{not-true, not-false, eqb-true, eqb-false}
+use lib.Dec.{eqb}
+use Rattle.octets.specs.Octets.{numAt}
 use Rattle.verdict.specs.Facts.{Holds, AllHold}
 use Rattle.verdict.proofs.Facts.{all-append, all-each}
 use Rattle.verdict.proofs.Orders.{unless}
@@ -10,9 +15,13 @@ use Rattle.x2_records.specs.declared.Kind.{Kind}
 use Rattle.x2_records.specs.declared.Kind.the-variants as kind
 use Rattle.x2_records.specs.Records.{linkPlaces}
 use Rattle.x2_layout.specs.declared.Layout.{Layout}
-use Rattle.x2_layout.specs.Records.{kindAt, starts}
-use Rattle.x2_links.specs.Links.{linkAt, linkable, isTarget, targets, linked, recordTargets, targetFacts, linksTo, distinctFrom, returns, recordReturns, returnFacts}
-use Rattle.x2_obeys.specs.Links.{Linkable, Target, LinksTo, HasLink, Distinct, TargetsObey, ReturnsObey}
+use Rattle.x2_layout.specs.Records.{kindAt, starts, recordBefore}
+use Rattle.x2_layout.proofs.Before.{before-there, before-only}
+use Rattle.x2_links.specs.Links.{linkAt, linkable, isTarget, targets, linked, recordTargets, targetFacts, linksTo, distinctFrom, returns, rankBits, sameLinks, isMember, recordReturns, returnFacts}
+use Rattle.x2_obeys.specs.Fields.{rankAt, Member}
+use Rattle.x2_obeys.specs.Links.{Linkable, Target, LinksTo, HasLink, Distinct, TargetsObey, SameLinks, ReturnsObey}
+use Rattle.x2_obeys.proofs.Values.{low-bits}
+use Rattle.x2_obeys.proofs.Fields.{not-first}
 
 linkable-iff : (f : List ℕ) (k : Kind) (at : ℕ) → Holds (linkable f k at) ↔ Linkable f k at
 linkable-iff f kind.StartBoundary at = (λ h. h, λ h. h)
@@ -149,17 +158,70 @@ module _ (f : List ℕ) (l : Layout) where
             (List·Memᴰ·append-cases before m),
       )
 
-  -- THEOREM: check 9
-  pub returns-iff : AllHold (returnFacts f l) ↔ ReturnsObey f l
+  -- ---- a balise of place above 1
+
+  abbrev MemberOf : Kind → ℕ → Type 0
+  MemberOf k at = (k ≡ kind.Balise) × (1 < rankAt f at)
+
+  -- of a kind, by the test
+  is-member : (k : Kind) (at : ℕ) → isMember f k at ≡ true → MemberOf k at
+  is-member kind.StartBoundary at e = absurd (true≢false (sym e))
+  is-member kind.EndBoundary at e = absurd (true≢false (sym e))
+  is-member kind.Turnout at e = absurd (true≢false (sym e))
+  is-member kind.Balise at e = (refl, let n = eqb-false (rankBits f at) 0 (not-true (eqb (rankBits f at) 0) e) in omega (arith, low-bits (numAt 1 f (at + 15)) 8))
+  is-member kind.Signal at e = absurd (true≢false (sym e))
+  is-member kind.Joint at e = absurd (true≢false (sym e))
+  is-member kind.Siding at e = absurd (true≢false (sym e))
+
+  no-member : (k : Kind) (at : ℕ) → isMember f k at ≡ false → MemberOf k at → ⊥
+  no-member kind.StartBoundary at e m = let q = m .0 in let z : _≡_ {A = ℕ} 0 1 = cc in omega arith
+  no-member kind.EndBoundary at e m = let q = m .0 in let z : _≡_ {A = ℕ} 0 1 = cc in omega arith
+  no-member kind.Turnout at e m = let q = m .0 in let z : _≡_ {A = ℕ} 0 1 = cc in omega arith
+  no-member kind.Balise at e m = let n = eqb-true (rankBits f at) 0 (not-false (eqb (rankBits f at) 0) e) in omega (arith, low-bits (numAt 1 f (at + 15)) 8, m .1)
+  no-member kind.Signal at e m = let q = m .0 in let z : _≡_ {A = ℕ} 0 1 = cc in omega arith
+  no-member kind.Joint at e m = let q = m .0 in let z : _≡_ {A = ℕ} 0 1 = cc in omega arith
+  no-member kind.Siding at e m = let q = m .0 in let z : _≡_ {A = ℕ} 0 1 = cc in omega arith
+
+  pub member-tested : (at : ℕ) → isMember f (kindAt l at) at ≡ true → Member f l at
+  member-tested at e = let m = is-member (kindAt l at) at e in record { balise = m .0; later = m .1 }
+
+  pub none-tested : (at : ℕ) → isMember f (kindAt l at) at ≡ false → Member f l at → ⊥
+  none-tested at e m = no-member (kindAt l at) at e (m .balise, m .later)
+
+  -- ---- a record, after the one at b
+
+  abbrev Listed : ℕ → Type 0
+  Listed at = ((p : ℕ) → List·Memᴰ p (linkPlaces (kindAt l at) at) → Back at [] p) × Distinct f (linkPlaces (kindAt l at) at)
+
+  record-iff : (b at : ℕ) → AllHold (recordReturns f l b (kindAt l at) at) ↔ (((Member f l at → ⊥) → Listed at) × (Member f l at → SameLinks f b at))
+  unfolding AllHold
+  record-iff b at = by-test (isMember f (kindAt l at) at) refl
+    where
+      by-test :
+          (t : Bool) → isMember f (kindAt l at) at ≡ t
+          → AllHold (cond t (sameLinks f b at) (returns f l at [] (linkPlaces (kindAt l at) at))) ↔ (((Member f l at → ⊥) → Listed at) × (Member f l at → SameLinks f b at))
+      by-test true e =
+          let m = member-tested at e in
+          (λ h. (λ n. absurd (n m), λ _. record { previous = h .0; next = h .1 .0 }), λ o. let w = o .1 m in (w .previous, (w .next, tt)))
+      by-test false e =
+          let list = returns-list at [] (linkPlaces (kindAt l at) at) in
+          (λ h. (λ _. list .0 h, λ m. absurd (none-tested at e m)), λ o. list .1 (o .0 (none-tested at e)))
+
+  -- THEOREM: check 9. There is a start boundary, so that a balise has a record before it.
+  pub returns-iff : l .starts < l .ends → AllHold (returnFacts f l) ↔ ReturnsObey f l
   unfolding returnFacts
-  returns-iff =
-      let each = all-each (λ at. recordReturns f l (kindAt l at) at) (starts f l) in
-      let list : (at : ℕ) → AllHold (recordReturns f l (kindAt l at) at) ↔ (((p : ℕ) → List·Memᴰ p (linkPlaces (kindAt l at) at) → Back at [] p) × Distinct f (linkPlaces (kindAt l at) at)) =
-      λ at. returns-list at [] (linkPlaces (kindAt l at) at)
+  returns-iff s =
+      let each = all-each (λ at. recordReturns f l (recordBefore f l at) (kindAt l at) at) (starts f l) in
+      let of : (at : ℕ) → AllHold (recordReturns f l (recordBefore f l at) (kindAt l at) at) ↔ (((Member f l at → ⊥) → Listed at) × (Member f l at → SameLinks f (recordBefore f l at) at)) =
+      λ at. record-iff (recordBefore f l at) at
       in (
         λ h. record {
-          returned = λ at m p k n. (((list at) .0 (each .0 h at m)) .0 p k n) .0;
-          single = λ at m. ((list at) .0 (each .0 h at m)) .1;
+          returned = λ at m none p k n. ((((of at) .0 (each .0 h at m)) .0 none) .0 p k n) .0;
+          single = λ at m none. (((of at) .0 (each .0 h at m)) .0 none) .1;
+          members = λ at m w b d. subst⁻¹ (λ (x : ℕ). SameLinks f x at) (before-only f l at m b d) (((of at) .0 (each .0 h at m)) .1 w);
         },
-        λ o. each .1 (λ at m. (list at) .1 (λ p k n. (o .returned at m p k n, λ q z. absurd (List·Memᴰ·not-nil z)), o .single at m)),
+        λ o. each .1 (λ at m. (of at) .1 (
+          λ none. (λ p k n. (o .returned at m none p k n, λ q z. absurd (List·Memᴰ·not-nil z)), o .single at m none),
+          λ w. o .members at m w (recordBefore f l at) (before-there f l at m (not-first l at s (w .balise))),
+        )),
       )

@@ -12,7 +12,7 @@ use Rattle.names.specs.Names.{ObjectName, StationName}
 use Rattle.x2_records.specs.declared.Kind.{Kind}
 use Rattle.x2_records.specs.declared.Kind.the-variants as kind
 use Rattle.x2_layout.specs.declared.Layout.{Layout}
-use Rattle.x2_layout.specs.Records.{kindAt, starts}
+use Rattle.x2_layout.specs.Records.{kindAt, starts, DirectlyBefore}
 
 -- x is one of two numbers
 abbrev pub OneOfTwo : ℕ → ℕ → ℕ → Type 0
@@ -162,13 +162,37 @@ pub record FieldsObey (f : List ℕ) (l : Layout) : Type 0 where
 
 -- ---- agreement
 
+-- a balise's rank, which 01 calls its place: the low three bits of its group byte and 1; and its group's count: the top three and 1
+abbrev pub rankAt : List ℕ → ℕ → ℕ
+rankAt f at = numAt 1 f (at + 15) % 8 + 1
+
+abbrev pub groupCountAt : List ℕ → ℕ → ℕ
+groupCountAt f at = numAt 1 f (at + 15) / 32 % 8 + 1
+
+-- a balise of place above 1
+-- 02: Ticket2.1
+pub record Member (f : List ℕ) (l : Layout) (at : ℕ) : Type 0 where
+  pub balise : kindAt l at ≡ kind.Balise
+  pub later : 1 < rankAt f at
+
+-- the record directly before the one at `at` is a balise of the same count and a lower place
+-- 02: Ticket2.2
+pub record InSequence (f : List ℕ) (l : Layout) (at : ℕ) : Type 0 where
+  pub before : ℕ
+  pub directly : DirectlyBefore f l before at
+  pub balise : kindAt l before ≡ kind.Balise
+  pub same-count : groupCountAt f before ≡ groupCountAt f at
+  pub lower : rankAt f before < rankAt f at
+
 pub record AgreementObeys (f : List ℕ) (l : Layout) : Type 0 where
   -- a header boundary's track equals its record's
   -- 01: X2.agree.1
   pub start-tracks : (i : ℕ) → i < l .n → numAt 1 f (24 + 3 * i) ≡ numAt 1 f (l .starts + 12 * i + 11)
   -- 01: X2.agree.1
   pub end-tracks : (j : ℕ) → j < l .k → numAt 1 f (25 + 3 * l .n + 3 * j) ≡ numAt 1 f (l .ends + 12 * j + 11)
-  -- a balise's place, the low three bits of its group byte and 1, is at most its count, the top three and 1
+  -- a balise's place is at most its count
   -- 01: X2.agree.2
-  pub places : (at : ℕ) → List·Memᴰ at (starts f l) → kindAt l at ≡ kind.Balise
-      → numAt 1 f (at + 15) % 8 + 1 ≤ numAt 1 f (at + 15) / 32 % 8 + 1
+  pub places : (at : ℕ) → List·Memᴰ at (starts f l) → kindAt l at ≡ kind.Balise → rankAt f at ≤ groupCountAt f at
+  -- a balise of place above 1 is in sequence
+  -- 02: Ticket2.2
+  pub members : (at : ℕ) → List·Memᴰ at (starts f l) → Member f l at → InSequence f l at

@@ -7,11 +7,13 @@ use Rattle.x2_records.specs.declared.Kind.{Kind}
 use Rattle.x2_records.specs.declared.Kind.the-variants as kind
 use Rattle.x2_records.specs.Records.{linkPlaces}
 use Rattle.x2_layout.specs.declared.Layout.{Layout}
-use Rattle.x2_layout.specs.Records.{kindAt, starts}
+use Rattle.x2_layout.specs.Records.{kindAt, starts, DirectlyBefore}
 use Rattle.x2_links.specs.Links.{linkAt}
+use Rattle.x2_obeys.specs.Fields.{Member}
 
 -- a record may be linked to: no siding, and of balises only the first of its group (01: place 1), by the low three bits of the group byte
 -- 01: X2.links.4, X2.links.6
+-- 02: Ticket2.1
 abbrev pub Linkable : List ℕ → Kind → ℕ → Type 0
 Linkable f kind.StartBoundary at = Unit {0}
 Linkable f kind.EndBoundary at = Unit {0}
@@ -63,10 +65,22 @@ pub record TargetsObey (f : List ℕ) (l : Layout) : Type 0 where
   pub places : (at : ℕ) → List·Memᴰ at (starts f l) → (p : ℕ) → List·Memᴰ p (linkPlaces (kindAt l at) at) → (linkAt f p ≡ 0 → ⊥)
       → Target f l (linkAt f p)
 
+-- the links of the balise at x, the previous at its byte 1 and the next at its byte 3, are those of the balise at b
+-- 02: Ticket2.3
+pub record SameLinks (f : List ℕ) (b x : ℕ) : Type 0 where
+  pub previous : linkAt f (x + 1) ≡ linkAt f (b + 1)
+  pub next : linkAt f (x + 3) ≡ linkAt f (b + 3)
+
 pub record ReturnsObey (f : List ℕ) (l : Layout) : Type 0 where
+  -- but for balises of place above 1, for whose links no return is due
   -- 01: X2.links.2, X2.links.7
+  -- 02: Ticket2.4
   pub returned :
-      (at : ℕ) → List·Memᴰ at (starts f l) → (p : ℕ) → List·Memᴰ p (linkPlaces (kindAt l at) at) → (linkAt f p ≡ 0 → ⊥)
+      (at : ℕ) → List·Memᴰ at (starts f l) → (Member f l at → ⊥)
+      → (p : ℕ) → List·Memᴰ p (linkPlaces (kindAt l at) at) → (linkAt f p ≡ 0 → ⊥)
       → LinksTo f (kindAt l (linkAt f p)) (linkAt f p) at
   -- 01: X2.links.8
-  pub single : (at : ℕ) → List·Memᴰ at (starts f l) → Distinct f (linkPlaces (kindAt l at) at)
+  pub single : (at : ℕ) → List·Memᴰ at (starts f l) → (Member f l at → ⊥) → Distinct f (linkPlaces (kindAt l at) at)
+  -- the links of a balise of place above 1 are those of the record directly before it
+  -- 02: Ticket2.3
+  pub members : (at : ℕ) → List·Memᴰ at (starts f l) → Member f l at → (b : ℕ) → DirectlyBefore f l b at → SameLinks f b at

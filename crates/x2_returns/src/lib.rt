@@ -1,12 +1,15 @@
-// The returns of X.2's links, and doubled links (01, 'Links'): check 9 of a file whose layout was found. The definitions are those of
-// crate x2_links.
+// The returns of X.2's links, doubled links (01, 'Links') and the links of a group's later balises (02, ticket 2): check 9 of a file whose
+// layout was found. The definitions are those of crate x2_links.
 ghost use mathlib.Core.Path.{_≡_};
 ghost use mathlib.Core.List.{[], _∷_};
 ghost use Rattle.verdict.specs.Facts.{test, allTests, also, judge};
 ghost use Rattle.x2_records.specs.Records.{placesIn};
 ghost use Rattle.x2_layout.specs.inner.Bounds.{Bounded, ifBounded};
-ghost use Rattle.x2_links.specs.Links.{someNames, returnMark, back, distinct, returns, recordReturns, returnFacts};
+ghost use Rattle.x2_links.specs.Links.{someNames, returnMark, back, distinct, returns, sameLink, sameLinks, isMember, recordReturns, returnFacts};
 use octets::u16_at;
+use tables::bits_of;
+use tables::number_of;
+use tables::place_of;
 use verdict::Judged;
 use verdict::Reason;
 use verdict::Rule;
@@ -15,6 +18,7 @@ use x2_layout::Layout;
 use x2_layout::is_bounded;
 use x2_layout::kind_at;
 use x2_layout::size_of;
+use x2_records::Balise;
 use x2_records::Kind;
 use x2_records::LINK_SIZE;
 use x2_records::Links;
@@ -123,32 +127,94 @@ fn link_returns(v: Judged, f: &[u8], l: Layout, at: u32, links: Links) -> Judged
     }
 }
 
-// The returns of one record's links obey.
-fn record_returns_obey(f: &[u8], l: Layout, k: Kind, at: u32) -> bool
-    ensures { λ r. ⌜ r ≡ allTests (recordReturns (now (f .entry)) l k at) ⌝ }
+// The link at p is the link at q.
+fn same_link_obeys(f: &[u8], at: u32, p: usize, q: usize) -> bool
+    ensures { λ r. ⌜ r ≡ allTests (sameLink (now (f .entry)) at p q ∷ []) ⌝ }
 {
+    u16_at(f, p) == u16_at(f, q)
+}
+
+// The link at p, of the record at `at`, is the link at q.
+fn same_link(v: Judged, f: &[u8], at: u32, p: usize, q: usize) -> Judged
+    ensures { λ r. ⌜ r ≡ judge v (sameLink (now (f .entry)) at p q ∷ []) ⌝ }
+{
+    let ok = same_link_obeys(f, at, p, q);
+    return_fact(v, ok, at, p, Rule::SameAs(p, q, LINK_SIZE))
+}
+
+// Both links of a balise are those of the record at `before`.
+fn same_links_obey(f: &[u8], before: u32, at: u32) -> bool
+    ensures { λ r. ⌜ r ≡ allTests (sameLinks (now (f .entry)) before at) ⌝ }
+{
+    let p = place_of(at, Balise::PREVIOUS);
+    let q = place_of(before, Balise::PREVIOUS);
+    let previous = same_link_obeys(f, at, p, q);
+    let s = place_of(at, Balise::NEXT);
+    let t = place_of(before, Balise::NEXT);
+    previous & same_link_obeys(f, at, s, t)
+}
+
+// The same, as facts.
+fn same_links(v: Judged, f: &[u8], before: u32, at: u32) -> Judged
+    ensures { λ r. ⌜ r ≡ judge v (sameLinks (now (f .entry)) before at) ⌝ }
+{
+    let p = place_of(at, Balise::PREVIOUS);
+    let q = place_of(before, Balise::PREVIOUS);
+    let w = same_link(v, f, at, p, q);
+    let s = place_of(at, Balise::NEXT);
+    let t = place_of(before, Balise::NEXT);
+    same_link(w, f, at, s, t)
+}
+
+// A record of a kind is a balise of place above 1.
+fn is_member(f: &[u8], k: Kind, at: u32) -> bool
+    ensures { λ r. ⌜ r ≡ isMember (now (f .entry)) k at ⌝ }
+{
+    match k {
+        Kind::StartBoundary => false,
+        Kind::EndBoundary => false,
+        Kind::Turnout => false,
+        Kind::Balise => bits_of(number_of(f, at, Balise::GROUP), Balise::RANK) != 0,
+        Kind::Signal => false,
+        Kind::Joint => false,
+        Kind::Siding => false,
+    }
+}
+
+// The links of one record, after the one at `before`, obey.
+fn record_returns_obey(f: &[u8], l: Layout, before: u32, k: Kind, at: u32) -> bool
+    ensures { λ r. ⌜ r ≡ allTests (recordReturns (now (f .entry)) l before k at) ⌝ }
+{
+    if is_member(f, k, at) {
+        return same_links_obey(f, before, at);
+    }
     link_returns_obey(f, l, at, k.links(at))
 }
 
-// The returns of one record's links.
-fn record_returns(v: Judged, f: &[u8], l: Layout, k: Kind, at: u32) -> Judged
-    ensures { λ r. ⌜ r ≡ judge v (recordReturns (now (f .entry)) l k at) ⌝ }
+// The same, as facts.
+fn record_returns(v: Judged, f: &[u8], l: Layout, before: u32, k: Kind, at: u32) -> Judged
+    ensures { λ r. ⌜ r ≡ judge v (recordReturns (now (f .entry)) l before k at) ⌝ }
 {
+    if is_member(f, k, at) {
+        return same_links(v, f, before, at);
+    }
     link_returns(v, f, l, at, k.links(at))
 }
 
-// The returns of every record's links: those of the first record that does not obey are the verdict.
+// Every record's links, with the record before it: those of the first record that does not obey are the verdict.
 fn all_returns(v: Judged, f: &[u8], l: Layout) -> Judged
     requires { ⌜ Bounded l ⌝ }
     ensures { λ r. ⌜ r ≡ judge v (returnFacts (now (f .entry)) l) ⌝ }
 {
     let end = l.end;
+    let mut before = 0;
     let mut at = l.starts;
     while at < end {
         let k = kind_at(l, at);
-        if !record_returns_obey(f, l, k, at as u32) {
-            return record_returns(v, f, l, k, at as u32);
+        if !record_returns_obey(f, l, before, k, at as u32) {
+            return record_returns(v, f, l, before, k, at as u32);
         }
+        before = at as u32;
         at = at + size_of(f, k, at);
     }
     v

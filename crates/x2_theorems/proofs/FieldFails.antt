@@ -1,11 +1,11 @@
 -- THEOREM: a fact of the fields fails at a place exactly where that is a field at fault, and one of the agreement exactly where the agreement is.
-use Prim.Native.Nat.{ℕ, _+_, _*_, _/_, _%_, _≤_, _<_}
+use Prim.Native.Nat.{ℕ, _+_, _*_, _≤_, _<_}
 use mathlib.Core.Path.{_≡_, refl, sym, subst}
 use mathlib.Core.Logic.{_⊎_, inl, inr, ⊎-elim, _↔_}
 use mathlib.Core.List.{List, _++_, flatMap, List·Memᴰ}
 use native.Mathlib.Omega.{arith}
 use Rattle.octets.specs.Octets.{numAt}
-use Rattle.verdict.specs.Facts.{Fact, AllHold}
+use Rattle.verdict.specs.Facts.{Holds, Fact, AllHold}
 use Rattle.verdict.proofs.Orders.{le-or-lt}
 use Rattle.refusals.proofs.Places.{Failing, failing-append, failing-each, one-place}
 use Rattle.rules.specs.Rules.{Between}
@@ -14,15 +14,16 @@ use Rattle.tables.specs.Rows.{tableFacts, RowAtFault}
 use Rattle.x2_records.specs.declared.Kind.{Kind}
 use Rattle.x2_records.specs.declared.Kind.the-variants as kind
 use Rattle.x2_records.specs.Rows.{tableOf}
+use Rattle.x2_records.specs.Tables.{rankOf, groupCountOf}
 use Rattle.x2_layout.specs.declared.Layout.{Layout}
 use Rattle.x2_layout.specs.Places.{nameAt, startEntriesAt, endEntriesAt}
-use Rattle.x2_layout.specs.Records.{kindAt, starts}
+use Rattle.x2_layout.specs.Records.{kindAt, starts, recordBefore}
 use Rattle.x2_fields.specs.Fields.{headerFields, headerTrackAt, entryFields, entriesFields, recordFields, fieldFacts}
 use Rattle.x2_kinds.specs.KindFields.{messageFields, messageOf, kindFields}
-use Rattle.x2_fields.specs.Agreement.{entryAgrees, entriesAgree, kindAgrees, recordAgrees, agreementFacts}
-use Rattle.x2_obeys.specs.Fields.{MessageEnds}
-use Rattle.x2_theorems.specs.FieldFaults.{FieldAtFault, data-version, station, station-name, start-track, end-track, in-record, message, AgreementAtFault, start-own, end-own, group}
-use Rattle.x2_obeys.proofs.Fields.{message-iff, rank-is, start-track as start-place, end-track as end-place}
+use Rattle.x2_fields.specs.Agreement.{entryAgrees, entriesAgree, groupByteOf, goesBefore, kindAgrees, recordAgrees, agreementFacts}
+use Rattle.x2_obeys.specs.Fields.{MessageEnds, rankAt, groupCountAt}
+use Rattle.x2_theorems.specs.FieldFaults.{FieldAtFault, data-version, station, station-name, start-track, end-track, in-record, message, AgreementAtFault, start-own, end-own, group, member}
+use Rattle.x2_obeys.proofs.Fields.{message-iff, rank-is, GoesBefore, goes-iff, later-iff, sequence-iff, start-track as start-place, end-track as end-place}
 use Rattle.refusals.proofs.TableFails.{table-fails}
 use Rattle.x2_theorems.proofs.FieldRows.{message-each}
 use Rattle.x2_theorems.proofs.BoundaryEntries.{entries-fail}
@@ -140,26 +141,50 @@ module _ (f : List ℕ) (l : Layout) (p : ℕ) where
 
 -- ---- agreement
 
-module _ (f : List ℕ) (at p : ℕ) where
-  -- the rank in the group byte is above the count
-  abbrev Above : Type 0
-  Above = (p ≡ at + 15) × (numAt 1 f (at + 15) / 32 % 8 + 1 < numAt 1 f (at + 15) % 8 + 1)
+module _ (f : List ℕ) (l : Layout) (b at p : ℕ) where
+  -- the rank in the group byte is above the count, or is above 1 after a record that does not go before it
+  abbrev Ranked : Type 0
+  Ranked = (groupCountAt f at < rankAt f at) ⊎ ((1 < rankAt f at) × (GoesBefore f (kindAt l b) b at → ⊥))
 
-  rank-fails : (k : Kind) → Failing (kindAgrees f k at) p ↔ ((k ≡ kind.Balise) × Above)
+  abbrev AtGroup : Type 0
+  AtGroup = (p ≡ at + 15) × Ranked
+
+  -- of a balise
+  above-fails : (rankOf (groupByteOf f at) ≤ groupCountOf (groupByteOf f at) → ⊥) ↔ (groupCountAt f at < rankAt f at)
+  above-fails =
+      let is = rank-is f at in (
+        λ n. ⊎-elim (λ (h : rankAt f at ≤ groupCountAt f at). absurd (n (omega arith))) (λ (h : groupCountAt f at < rankAt f at). h) (le-or-lt (rankAt f at) (groupCountAt f at)),
+        λ h o. omega arith,
+      )
+
+  later-fails : (((rankOf (groupByteOf f at) ≡ 1) ⊎ Holds (goesBefore f (kindAt l b) b at)) → ⊥) ↔ ((1 < rankAt f at) × (GoesBefore f (kindAt l b) b at → ⊥))
+  later-fails =
+      let later = later-iff f at (goes-iff f (kindAt l b) b at) in (
+        λ n. (
+          ⊎-elim (λ (h : rankAt f at ≤ 1). absurd (n (later .1 (λ g. absurd (omega arith))))) (λ (h : 1 < rankAt f at). h) (le-or-lt (rankAt f at) 1),
+          λ g. n (later .1 (λ _. g)),
+        ),
+        λ w h. w .1 (later .0 h (w .0)),
+      )
+
+  rank-fails : (k : Kind) → Failing (kindAgrees f l b k at) p ↔ ((k ≡ kind.Balise) × AtGroup)
   unfolding kindAgrees
-  rank-fails kind.StartBoundary = nowhere kind.StartBoundary Above (λ x. x)
-  rank-fails kind.EndBoundary = nowhere kind.EndBoundary Above (λ x. x)
-  rank-fails kind.Turnout = nowhere kind.Turnout Above (λ x. x)
-  rank-fails kind.Balise = (there, λ w. inl (w .1 .0, λ o. let h = rw (rank-is f at) at o in let g = w .1 .1 in omega arith))
+  rank-fails kind.StartBoundary = nowhere kind.StartBoundary AtGroup (λ x. x)
+  rank-fails kind.EndBoundary = nowhere kind.EndBoundary AtGroup (λ x. x)
+  rank-fails kind.Turnout = nowhere kind.Turnout AtGroup (λ x. x)
+  rank-fails kind.Balise = (there, λ w. back (w .1 .0) (w .1 .1))
     where
-      there : Failing (kindAgrees f kind.Balise at) p → (kind.Balise ≡ kind.Balise) × Above
-      there (inl x) =
-          ⊎-elim (λ (h : numAt 1 f (at + 15) % 8 + 1 ≤ numAt 1 f (at + 15) / 32 % 8 + 1). absurd (x .1 (rw (rank-is f at) h)))
-          (λ (h : numAt 1 f (at + 15) / 32 % 8 + 1 < numAt 1 f (at + 15) % 8 + 1). (refl, (x .0, h))) (le-or-lt (numAt 1 f (at + 15) % 8 + 1) (numAt 1 f (at + 15) / 32 % 8 + 1))
-      there (inr x) = absurd x
-  rank-fails kind.Signal = nowhere kind.Signal Above (λ x. x)
-  rank-fails kind.Joint = nowhere kind.Joint Above (λ x. x)
-  rank-fails kind.Siding = nowhere kind.Siding Above (λ x. x)
+      there : Failing (kindAgrees f l b kind.Balise at) p → (kind.Balise ≡ kind.Balise) × AtGroup
+      there (inl x) = (refl, (x .0, inl (above-fails .0 (x .1))))
+      there (inr (inl x)) = (refl, (x .0, inr (later-fails .0 (x .1))))
+      there (inr (inr x)) = absurd x
+
+      back : p ≡ at + 15 → Ranked → Failing (kindAgrees f l b kind.Balise at) p
+      back e (inl h) = inl (e, above-fails .1 h)
+      back e (inr h) = inr (inl (e, later-fails .1 h))
+  rank-fails kind.Signal = nowhere kind.Signal AtGroup (λ x. x)
+  rank-fails kind.Joint = nowhere kind.Joint AtGroup (λ x. x)
+  rank-fails kind.Siding = nowhere kind.Siding AtGroup (λ x. x)
 
 -- the boundaries' own tracks
 own-fail : (f : List ℕ) (entries from count : ℕ) (at : ℕ → ℕ) → ((i : ℕ) → headerTrackAt entries i ≡ at i)
@@ -169,7 +194,7 @@ own-fail f entries from count at same =
     entries-fail (entryAgrees f entries from) count at (λ i. numAt 1 f (at i) ≡ numAt 1 f (from + 12 * i + 11)) (λ i. (same i, tt))
     (λ i. (λ h. rw (same i) at (h .0), λ o. (rw (same i) o, tt)))
 
-module _ (f : List ℕ) (l : Layout) (p : ℕ) where
+module _ (f : List ℕ) (l : Layout) (s : l .starts < l .ends) (p : ℕ) where
   pub agreement-fail : Failing (agreementFacts f l) p ↔ AgreementAtFault f l p
   unfolding agreementFacts
   agreement-fail = (λ h. there (cut .0 h), λ o. cut .1 (back o))
@@ -198,9 +223,17 @@ module _ (f : List ℕ) (l : Layout) (p : ℕ) where
       there : Failing first p ⊎ (Failing second p ⊎ Failing records p) → AgreementAtFault f l p
       there (inl x) = let w = start .0 x in start-own (w .0) (w .1) (w .2) (w .3)
       there (inr (inl x)) = let w = end .0 x in end-own (w .0) (w .1) (w .2) (w .3)
-      there (inr (inr x)) = let w = each .0 x in let v = (rank-fails f (w .0) p (kindAt l (w .0))) .0 (w .2) in group (w .0) (w .1) (v .0) (v .1 .0) (v .1 .1)
+      there (inr (inr x)) =
+          let w = each .0 x in
+          let v = (rank-fails f l (recordBefore f l (w .0)) (w .0) p (kindAt l (w .0))) .0 (w .2) in
+          ⊎-elim (λ (h : groupCountAt f (w .0) < rankAt f (w .0)). group (w .0) (w .1) (v .0) (v .1 .0) h)
+          (λ (h : (1 < rankAt f (w .0)) × (GoesBefore f (kindAt l (recordBefore f l (w .0))) (recordBefore f l (w .0)) (w .0) → ⊥)).
+          member (w .0) (w .1) (record { balise = v .0; later = h .0 }) (v .1 .0) (λ q. h .1 ((sequence-iff f l (w .0) s (w .1) (v .0)) .1 q)))
+          (v .1 .1)
 
       back : AgreementAtFault f l p → Failing first p ⊎ (Failing second p ⊎ Failing records p)
       back (start-own i h e n) = inl (start .1 (i, h, e, n))
       back (end-own j h e n) = inr (inl (end .1 (j, h, e, n)))
-      back (group at m k e n) = inr (inr (each .1 (at, m, (rank-fails f at p (kindAt l at)) .1 (k, (e, n)))))
+      back (group at m k e n) = inr (inr (each .1 (at, m, (rank-fails f l (recordBefore f l at) at p (kindAt l at)) .1 (k, (e, inl n)))))
+      back (member at m w e n) =
+          inr (inr (each .1 (at, m, (rank-fails f l (recordBefore f l at) at p (kindAt l at)) .1 (w .balise, (e, inr (w .later, λ g. n ((sequence-iff f l at s m (w .balise)) .0 g)))))))

@@ -19,8 +19,9 @@ use Rattle.x2_records.proofs.Whole.{whole}
 use Rattle.x2_layout.specs.declared.Layout.{Layout}
 use Rattle.x2_layout.specs.Places.{startEntriesAt, endEntriesAt, headerEntrySize}
 use Rattle.x2_layout.specs.Facts.{baliseBytes}
-use Rattle.x2_layout.specs.Records.{kindAt, sizeOf, sizeAt, starts}
+use Rattle.x2_layout.specs.Records.{kindAt, sizeOf, sizeAt, starts, recordBefore}
 use Rattle.x2_layout.specs.inner.Regions.{Regions}
+use Rattle.x2_layout.proofs.Regions.{some-boundary}
 use Rattle.x2_layout.proofs.Starts.{reach-stop, start-fits}
 use Rattle.x2_fields.specs.Fields.{headerFields, entryFields, entriesFields, recordFields, fieldFacts}
 use Rattle.x2_kinds.specs.KindFields.{messageFields, messageOf, kindFields}
@@ -52,15 +53,15 @@ module _ (f : List ℕ) (at : ℕ) where
       rises-append at (at + fixedSize k) (at + sizeOf f k at) (tableFacts f at (tableOf k)) (messageOf f k at)
       (table-rises f at at (omega arith) (tiled 0 (tableOf k) (fixedSize k) (whole k))) (message-rises k)
 
-  rank-rises : (k : Kind) → Rises at (at + sizeOf f k at) (kindAgrees f k at)
+  rank-rises : (l : Layout) (b : ℕ) (k : Kind) → Rises at (at + sizeOf f k at) (kindAgrees f l b k at)
   unfolding kindAgrees sizeOf baliseBytes
-  rank-rises kind.StartBoundary = omega arith
-  rank-rises kind.EndBoundary = omega arith
-  rank-rises kind.Turnout = omega arith
-  rank-rises kind.Balise = omega arith
-  rank-rises kind.Signal = omega arith
-  rank-rises kind.Joint = omega arith
-  rank-rises kind.Siding = omega arith
+  rank-rises l b kind.StartBoundary = omega arith
+  rank-rises l b kind.EndBoundary = omega arith
+  rank-rises l b kind.Turnout = omega arith
+  rank-rises l b kind.Balise = omega arith
+  rank-rises l b kind.Signal = omega arith
+  rank-rises l b kind.Joint = omega arith
+  rank-rises l b kind.Siding = omega arith
 
 -- ---- a file's do from the header to End
 
@@ -108,5 +109,5 @@ module _ (f : List ℕ) (l : Layout) (r : Regions f l) where
       let end = entryAt f (endEntriesAt (l .n)) 0 in
       located start (l .end) (agreementFacts f l) (AgreementAtFault f l)
       (rises-append start end (l .end) first (second ++ records) (own-rise f startEntriesAt (l .starts) (l .n) end (omega arith))
-      (rises-append end (l .starts) (l .end) second records (own-rise f (endEntriesAt (l .n)) (l .ends) (l .k) (l .starts) (omega arith)) (records-rise (kindAgrees f) (rank-rises f))))
-      (agreement-fail f l)
+      (rises-append end (l .starts) (l .end) second records (own-rise f (endEntriesAt (l .n)) (l .ends) (l .k) (l .starts) (omega arith)) (records-rise (λ k at. kindAgrees f l (recordBefore f l at) k at) (λ at. rank-rises f at l (recordBefore f l at)))))
+      (agreement-fail f l (some-boundary r))

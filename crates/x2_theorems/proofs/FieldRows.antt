@@ -1,4 +1,4 @@
--- The facts of a record that no table says: a balise's message and its rank. What is so of each of them.
+-- The facts of a record that no table says: a balise's message, its rank, and that it is in sequence. What is so of each of them.
 use Prim.Native.Nat.{ℕ, _+_, _-_}
 use mathlib.Core.List.{List, [], _∷_}
 use lib.Dec.{ltb}
@@ -9,7 +9,8 @@ use Rattle.x2_records.specs.declared.Kind.{Kind}
 use Rattle.x2_records.specs.declared.Kind.the-variants as kind
 use Rattle.x2_records.specs.Places as place
 use Rattle.x2_kinds.specs.KindFields.{messageEnd, lastByte, sizeByteOf, messageFields, messageOf}
-use Rattle.x2_fields.specs.Agreement.{rankInCount, kindAgrees}
+use Rattle.x2_layout.specs.declared.Layout.{Layout}
+use Rattle.x2_fields.specs.Agreement.{rankInCount, inSequence, kindAgrees}
 
 -- ---- the message and the rank, which only a balise has
 
@@ -24,12 +25,12 @@ module _ (f : List ℕ) (P : Claim → Mark → Type 0) (at : ℕ) where
   message-each so kind.Joint = tt
   message-each so kind.Siding = tt
 
-  pub rank-each : Each P (rankInCount f at ∷ []) → (k : Kind) → Each P (kindAgrees f k at)
+  pub rank-each : (l : Layout) (b : ℕ) → Each P (rankInCount f at ∷ inSequence f l b at ∷ []) → (k : Kind) → Each P (kindAgrees f l b k at)
   unfolding kindAgrees
-  rank-each so kind.StartBoundary = tt
-  rank-each so kind.EndBoundary = tt
-  rank-each so kind.Turnout = tt
-  rank-each so kind.Balise = so
-  rank-each so kind.Signal = tt
-  rank-each so kind.Joint = tt
-  rank-each so kind.Siding = tt
+  rank-each l b so kind.StartBoundary = tt
+  rank-each l b so kind.EndBoundary = tt
+  rank-each l b so kind.Turnout = tt
+  rank-each l b so kind.Balise = so
+  rank-each l b so kind.Signal = tt
+  rank-each l b so kind.Joint = tt
+  rank-each l b so kind.Siding = tt

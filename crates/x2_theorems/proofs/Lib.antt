@@ -16,6 +16,7 @@ pub mod LinkPlaces
 pub mod RecordNumbers
 pub mod Speaks
 pub mod Numbers
+pub mod Base
 pub mod Marks
 pub mod Values
 pub mod Asked

@@ -2,11 +2,12 @@
 use Prim.Native.Nat.{ℕ}
 use mathlib.Core.Path.{_≡_, refl}
 use mathlib.Core.List.{List, [], _∷_, _++_}
+use native.Mathlib.Omega.{arith}
 use Rattle.octets.specs.declared.Width.the-variants.{Two}
 use Rattle.verdict.specs.declared.Mark.{Mark}
 use Rattle.verdict.specs.declared.Reason.the-variants as reason
 use Rattle.verdict.specs.Facts.{Claim}
-use Rattle.refusals.proofs.Sections.{Each, Speaks, each-append, each-flat}
+use Rattle.refusals.proofs.Sections.{Each, Speaks, each-append, each-flat, each-if}
 use Rattle.rules.specs.Rules.{between}
 use Rattle.tables.specs.Table.{fieldPlace}
 use Rattle.envelope.specs.Seal.{numberMost}
@@ -15,9 +16,10 @@ use Rattle.x2_records.specs.declared.Kind.the-variants as kind
 use Rattle.x2_records.specs.Rows as row
 use Rattle.x2_records.specs.Records.{linkPlaces}
 use Rattle.x2_layout.specs.declared.Layout.{Layout}
-use Rattle.x2_layout.specs.Records.{kindAt, starts}
-use Rattle.x2_links.specs.Links.{target, targets, linked, recordTargets, targetFacts, back, distinct, distinctFrom, returns, recordReturns, returnFacts}
+use Rattle.x2_layout.specs.Records.{kindAt, starts, recordBefore}
+use Rattle.x2_links.specs.Links.{target, targets, linked, recordTargets, targetFacts, back, distinct, distinctFrom, returns, sameLinks, isMember, recordReturns, returnFacts}
 use Rattle.x2_theorems.specs.LinkSays.{targetSays, returnSays}
+use Rattle.x2_theorems.specs.Says.{NamesBefore}
 
 -- ---- what is so of a fact of each sort is so of each fact of a record
 
@@ -47,13 +49,23 @@ module _ (f : List ℕ) (l : Layout) (P : Claim → Mark → Type 0) (at : ℕ) 
   returns-each so apart before (p ∷ ps) =
       ((so p) .0, each-append P (distinctFrom f at p before) (returns f l at (before ++ (p ∷ [])) ps) (distinct-each apart p before) (returns-each so apart (before ++ (p ∷ [])) ps))
 
+  record-returns-each :
+      (b : ℕ) → ((p : ℕ) → Each P (back f l at p ∷ [])) → ((p q : ℕ) → Each P (distinct f at p q ∷ [])) → Each P (sameLinks f b at) → (k : Kind)
+      → Each P (recordReturns f l b k at)
+  record-returns-each b so apart same k = each-if P (isMember f k at) (sameLinks f b at) _ same (returns-each so apart [] (linkPlaces k at))
+
 module _ (f : List ℕ) (l : Layout) where
   -- THEOREM: each fact of a record tells that record's start
   pub target-starts : (k : Kind) (at : ℕ) → Each (λ c m. m .start ≡ at) (recordTargets f l k at)
   target-starts k at = record-targets-each f l (λ c m. m .start ≡ at) at (refl, tt) (λ p. (refl, tt)) k
 
-  pub return-starts : (k : Kind) (at : ℕ) → Each (λ c m. m .start ≡ at) (recordReturns f l k at)
-  return-starts k at = returns-each f l (λ c m. m .start ≡ at) at (λ p. (refl, tt)) (λ p q. (refl, tt)) [] (linkPlaces k at)
+  pub return-starts : (b : ℕ) (k : Kind) (at : ℕ) → Each (λ c m. m .start ≡ at) (recordReturns f l b k at)
+  return-starts b k at = record-returns-each f l (λ c m. m .start ≡ at) at b (λ p. (refl, tt)) (λ p q. (refl, tt)) (refl, (refl, tt)) k
+
+  -- THEOREM: what a fact of a record names is of the record before
+  pub return-names : (k : Kind) (at : ℕ) → Each (λ c m. NamesBefore f l m) (recordReturns f l (recordBefore f l at) k at)
+  return-names k at =
+      record-returns-each f l (λ c m. NamesBefore f l m) at (recordBefore f l at) (λ p. (refl, tt)) (λ p q. (refl, tt)) (omega arith, (omega arith, tt)) k
 
   -- THEOREM: of check 8
   pub targets-speak : Each (Speaks (targetSays f l) reason.Target) (targetFacts f l)
@@ -66,5 +78,5 @@ module _ (f : List ℕ) (l : Layout) where
   pub returns-speak : Each (Speaks (returnSays f l) reason.Return) (returnFacts f l)
   unfolding returnFacts
   returns-speak =
-      each-flat (Speaks (returnSays f l) reason.Return) (λ at. recordReturns f l (kindAt l at) at) (starts f l)
-      (λ at. returns-each f l (Speaks (returnSays f l) reason.Return) at (λ p. ((refl, refl), tt)) (λ p q. ((refl, refl), tt)) [] (linkPlaces (kindAt l at) at))
+      each-flat (Speaks (returnSays f l) reason.Return) (λ at. recordReturns f l (recordBefore f l at) (kindAt l at) at) (starts f l)
+      (λ at. record-returns-each f l (Speaks (returnSays f l) reason.Return) at (recordBefore f l at) (λ p. ((refl, refl), tt)) (λ p q. ((refl, refl), tt)) ((refl, refl), ((refl, refl), tt)) (kindAt l at))

@@ -10,20 +10,20 @@ use Rattle.verdict.specs.declared.Reason.the-variants.{Layout, Field, Agreement
 use Rattle.verdict.specs.declared.Judged.the-variants.{Refused}
 use Rattle.verdict.specs.Facts.{Claim, test, Fact, fact, firstFault}
 use Rattle.verdict.proofs.Facts.{never}
-use Rattle.refusals.proofs.Sections.{Each, Speaks, each-append}
+use Rattle.refusals.proofs.Sections.{Each, Speaks, each-append, each-flat}
 use Rattle.x2_layout.specs.declared.Layout as shape
 use Rattle.x2_layout.specs.Layout.{layoutOf}
 use Rattle.x2_layout.specs.Places.{startEntriesAt, endEntriesAt}
 use Rattle.x2_layout.specs.Facts.{layoutFacts}
-use Rattle.x2_layout.specs.Records.{kindAt, starts}
+use Rattle.x2_layout.specs.Records.{kindAt, starts, recordBefore}
 use Rattle.x2_theorems.proofs.LayoutSpeaks.{layout-speak, layout-starts, layout-names}
 use Rattle.x2_fields.specs.Fields.{headerFields, entriesFields, recordFields, fieldFacts}
 use Rattle.x2_fields.specs.Agreement.{entriesAgree, recordAgrees, agreementFacts}
-use Rattle.x2_theorems.proofs.FieldSpeaks.{record-starts, header-starts, entries-start, fields-speak, rank-starts, tracks-start, agreement-speak}
+use Rattle.x2_theorems.proofs.FieldSpeaks.{record-starts, header-starts, entries-start, fields-speak, rank-starts, rank-names, tracks-start, agreement-speak}
 use Rattle.x2_links.specs.Links.{recordTargets, targetFacts, recordReturns, returnFacts}
-use Rattle.x2_theorems.proofs.LinkSpeaks.{target-starts, return-starts, targets-speak, returns-speak}
+use Rattle.x2_theorems.proofs.LinkSpeaks.{target-starts, return-starts, return-names, targets-speak, returns-speak}
 use Rattle.x2_verdict.specs.Facts.{recordFacts, checkFacts, facts, judgedOf}
-use Rattle.x2_theorems.specs.Says.{HeldFor, HeldOf}
+use Rattle.x2_theorems.specs.Says.{NamesBefore, HeldFor, HeldOf}
 
 -- ---- a property of each fact
 
@@ -59,6 +59,10 @@ of-some g (x ∷ xs) own =
     (weaken (λ m. m .start ≡ x) (λ m. List·Memᴰ (m .start) (x ∷ xs)) (λ m e. List·Memᴰ·head e) (g x) (own x))
     (weaken (λ m. List·Memᴰ (m .start) xs) (λ m. List·Memᴰ (m .start) (x ∷ xs)) (λ m i. List·Memᴰ·tail i) (flatMap g xs) (of-some g xs own))
 
+-- the same, where each fact names fields of the record before
+of-named : (g : ℕ → List Fact) (N : Mark → Type 0) (xs : List ℕ) → ((x : ℕ) → Each (λ c m. m .start ≡ x) (g x)) → ((x : ℕ) → Each (λ c m. N m) (g x)) → Each (λ c m. List·Memᴰ (m .start) xs × N m) (flatMap g xs)
+of-named g N xs own names = two (λ m. List·Memᴰ (m .start) xs) N (flatMap g xs) (of-some g xs own) (each-flat (λ c m. N m) g xs names)
+
 -- ---- fields and agreement: the header, or a record
 
 module _ (f : List ℕ) (l : shape.Layout) where
@@ -77,28 +81,37 @@ module _ (f : List ℕ) (l : shape.Layout) where
       let first = entriesFields f startEntriesAt (l .n) in
       let second = entriesFields f (endEntriesAt (l .n)) (l .k) in
       let rest = flatMap (recordFields f l) (starts f l) in
-      each-append (λ c m. Of m) (headerFields f) (first ++ (second ++ rest)) (header (headerFields f) (header-starts f))
-      (each-append (λ c m. Of m) first (second ++ rest) (header first (entries-start f startEntriesAt (l .n)))
-      (each-append (λ c m. Of m) second rest (header second (entries-start f (endEntriesAt (l .n)) (l .k)))
-      (records (recordFields f l) (λ at. record-starts f (kindAt l at) at))))
+      each-append (λ c m. Of m) (headerFields f) (first ++ (second ++ rest)) (header (headerFields f) (header-starts f l))
+      (each-append (λ c m. Of m) first (second ++ rest) (header first (entries-start f l startEntriesAt (l .n)))
+      (each-append (λ c m. Of m) second rest (header second (entries-start f l (endEntriesAt (l .n)) (l .k)))
+      (records (recordFields f l) (λ at. record-starts f l (kindAt l at) at))))
 
-  agreement-of : Each (λ c m. Of m) (agreementFacts f l)
+  abbrev OfNamed : Mark → Type 0
+  OfNamed m = (m .start ≡ 0) ⊎ (List·Memᴰ (m .start) (starts f l) × NamesBefore f l m)
+
+  in-header : (fs : List Fact) → Each (λ c m. m .start ≡ 0) fs → Each (λ c m. OfNamed m) fs
+  in-header fs h = weaken (λ m. m .start ≡ 0) OfNamed (λ m e. inl e) fs h
+
+  agreement-of : Each (λ c m. OfNamed m) (agreementFacts f l)
   unfolding agreementFacts
   agreement-of =
       let first = entriesAgree f startEntriesAt (l .starts) (l .n) in
       let second = entriesAgree f (endEntriesAt (l .n)) (l .ends) (l .k) in
       let rest = flatMap (recordAgrees f l) (starts f l) in
-      each-append (λ c m. Of m) first (second ++ rest) (header first (tracks-start f startEntriesAt (l .starts) (l .n)))
-      (each-append (λ c m. Of m) second rest (header second (tracks-start f (endEntriesAt (l .n)) (l .ends) (l .k)))
-      (records (recordAgrees f l) (λ at. rank-starts f (kindAt l at) at)))
+      each-append (λ c m. OfNamed m) first (second ++ rest) (in-header first (tracks-start f l startEntriesAt (l .starts) (l .n)))
+      (each-append (λ c m. OfNamed m) second rest (in-header second (tracks-start f l (endEntriesAt (l .n)) (l .ends) (l .k)))
+      (weaken (λ m. List·Memᴰ (m .start) (starts f l) × NamesBefore f l m) OfNamed (λ m i. inr i) rest
+      (of-named (recordAgrees f l) (NamesBefore f l) (starts f l) (λ at. rank-starts f l (recordBefore f l at) (kindAt l at) at) (λ at. rank-names f l (kindAt l at) at))))
 
   targets-of : Each (λ c m. List·Memᴰ (m .start) (starts f l)) (targetFacts f l)
   unfolding targetFacts
   targets-of = of-some (λ at. recordTargets f l (kindAt l at) at) (starts f l) (λ at. target-starts f l (kindAt l at) at)
 
-  returns-of : Each (λ c m. List·Memᴰ (m .start) (starts f l)) (returnFacts f l)
+  returns-of : Each (λ c m. List·Memᴰ (m .start) (starts f l) × NamesBefore f l m) (returnFacts f l)
   unfolding returnFacts
-  returns-of = of-some (λ at. recordReturns f l (kindAt l at) at) (starts f l) (λ at. return-starts f l (kindAt l at) at)
+  returns-of =
+      of-named (λ at. recordReturns f l (recordBefore f l at) (kindAt l at) at) (NamesBefore f l) (starts f l)
+      (λ at. return-starts f l (recordBefore f l at) (kindAt l at) at) (λ at. return-names f l (kindAt l at) at)
 
 -- ---- all of them
 

@@ -23,7 +23,7 @@ use Rattle.x2_theorems.specs.LayoutFaults.{LayoutPlace}
 use Rattle.x2_theorems.specs.LayoutSays.{layoutSays}
 use Rattle.x2_layout.specs.inner.Regions.{Regions}
 use Rattle.x2_layout.proofs.Obeys.{layout-obeyed}
-use Rattle.x2_layout.proofs.Regions.{regions}
+use Rattle.x2_layout.proofs.Regions.{regions, some-boundary}
 use Rattle.x2_theorems.proofs.LayoutSpeaks.{layout-speak}
 use Rattle.x2_theorems.proofs.LayoutPlaces.{layout-located, only-layout}
 use Rattle.x2_fields.specs.Fields.{fieldFacts}
@@ -56,10 +56,10 @@ module _ (f : List ℕ) where
       let l = layoutOf f in
       let linked = targetFacts f l ++ returnFacts f l in
       let agreed = agreementFacts f l ++ linked in
-      section (fieldSays f) Field (fieldFacts f l) agreed (FieldsObey f l) (Lowest (FieldAtFault f l)) (drop 6 (checks f)) (fields-iff f l) (fields-located f l r) (only-lowest (FieldAtFault f l)) (fields-speak f l) refl (λ _.
-      section (agreementSays f) Agreement (agreementFacts f l) linked (AgreementObeys f l) (Lowest (AgreementAtFault f l)) (drop 7 (checks f)) (agreement-iff f l) (agreement-located f l r) (only-lowest (AgreementAtFault f l)) (agreement-speak f l) refl (λ _.
+      section (fieldSays f l) Field (fieldFacts f l) agreed (FieldsObey f l) (Lowest (FieldAtFault f l)) (drop 6 (checks f)) (fields-iff f l) (fields-located f l r) (only-lowest (FieldAtFault f l)) (fields-speak f l) refl (λ _.
+      section (agreementSays f l) Agreement (agreementFacts f l) linked (AgreementObeys f l) (Lowest (AgreementAtFault f l)) (drop 7 (checks f)) (agreement-iff f l (some-boundary r)) (agreement-located f l r) (only-lowest (AgreementAtFault f l)) (agreement-speak f l) refl (λ _.
       section (targetSays f l) Target (targetFacts f l) (returnFacts f l) (TargetsObey f l) (Lowest (TargetAtFault f l)) (drop 8 (checks f)) (targets-iff f l) (targets-located f l r) (only-lowest (TargetAtFault f l)) (targets-speak f l) refl (λ _.
-      last-section (returnSays f l) Return (returnFacts f l) (ReturnsObey f l) (Lowest (ReturnAtFault f l)) (returns-iff f l) (returns-located f l r) (only-lowest (ReturnAtFault f l)) (returns-speak f l) refl)))
+      last-section (returnSays f l) Return (returnFacts f l) (ReturnsObey f l) (Lowest (ReturnAtFault f l)) (returns-iff f l (some-boundary r)) (returns-located f l r) (only-lowest (ReturnAtFault f l)) (returns-speak f l) refl)))
 
   told : Told (facts f) (checks f)
   unfolding facts checkFacts

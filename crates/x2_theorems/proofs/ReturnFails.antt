@@ -2,6 +2,7 @@
 -- that the links before one are those at lower places.
 use Prim.Native.Nat.{ℕ, _+_, _≤_, _<_}
 use mathlib.Core.Path.{_≡_, refl, sym, subst}
+use mathlib.Core.Bool.{Bool, true, false, cond}
 use mathlib.Core.Logic.{_⊎_, inl, inr, ⊎-elim, _↔_}
 use mathlib.Core.List.{List, [], _∷_, _++_, append-assoc, List·Memᴰ, List·Memᴰ·head, List·Memᴰ·tail, List·Memᴰ·not-nil, List·Memᴰ·cases-cons, List·Memᴰ·append-cases, Memᴰ·append-left, List·Memᴰ·eq-of-singleton}
 use native.Mathlib.Omega.{arith}
@@ -12,11 +13,14 @@ use Rattle.x2_records.specs.declared.Kind.{Kind}
 use Rattle.x2_records.specs.declared.Kind.the-variants as kind
 use Rattle.x2_records.specs.Records.{linkPlaces}
 use Rattle.x2_layout.specs.declared.Layout.{Layout}
-use Rattle.x2_layout.specs.Records.{kindAt, starts}
-use Rattle.x2_links.specs.Links.{linkAt, linksTo, distinctFrom, returns, recordReturns, returnFacts}
+use Rattle.x2_layout.specs.Records.{kindAt, starts, recordBefore}
+use Rattle.x2_layout.proofs.Before.{before-there, before-only}
+use Rattle.x2_links.specs.Links.{linkAt, linksTo, distinctFrom, returns, sameLinks, isMember, recordReturns, returnFacts}
+use Rattle.x2_obeys.specs.Fields.{Member}
 use Rattle.x2_obeys.specs.Links.{LinksTo}
-use Rattle.x2_theorems.specs.LinkFaults.{NonzeroLink, ReturnAtFault, not-returned, doubled}
-use Rattle.x2_obeys.proofs.Links.{links-iff}
+use Rattle.x2_theorems.specs.LinkFaults.{NonzeroLink, ReturnAtFault, not-returned, doubled, other-previous, other-next}
+use Rattle.x2_obeys.proofs.Fields.{not-first}
+use Rattle.x2_obeys.proofs.Links.{links-iff, member-tested, none-tested}
 
 -- ---- places that rise, from `low` on
 
@@ -131,24 +135,74 @@ module _ (f : List ℕ) (l : Layout) (at : ℕ) where
       next-fails before xs x p (λ q m. let z = below q m in omega (arith, c .0)) (c .1)
       (list-fails (x + 1) (before ++ (x ∷ [])) xs (below-next low x before (c .0) below) (c .1) p)
 
-module _ (f : List ℕ) (l : Layout) (p : ℕ) where
+-- ---- a record, after the one at b
+
+module _ (f : List ℕ) (l : Layout) (b at p : ℕ) where
+  abbrev Due : Type 0
+  Due = (Member f l at → ⊥) × (List·Memᴰ p (linkPlaces (kindAt l at) at) × Adrift f l at (linkPlaces (kindAt l at) at) p)
+
+  -- a link of a balise of place above 1 is not that of the record at b
+  abbrev Differs : Type 0
+  Differs = ((p ≡ at + 1) × (linkAt f (at + 1) ≡ linkAt f (b + 1) → ⊥)) ⊎ ((p ≡ at + 3) × (linkAt f (at + 3) ≡ linkAt f (b + 3) → ⊥))
+
+  same-fails : Failing (sameLinks f b at) p ↔ Differs
+  same-fails = (there, back)
+    where
+      there : Failing (sameLinks f b at) p → Differs
+      there (inl x) = inl x
+      there (inr (inl x)) = inr x
+      there (inr (inr x)) = absurd x
+
+      back : Differs → Failing (sameLinks f b at) p
+      back (inl x) = inl x
+      back (inr x) = inr (inl x)
+
+  record-fails : Failing (recordReturns f l b (kindAt l at) at) p ↔ (Due ⊎ (Member f l at × Differs))
+  record-fails = by-test (isMember f (kindAt l at) at) refl
+    where
+      list : Failing (returns f l at [] (linkPlaces (kindAt l at) at)) p ↔ (List·Memᴰ p (linkPlaces (kindAt l at) at) × Adrift f l at (linkPlaces (kindAt l at) at) p)
+      list = list-fails f l at at [] (linkPlaces (kindAt l at) at) (λ q m. absurd (List·Memᴰ·not-nil m)) (climbs (kindAt l at) at) p
+
+      by-test : (t : Bool) → isMember f (kindAt l at) at ≡ t → Failing (cond t (sameLinks f b at) (returns f l at [] (linkPlaces (kindAt l at) at))) p ↔ (Due ⊎ (Member f l at × Differs))
+      by-test true e =
+          let m = member-tested f l at e in
+          (λ h. inr (m, same-fails .0 h), λ o. ⊎-elim (λ (d : Due). absurd (d .0 m)) (λ (w : Member f l at × Differs). same-fails .1 (w .1)) o)
+      by-test false e =
+          let none = none-tested f l at e in
+          (λ h. inl (none, list .0 h), λ o. ⊎-elim (λ (d : Due). list .1 (d .1)) (λ (w : Member f l at × Differs). absurd (none (w .0))) o)
+
+-- ---- a file
+
+module _ (f : List ℕ) (l : Layout) (s : l .starts < l .ends) (p : ℕ) where
   pub returns-fail : Failing (returnFacts f l) p ↔ ReturnAtFault f l p
   unfolding returnFacts
   returns-fail = (λ h. there (each .0 h), λ o. each .1 (back o))
     where
-      each : Failing (returnFacts f l) p ↔ ((at : ℕ) × List·Memᴰ at (starts f l) × Failing (recordReturns f l (kindAt l at) at) p)
-      each = failing-each (λ at. recordReturns f l (kindAt l at) at) (starts f l) p
+      each : Failing (returnFacts f l) p ↔ ((at : ℕ) × List·Memᴰ at (starts f l) × Failing (recordReturns f l (recordBefore f l at) (kindAt l at) at) p)
+      each = failing-each (λ at. recordReturns f l (recordBefore f l at) (kindAt l at) at) (starts f l) p
 
-      own : (at : ℕ) → Failing (recordReturns f l (kindAt l at) at) p ↔ (List·Memᴰ p (linkPlaces (kindAt l at) at) × Adrift f l at (linkPlaces (kindAt l at) at) p)
-      own at = list-fails f l at at [] (linkPlaces (kindAt l at) at) (λ q m. absurd (List·Memᴰ·not-nil m)) (climbs (kindAt l at) at) p
+      own : (at : ℕ) → Failing (recordReturns f l (recordBefore f l at) (kindAt l at) at) p ↔ (Due f l (recordBefore f l at) at p ⊎ (Member f l at × Differs f l (recordBefore f l at) at p))
+      own at = record-fails f l (recordBefore f l at) at p
 
-      there : (at : ℕ) × List·Memᴰ at (starts f l) × Failing (recordReturns f l (kindAt l at) at) p → ReturnAtFault f l p
+      due : (at : ℕ) → List·Memᴰ at (starts f l) → Due f l (recordBefore f l at) at p → ReturnAtFault f l p
+      due at m d =
+          let link : NonzeroLink f l at p = record { record-there = m; its-field = d .1 .0; some-link = d .1 .1 .0 } in
+          ⊎-elim (λ (n : Unreturned f l at p). not-returned at link (d .0) n)
+          (λ (w : Doubles f l at (linkPlaces (kindAt l at) at) p). doubled at link (d .0) (w .0) (w .1) (w .2) (w .3)) (d .1 .1 .1)
+
+      differs : (at : ℕ) → List·Memᴰ at (starts f l) → Member f l at → Differs f l (recordBefore f l at) at p → ReturnAtFault f l p
+      differs at m w (inl x) = other-previous at (recordBefore f l at) m w (before-there f l at m (not-first l at s (w .balise))) (x .0) (x .1)
+      differs at m w (inr x) = other-next at (recordBefore f l at) m w (before-there f l at m (not-first l at s (w .balise))) (x .0) (x .1)
+
+      there : (at : ℕ) × List·Memᴰ at (starts f l) × Failing (recordReturns f l (recordBefore f l at) (kindAt l at) at) p → ReturnAtFault f l p
       there w =
-          let v = (own (w .0)) .0 (w .2) in
-          let link : NonzeroLink f l (w .0) p = record { record-there = w .1; its-field = v .0; some-link = v .1 .0 } in
-          ⊎-elim (λ (n : Unreturned f l (w .0) p). not-returned (w .0) link n)
-          (λ (d : Doubles f l (w .0) (linkPlaces (kindAt l (w .0)) (w .0)) p). doubled (w .0) link (d .0) (d .1) (d .2) (d .3)) (v .1 .1)
+          ⊎-elim (λ (d : Due f l (recordBefore f l (w .0)) (w .0) p). due (w .0) (w .1) d)
+          (λ (d : Member f l (w .0) × Differs f l (recordBefore f l (w .0)) (w .0) p). differs (w .0) (w .1) (d .0) (d .1)) ((own (w .0)) .0 (w .2))
 
-      back : ReturnAtFault f l p → (at : ℕ) × List·Memᴰ at (starts f l) × Failing (recordReturns f l (kindAt l at) at) p
-      back (not-returned at k n) = (at, k .record-there, (own at) .1 (k .its-field, (k .some-link, inl n)))
-      back (doubled at k q m less e) = (at, k .record-there, (own at) .1 (k .its-field, (k .some-link, inr (q, m, less, e))))
+      back : ReturnAtFault f l p → (at : ℕ) × List·Memᴰ at (starts f l) × Failing (recordReturns f l (recordBefore f l at) (kindAt l at) at) p
+      back (not-returned at k none n) = (at, k .record-there, (own at) .1 (inl (none, (k .its-field, (k .some-link, inl n)))))
+      back (doubled at k none q m less e) = (at, k .record-there, (own at) .1 (inl (none, (k .its-field, (k .some-link, inr (q, m, less, e))))))
+      back (other-previous at b m w d e n) =
+          (at, m, (own at) .1 (inr (w, inl (e, subst (λ (x : ℕ). linkAt f (at + 1) ≡ linkAt f (x + 1) → ⊥) (before-only f l at m b d) n))))
+      back (other-next at b m w d e n) =
+          (at, m, (own at) .1 (inr (w, inr (e, subst (λ (x : ℕ). linkAt f (at + 3) ≡ linkAt f (x + 3) → ⊥) (before-only f l at m b d) n))))

@@ -1,7 +1,7 @@
 -- What is at fault in the fields and in the agreement of an X.2 file, and at which place (01, 'Verdicts and their order': a field is
 -- reported at its first byte; agreement 'at the header's track byte and at the group byte'). It is said of the bytes alone, beside Obeys
 -- and with the numbers that 01 prints. What a refusal reports is the lowest of these places: 'the first fault in byte order counts'.
-use Prim.Native.Nat.{ℕ, _+_, _*_, _/_, _%_, _<_}
+use Prim.Native.Nat.{ℕ, _+_, _*_, _<_}
 use mathlib.Core.Path.{_≡_}
 use mathlib.Core.List.{List, List·Memᴰ}
 use Rattle.octets.specs.Octets.{numAt}
@@ -12,7 +12,7 @@ use Rattle.x2_records.specs.declared.Kind.the-variants as kind
 use Rattle.x2_records.specs.Rows.{tableOf}
 use Rattle.x2_layout.specs.declared.Layout.{Layout}
 use Rattle.x2_layout.specs.Records.{kindAt, starts}
-use Rattle.x2_obeys.specs.Fields.{MessageEnds}
+use Rattle.x2_obeys.specs.Fields.{MessageEnds, rankAt, groupCountAt, Member, InSequence}
 
 -- ---- fields
 
@@ -32,8 +32,8 @@ pub data FieldAtFault (f : List ℕ) (l : Layout) (p : ℕ) : Type 0 where
 
 -- ---- agreement
 
--- p is the header's track byte of a boundary whose record has another track, or the group byte of a balise whose place, the low three bits
--- and 1, is above its count, the top three and 1
+-- p is the header's track byte of a boundary whose record has another track, or the group byte of a balise whose place is above its count, or
+-- that is a member out of sequence
 -- 01: No.7, Fault2.agree.1
 pub data AgreementAtFault (f : List ℕ) (l : Layout) (p : ℕ) : Type 0 where
   start-own : (i : ℕ) → i < l .n → p ≡ 24 + 3 * i → (numAt 1 f (24 + 3 * i) ≡ numAt 1 f (l .starts + 12 * i + 11) → ⊥)
@@ -42,5 +42,7 @@ pub data AgreementAtFault (f : List ℕ) (l : Layout) (p : ℕ) : Type 0 where
       (j : ℕ) → j < l .k → p ≡ 25 + 3 * l .n + 3 * j → (numAt 1 f (25 + 3 * l .n + 3 * j) ≡ numAt 1 f (l .ends + 12 * j + 11) → ⊥)
       → AgreementAtFault f l p
   group :
-      (at : ℕ) → List·Memᴰ at (starts f l) → kindAt l at ≡ kind.Balise → p ≡ at + 15
-      → numAt 1 f (at + 15) / 32 % 8 + 1 < numAt 1 f (at + 15) % 8 + 1 → AgreementAtFault f l p
+      (at : ℕ) → List·Memᴰ at (starts f l) → kindAt l at ≡ kind.Balise → p ≡ at + 15 → groupCountAt f at < rankAt f at
+      → AgreementAtFault f l p
+  -- 02: Ticket2.6
+  member : (at : ℕ) → List·Memᴰ at (starts f l) → Member f l at → p ≡ at + 15 → (InSequence f l at → ⊥) → AgreementAtFault f l p

@@ -5,6 +5,7 @@ pub mod FieldSays
 pub mod LinkFaults
 pub mod LinkSays
 pub mod Checks
+pub mod Base
 pub mod Says
 pub mod Asked
 pub mod Values

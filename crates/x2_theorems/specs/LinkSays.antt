@@ -37,6 +37,7 @@ ownClaim f l start place rule.StationName = always
 ownClaim f l start place (rule.SumWithin field base limit) = always
 ownClaim f l start place (rule.SumIs field base end) = always
 ownClaim f l start place rule.RankInCount = always
+ownClaim f l start place (rule.InSequence field) = always
 ownClaim f l start place rule.SameStation = always
 ownClaim f l start place rule.InFirst = always
 ownClaim f l start place (rule.WithinTrack track) = always

@@ -10,6 +10,7 @@ use Rattle.envelope.specs.Seal.{sealFacts}
 use Rattle.x2_layout.specs.Layout.{layoutOf}
 use Rattle.x2_layout.specs.Facts.{layoutFacts}
 use Rattle.x2_layout.proofs.Obeys.{layout-obeyed}
+use Rattle.x2_layout.proofs.Regions.{regions, some-boundary}
 use Rattle.x2_fields.specs.Fields.{fieldFacts}
 use Rattle.x2_fields.specs.Agreement.{agreementFacts}
 use Rattle.x2_obeys.proofs.Fields.{fields-iff, agreement-iff}
@@ -28,26 +29,28 @@ accepted-obeys f =
     let filled = all-append (fieldFacts f l) (agreementFacts f l ++ (targetFacts f l ++ returnFacts f l)) in
     let agreed = all-append (agreementFacts f l) (targetFacts f l ++ returnFacts f l) in
     let linked = all-append (targetFacts f l) (returnFacts f l) in (
-      λ e.
-          let h = all .0 e in
-          let s = sealed .0 (h .1) in
-          let y = laid .0 (s .1) in
+      λ q.
+          let h = all .0 q in
+          let e = sealed .0 (h .1) in
+          let y = laid .0 (e .1) in
           let d = filled .0 (y .1) in
           let g = agreed .0 (d .1) in
           let t = linked .0 (g .1) in
+          let o = (layout-obeyed f l) .0 (y .0) in
+          let s = some-boundary (regions f o) in
           record {
             least = h .0 .0;
             most = h .0 .1;
-            checksum = s .0 .0;
-            file-type = s .0 .1 .0;
-            structure-version = s .0 .1 .1 .0;
-            layout = (layout-obeyed f l) .0 (y .0);
+            checksum = e .0 .0;
+            file-type = e .0 .1 .0;
+            structure-version = e .0 .1 .1 .0;
+            layout = o;
             fields = (fields-iff f l) .0 (d .0);
-            agreement = (agreement-iff f l) .0 (g .0);
+            agreement = (agreement-iff f l s) .0 (g .0);
             targets = (targets-iff f l) .0 (t .0);
-            returns = (returns-iff f l) .0 (t .1);
+            returns = (returns-iff f l s) .0 (t .1);
           },
-      λ o. all .1 (
+      λ o. let s = some-boundary (regions f (o .layout)) in all .1 (
         (o .least, o .most),
         sealed .1 (
           (o .checksum, (o .file-type, (o .structure-version, tt))),
@@ -55,7 +58,7 @@ accepted-obeys f =
             (layout-obeyed f l) .1 (o .layout),
             filled .1 (
               (fields-iff f l) .1 (o .fields),
-              agreed .1 ((agreement-iff f l) .1 (o .agreement), linked .1 ((targets-iff f l) .1 (o .targets), (returns-iff f l) .1 (o .returns))),
+              agreed .1 ((agreement-iff f l s) .1 (o .agreement), linked .1 ((targets-iff f l) .1 (o .targets), (returns-iff f l s) .1 (o .returns))),
             ),
           ),
         ),

@@ -1,4 +1,5 @@
--- `x2_fields::agreement::agreement_obeys` meets its contract: only a balise has a rule.
+-- `x2_fields::agreement::agreement_obeys` meets its contract: only a balise has rules.
+use mathlib.Core.Bool.{and-true}
 use Rattle.x2_fields.specs.Agreement.{kindAgrees}
 use borrow.Author.Needs.{needs}
 use Rattle.x2_fields.proofs.agreement.agreement_obeys.Statement.{statement}
@@ -18,7 +19,7 @@ returns-3 c = rw (c .enum-told3 .given .1)
 
 returns-4 : tie.Need-returns-4
 unfolding kindAgrees
-returns-4 c = rw (c .before .enum-told4 .given .1) (c .rank-obeys .ensures)
+returns-4 c = rw (c .before .before .enum-told4 .given .1) (simp (and-true, c .sequence-obeys .ensures, c .before .rank-obeys .ensures))
 
 returns-5 : tie.Need-returns-5
 unfolding kindAgrees
@@ -33,4 +34,4 @@ unfolding kindAgrees
 returns-7 c = rw (c .enum-told7 .given .1)
 
 pub agreement-obeys-spec : {M : Type 1} → statement M
-agreement-obeys-spec = tie.close (tie.spec (λ c. search needs) (λ c. search needs) (λ c. search needs) (λ c. search needs) (λ c κs. search needs) (λ c. search needs) (λ c. search needs) (λ c. search needs) returns returns-2 returns-3 returns-4 returns-5 returns-6 returns-7)
+agreement-obeys-spec = tie.close (tie.spec (λ c. search needs) (λ c. search needs) (λ c. search needs) (λ c. search needs) (λ c κs. search needs) (λ c κs. search needs) (λ c. search needs) (λ c. search needs) (λ c. search needs) returns returns-2 returns-3 returns-4 returns-5 returns-6 returns-7)

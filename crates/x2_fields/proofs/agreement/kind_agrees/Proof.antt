@@ -1,4 +1,4 @@
--- `x2_fields::agreement::kind_agrees` meets its contract: only a balise has a rule.
+-- `x2_fields::agreement::kind_agrees` meets its contract: only a balise has rules.
 use Rattle.x2_fields.specs.Agreement.{kindAgrees}
 use borrow.Author.Needs.{needs}
 use Rattle.x2_fields.proofs.agreement.kind_agrees.Statement.{statement}
@@ -18,7 +18,7 @@ returns-3 c = rw (c .enum-told3 .given .1)
 
 returns-4 : tie.Need-returns-4
 unfolding kindAgrees
-returns-4 c = rw (c .before .enum-told4 .given .1) (c .rank-in-count .ensures)
+returns-4 c = rw (c .before .before .enum-told4 .given .1) (simp (c .in-sequence .ensures, c .before .rank-in-count .ensures))
 
 returns-5 : tie.Need-returns-5
 unfolding kindAgrees
@@ -33,4 +33,4 @@ unfolding kindAgrees
 returns-7 c = rw (c .enum-told7 .given .1)
 
 pub kind-agrees-spec : {M : Type 1} → statement M
-kind-agrees-spec = tie.close (tie.spec (λ c. search needs) (λ c. search needs) (λ c. search needs) (λ c. search needs) (λ c κs. search needs) (λ c. search needs) (λ c. search needs) (λ c. search needs) returns returns-2 returns-3 returns-4 returns-5 returns-6 returns-7)
+kind-agrees-spec = tie.close (tie.spec (λ c. search needs) (λ c. search needs) (λ c. search needs) (λ c. search needs) (λ c κs. search needs) (λ c κs. search needs) (λ c. search needs) (λ c. search needs) (λ c. search needs) returns returns-2 returns-3 returns-4 returns-5 returns-6 returns-7)

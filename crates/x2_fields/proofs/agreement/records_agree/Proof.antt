@@ -1,34 +1,36 @@
--- `x2_fields::agreement::records_agree` meets its contract: a walk over the records that tests each of them.
+-- `x2_fields::agreement::records_agree` meets its contract: a walk over the records that tests each of them, with the one before it.
 use Prim.Native.Nat.{_-_}
-use mathlib.Core.Path.{refl}
-use Rattle.x2_layout.proofs.Walking.{Walking, walking-stop, walking-over, walking-fault}
+use Rattle.x2_layout.proofs.Before.{Following, following-start, following-stop, following-over, following-fault}
 use Rattle.x2_fields.specs.Agreement.{kindAgrees}
 use borrow.Author.Needs.{needs}
 use Rattle.x2_fields.proofs.agreement.records_agree.Statement.{statement}
 use Rattle.x2_fields.proofs.agreement.records_agree.Tie as tie
 
 abbrev Inv-loop : tie.InvT-loop
-Inv-loop v f l stop at₀ at = Walking f l (kindAgrees f) v at
+Inv-loop v f l stop before₀ at₀ before at = Following f l (kindAgrees f l) v before at
 
 abbrev μ-loop : tie.MeasureT-loop
-μ-loop v f l stop at₀ at = l .end - at
+μ-loop v f l stop before₀ at₀ before at = l .end - at
+
+loop-holds : tie.Need-loop-holds Inv-loop μ-loop
+loop-holds c = following-start _ _ _ _
 
 returns : tie.Need-returns Inv-loop μ-loop
 returns c =
     let tested = c .before .before in
     let kind = tested .before in
     let test = kind .before in
-    walking-fault (test .before .loop .inv) (test .loop-test .taken) (kind .kind-at .ensures) (tested .agreement-obeys .ensures) (c .before .if1 .taken) (c .kind-agrees .ensures)
+    following-fault (test .before .loop .inv) (test .loop-test .taken) (kind .kind-at .ensures) (tested .agreement-obeys .ensures) (c .before .if1 .taken) (c .kind-agrees .ensures)
 
 loop-again : tie.Need-loop-again Inv-loop μ-loop
 loop-again c =
     let tested = c .before .before in
     let kind = tested .before in
     let test = kind .before in
-    walking-over (test .before .loop .inv) (test .loop-test .taken) (kind .kind-at .ensures) (tested .agreement-obeys .ensures) (c .before .if1 .left) (c .size-of .ensures)
+    following-over (test .before .loop .inv) (test .loop-test .taken) (kind .kind-at .ensures) (tested .agreement-obeys .ensures) (c .before .if1 .left) (c .size-of .ensures)
 
 returns-2 : tie.Need-returns-2 Inv-loop μ-loop
-returns-2 c = walking-stop (c .before .loop .inv) (c .loop-test .left)
+returns-2 c = following-stop (c .before .loop .inv) (c .loop-test .left)
 
 pub records-agree-spec : {M : Type 1} → statement M
-records-agree-spec = tie.close (tie.spec Inv-loop μ-loop (λ c. record { so = refl }) (λ c κs. search needs) (λ c. search needs) (λ c κs. search needs) (λ c. search needs) (λ c κs. search needs) returns (λ c κs. search needs) (λ c. search needs) (λ c. search needs) loop-again returns-2)
+records-agree-spec = tie.close (tie.spec Inv-loop μ-loop loop-holds (λ c κs. search needs) (λ c. search needs) (λ c κs. search needs) (λ c. search needs) (λ c κs. search needs) returns (λ c. search needs) (λ c κs. search needs) (λ c. search needs) (λ c. search needs) loop-again returns-2)
