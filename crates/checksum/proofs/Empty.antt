@@ -1,7 +1,7 @@
 -- Empty bytes. They are linear, so what a register is made of can be taken apart: the bytes to come make of an exclusive or what they make
--- of one part, and as many empty bytes of the other. So the bytes of a turn can enter in two halves, one beside the other.
+-- of one part, and as many empty bytes of the other. So the later bytes of a turn can enter an empty register, beside the first.
 use mathlib.Core.Path.{_≡_, refl, sym, ap, ap₂, _∙_}
-use mathlib.Core.List.{List, [], _∷_, _++_}
+use mathlib.Core.List.{List, [], _∷_}
 use Prim.Native.Nat.{ℕ, zero, suc, _+_, _^_, _<_}
 use native.Mathlib.Nat.{add-zero, add-suc}
 use native.Mathlib.Omega.{arith}
@@ -32,22 +32,13 @@ from-xor [] x r p q = refl
 from-xor (b ∷ bs) x r p q =
     ap (λ (y : ℕ). checksumFrom y bs) (byte-xor x r b p q) ∙ from-xor bs (byteStep x 0) (byteStep r b) (byte-lt x 0 p) (byte-lt r b q)
 
-from-append : (bs cs : List ℕ) (r : ℕ) → checksumFrom (checksumFrom r bs) cs ≡ checksumFrom r (bs ++ cs)
-unfolding checksumFrom
-from-append [] cs r = refl
-from-append (b ∷ bs) cs r = from-append bs cs (byteStep r b)
-
--- some bytes enter an empty register, beside others that enter r with empty ones after them: all of them enter r
-pub beside : (bs cs : List ℕ) (x y r : ℕ) → r < 2 ^ width → x ≡ emptySteps 0 (checksumFrom 0 cs) → y ≡ emptySteps (length cs) (checksumFrom r bs)
-    → bitXor x y ≡ checksumFrom r (bs ++ cs)
-unfolding emptySteps
-beside bs cs x y r p e f =
-    let q : ℕ = checksumFrom r bs in
+-- some bytes enter an empty register, beside a register q that as many empty ones enter: the bytes enter q
+pub beside : (bs : List ℕ) (x y q : ℕ) → q < 2 ^ width → x ≡ checksumFrom 0 bs → y ≡ emptySteps (length bs) q → bitXor x y ≡ checksumFrom q bs
+beside bs x y q p e f =
     ap₂ bitXor e f
-    ∙ xor-comm (checksumFrom 0 cs) (emptySteps (length cs) q)
-    ∙ sym (from-xor cs q 0 (from-lt bs r p) (omega arith))
-    ∙ ap (λ (z : ℕ). checksumFrom z cs) (xor-zero-r q)
-    ∙ from-append bs cs r
+    ∙ xor-comm (checksumFrom 0 bs) (emptySteps (length bs) q)
+    ∙ sym (from-xor bs q 0 p (omega arith))
+    ∙ ap (λ (z : ℕ). checksumFrom z bs) (xor-zero-r q)
 
 pub empty-xor : (n x y : ℕ) → x < 2 ^ width → y < 2 ^ width → emptySteps n (bitXor x y) ≡ bitXor (emptySteps n x) (emptySteps n y)
 unfolding emptySteps
@@ -70,9 +61,3 @@ pub empty-add : (m n x : ℕ) → emptySteps m (emptySteps n x) ≡ emptySteps (
 unfolding emptySteps
 empty-add m zero x = ap (λ (k : ℕ). emptySteps k x) (sym (add-zero m))
 empty-add m (suc n) x = empty-add m n (byteStep x 0) ∙ ap (λ (k : ℕ). emptySteps k x) (sym (add-suc m n))
-
--- the last empty byte
-pub empty-last : (n x : ℕ) → emptySteps (suc n) x ≡ byteStep (emptySteps n x) 0
-unfolding emptySteps
-empty-last zero x = refl
-empty-last (suc n) x = empty-last n (byteStep x 0)

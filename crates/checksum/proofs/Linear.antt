@@ -10,7 +10,7 @@ use lib.ListN.{length}
 use lib.Pow.{pow-pos}
 use lib.Bits.{bitXor, xor-lt, xor-shr, xor-self}
 use Rattle.checksum.specs.Checksum.{polynomial, width, ones, top, step, bitStep, bitSteps}
-use Rattle.checksum.proofs.Xor.{xor-four, xor-shift, xor-bit, xor-times}
+use Rattle.checksum.proofs.Xor.{xor-four, xor-shift, xor-bits, xor-times}
 
 step-lt : (r : ℕ) → r < 2 ^ width → step r < 2 ^ width
 unfolding step
@@ -56,7 +56,7 @@ bits-xor (k ∷ ks) r q a b hr hq =
     let e : ℕ = b / 2 ^ k % 2 in
     let hd : d < 2 = omega arith in
     let he : e < 2 = omega arith in
-    ap (λ (x : ℕ). bitSteps ks x (bitXor a b)) (ap (bitStep (bitXor r q)) (xor-bit k a b) ∙ bit-xor r q d e hr hq hd he)
+    ap (λ (x : ℕ). bitSteps ks x (bitXor a b)) (ap (bitStep (bitXor r q)) (xor-bits 1 k a b) ∙ bit-xor r q d e hr hq hd he)
     ∙ bits-xor ks (bitStep r d) (bitStep q e) a b (bit-lt r d hr hd) (bit-lt q e hq he)
 
 step-low : (r : ℕ) → r < 2 ^ (width - 1) → step r ≡ r * 2

@@ -1,5 +1,5 @@
--- Exclusive or, where the kit's laws of `bitXor` stop: it associates, products with a power of two pass through it, and so do the bit
--- at a place and a number taken no times or once. It associates because the last digits of both sides have the same parity, and the
+-- Exclusive or, where the kit's laws of `bitXor` stop: it associates, products with a power of two pass through it, and so do the bits
+-- from a place on and a number taken no times or once. It associates because the last digits of both sides have the same parity, and the
 -- digits before them follow by induction.
 use mathlib.Core.Path.{_≡_, refl, sym, ap, ap₂, _∙_}
 use Prim.Native.Nat.{ℕ, zero, suc, _+_, _*_, _/_, _%_, _^_, _<_}
@@ -59,9 +59,9 @@ xor-shift k a b =
     ∙ xor-block k a b 0 0 (pow-pos k) (pow-pos k)
     ∙ add-zero (bitXor a b * 2 ^ k)
 
--- the bit at place k
-pub xor-bit : (k a b : ℕ) → bitXor a b / 2 ^ k % 2 ≡ bitXor (a / 2 ^ k % 2) (b / 2 ^ k % 2)
-xor-bit k a b = ap (λ (x : ℕ). x % 2) (xor-shr a b k) ∙ xor-mod (a / 2 ^ k) (b / 2 ^ k) 1
+-- the n bits from the place k on
+pub xor-bits : (n k a b : ℕ) → bitXor a b / 2 ^ k % 2 ^ n ≡ bitXor (a / 2 ^ k % 2 ^ n) (b / 2 ^ k % 2 ^ n)
+xor-bits n k a b = ap (λ (x : ℕ). x % 2 ^ n) (xor-shr a b k) ∙ xor-mod (a / 2 ^ k) (b / 2 ^ k) n
 
 -- m, no times or once
 pub xor-times : (m d e : ℕ) → d < 2 → e < 2 → bitXor d e * m ≡ bitXor (d * m) (e * m)

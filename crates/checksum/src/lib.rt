@@ -1,17 +1,17 @@
-// The checksum of 6.6 (01, 'Bytes and checksum'), eight bytes a turn, by a table of what each byte makes of an empty register, alone and
-// with empty bytes after it.
+// The checksum of 6.6 (01, 'Bytes and checksum'), sixteen bytes a turn, four bytes a step, by tables of what each byte makes of an empty
+// register once some empty bytes have followed. Of a turn's bytes the first four meet the register, and twelve empty bytes follow them; the
+// other twelve enter an empty register and need not wait for the first four. What both make, joined, is what the sixteen make.
 mod table;
 
 ghost use mathlib.Core.Path.{_≡_};
-ghost use mathlib.Core.List.{[], _∷_};
-ghost use Prim.Native.Nat.{_+_, _≤_, _<_};
-ghost use lib.Bits.{bitXor};
+ghost use Prim.Native.Nat.{ℕ, _+_, _≤_, _<_};
 ghost use lib.ListN.{length, take, drop};
 ghost use Rattle.checksum.specs.Checksum.{byteStep, checksumFrom, checksumOf, Checksum};
-ghost use Rattle.checksum.specs.inner.Table.{inTurns, emptySteps, RightTable};
+ghost use Rattle.checksum.specs.inner.Table.{wordOf, inTurns, emptySteps, RightTable, RightTables};
 use table::BYTES;
 use table::ENTRIES;
-use table::TABLE;
+use table::FAR;
+use table::NEAR;
 
 // The start value.
 const START: u32 = 0xFFFF_FFFF;
@@ -23,105 +23,112 @@ const TWO_BYTES: u32 = 16;
 
 const THREE_BYTES: u32 = 24;
 
-// How many bytes enter in one turn, and half as many.
-const TURN: usize = 8;
+// How many bytes enter in one step by four entries, and in one turn.
+const STEP: usize = 4;
 
-const HALF: usize = 4;
+const TURN: usize = 16;
 
-// What a byte makes of a register of which `part` meets the byte and the rest is empty, once `after` empty bytes have followed.
-fn entry(table: &[u32; ENTRIES], byte: u8, part: usize, after: usize) -> u32
-    requires { ⌜ RightTable (now table) × (part < 256) × (after < 8) ⌝ }
-    ensures { λ r. ⌜ r ≡ emptySteps after (byteStep 0 (bitXor byte part)) ⌝ }
+// What a byte makes of an empty register once the empty bytes of a row of the table have followed: `row` more than those of its first row.
+fn entry(table: &[u32; ENTRIES], row: usize, byte: usize) -> u32
+    requires { ⌜ (row < 4) × (byte < 256) ⌝ }
+    ensures { λ r. ⌜ ((n : ℕ) → RightTable n (now (table .entry)) → r ≡ emptySteps (n + row) (byteStep 0 byte)) ⌝ }
 {
-    let met = (byte as usize) ^ part;
-    table[BYTES * after + met]
+    table[BYTES * row + byte]
 }
 
 // What the register becomes when a byte enters.
-fn byte_step(table: &[u32; ENTRIES], register: u32, byte: u8) -> u32
-    requires { ⌜ RightTable (now table) ⌝ }
+fn byte_step(near: &[u32; ENTRIES], register: u32, byte: u8) -> u32
+    requires { ⌜ RightTable 0 (now near) ⌝ }
     ensures { λ r. ⌜ r ≡ byteStep register byte ⌝ }
 {
-    let high = register >> THREE_BYTES;
-    entry(table, byte, high as usize, 0) ^ (register << BYTE)
+    let met = (byte as u32) ^ (register >> THREE_BYTES);
+    entry(near, 0, met as usize) ^ (register << BYTE)
 }
 
-// What the register becomes when four bytes enter and then `after` empty ones: each byte meets a byte of the register.
-fn four_step(table: &[u32; ENTRIES], register: u32, a: u8, b: u8, c: u8, d: u8, after: usize) -> u32
-    requires { ⌜ RightTable (now table) × (after ≤ 4) ⌝ }
-    ensures { λ r. ⌜ r ≡ emptySteps after (checksumFrom register (a ∷ b ∷ c ∷ d ∷ [])) ⌝ }
+// Four bytes as one number, the first byte highest.
+fn word(a: u8, b: u8, c: u8, d: u8) -> u32
+    ensures { λ r. ⌜ r ≡ wordOf a b c d ⌝ }
 {
-    let bits = register as usize;
-    let first = entry(table, a, bits >> THREE_BYTES, after + 3);
-    let second = entry(table, b, (bits >> TWO_BYTES) % BYTES, after + 2);
-    let third = entry(table, c, (bits >> BYTE) % BYTES, after + 1);
-    let fourth = entry(table, d, bits % BYTES, after);
+    ((a as u32) << THREE_BYTES) + ((b as u32) << TWO_BYTES) + ((c as u32) << BYTE) + (d as u32)
+}
+
+// What the register becomes when the four bytes from a place on enter, and then the empty bytes of the table's first row: each byte meets
+// a byte of the register, and what they make together has an entry.
+fn four_step(table: &[u32; ENTRIES], register: u32, s: &[u8], at: usize) -> u32
+    requires { ⌜ at + 4 ≤ length (now s) ⌝ }
+    ensures { λ r. ⌜ ((n : ℕ) → RightTable n (now (table .entry)) → r ≡ emptySteps n (checksumFrom register (take 4 (drop at (now (s .entry)))))) ⌝ }
+{
+    let met = (register ^ word(s[at], s[at + 1], s[at + 2], s[at + 3])) as usize;
+    let first = entry(table, 3, met >> THREE_BYTES);
+    let second = entry(table, 2, (met >> TWO_BYTES) % BYTES);
+    let third = entry(table, 1, (met >> BYTE) % BYTES);
+    let fourth = entry(table, 0, met % BYTES);
     (first ^ second) ^ (third ^ fourth)
 }
 
-// What the register becomes when the eight bytes from a place on enter. The last four enter an empty register, beside the first four; they
+// What the register becomes when the sixteen bytes from a place on enter. The last twelve enter an empty register, four after four; they
 // come first here, since they need not wait for the register.
-fn eight_step(table: &[u32; ENTRIES], register: u32, s: &[u8], at: usize) -> u32
-    requires { ⌜ RightTable (now table) × (at + 8 ≤ length (now s)) ⌝ }
-    ensures { λ r. ⌜ r ≡ checksumFrom register (take 8 (drop at (now (s .entry)))) ⌝ }
+fn sixteen_step(
+    near: &[u32; ENTRIES],
+    far: &[u32; ENTRIES],
+    register: u32,
+    s: &[u8],
+    at: usize,
+) -> u32
+    requires { ⌜ RightTables (now near) (now far) × (at + 16 ≤ length (now s)) ⌝ }
+    ensures { λ r. ⌜ r ≡ checksumFrom register (take 16 (drop at (now (s .entry)))) ⌝ }
 {
-    let last = four_step(table, 0, s[at + 4], s[at + 5], s[at + 6], s[at + 7], 0);
-    let first = four_step(
-        table,
-        register,
-        s[at],
-        s[at + 1],
-        s[at + 2],
-        s[at + 3],
-        HALF,
-    );
-    last ^ first
+    let second = four_step(near, 0, s, at + STEP);
+    let third = four_step(near, second, s, at + 2 * STEP);
+    let fourth = four_step(near, third, s, at + 3 * STEP);
+    fourth ^ four_step(far, register, s, at)
 }
 
 // What the register becomes when the bytes of all whole turns enter.
-fn turns(table: &[u32; ENTRIES], register: u32, s: &[u8]) -> u32
-    requires { ⌜ RightTable (now table) ⌝ }
+fn turns(near: &[u32; ENTRIES], far: &[u32; ENTRIES], register: u32, s: &[u8]) -> u32
+    requires { ⌜ RightTables (now near) (now far) ⌝ }
     ensures { λ r. ⌜ r ≡ checksumFrom register (take (inTurns (length (now (s .entry)))) (now (s .entry))) ⌝ }
 {
     let mut turned = register;
     let mut i = 0;
     while s.len() - i >= TURN {
-        turned = eight_step(table, turned, s, i);
+        turned = sixteen_step(near, far, turned, s, i);
         i += TURN;
     }
     turned
 }
 
 // What the register becomes when the bytes from a place on enter, one by one.
-fn rest(table: &[u32; ENTRIES], register: u32, s: &[u8], at: usize) -> u32
-    requires { ⌜ RightTable (now table) ⌝ }
+fn rest(near: &[u32; ENTRIES], register: u32, s: &[u8], at: usize) -> u32
+    requires { ⌜ RightTable 0 (now near) ⌝ }
     ensures { λ r. ⌜ r ≡ checksumFrom register (drop at (now (s .entry))) ⌝ }
 {
     let mut stepped = register;
     let mut i = at;
     while i < s.len() {
-        stepped = byte_step(table, stepped, s[i]);
+        stepped = byte_step(near, stepped, s[i]);
         i += 1;
     }
     stepped
 }
 
 // What the bytes s make of the start value.
-fn by_table(table: &[u32; ENTRIES], s: &[u8]) -> u32
-    requires { ⌜ RightTable (now table) ⌝ }
+fn by_table(near: &[u32; ENTRIES], far: &[u32; ENTRIES], s: &[u8]) -> u32
+    requires { ⌜ RightTables (now near) (now far) ⌝ }
     ensures { λ r. ⌜ r ≡ checksumOf (now (s .entry)) ⌝ }
 {
-    let turned = turns(table, START, s);
+    let turned = turns(near, far, START, s);
     let left = s.len() % TURN;
-    rest(table, turned, s, s.len() - left)
+    rest(near, turned, s, s.len() - left)
 }
 
 // The checksum of the bytes s.
 pub fn of(s: &[u8]) -> usize
     ensures { λ r. ⌜ Checksum (now (s .entry)) r ⌝ }
 {
-    let table = &TABLE;
-    by_table(table, s) as usize
+    let near = &NEAR;
+    let far = &FAR;
+    by_table(near, far, s) as usize
 }
 
 // The checksum of the first n bytes of s; of all of them where n is over their number.

@@ -10,10 +10,10 @@ use Rattle.checksum.proofs.rest.Statement.{statement}
 use Rattle.checksum.proofs.rest.Tie as tie
 
 abbrev Inv-loop : tie.InvT-loop
-Inv-loop table register s at stepped₀ i₀ stepped i = checksumFrom stepped (drop i s) ≡ checksumFrom register (drop at s)
+Inv-loop near register s at stepped₀ i₀ stepped i = checksumFrom stepped (drop i s) ≡ checksumFrom register (drop at s)
 
 abbrev μ-loop : tie.MeasureT-loop
-μ-loop table register s at stepped₀ i₀ stepped i = length s - i
+μ-loop near register s at stepped₀ i₀ stepped i = length s - i
 
 loop-holds : tie.Need-loop-holds Inv-loop μ-loop
 loop-holds c = refl

@@ -12,10 +12,10 @@ use Rattle.checksum.proofs.turns.Statement.{statement}
 use Rattle.checksum.proofs.turns.Tie as tie
 
 abbrev Inv-loop : tie.InvT-loop
-Inv-loop table register s turned₀ i₀ turned i = (i ≤ length s) × (i % 8 ≡ 0) × (turned ≡ checksumFrom register (take i s))
+Inv-loop near far register s turned₀ i₀ turned i = (i ≤ length s) × (i % 16 ≡ 0) × (turned ≡ checksumFrom register (take i s))
 
 abbrev μ-loop : tie.MeasureT-loop
-μ-loop table register s turned₀ i₀ turned i = length s - i
+μ-loop near far register s turned₀ i₀ turned i = length s - i
 
 loop-holds : tie.Need-loop-holds Inv-loop μ-loop
 unfolding checksumFrom
@@ -24,7 +24,7 @@ loop-holds c = (search needs, refl, refl)
 loop-again : tie.Need-loop-again Inv-loop μ-loop
 loop-again c =
     let l = c .before .before .loop in
-    (search needs, omega arith, turn-on 8 _ _ (l .turned) _ (l .i) (c .eight-step .ensures) (l .inv .2))
+    (search needs, omega arith, turn-on 16 _ _ (l .turned) _ (l .i) (c .sixteen-step .ensures) (l .inv .2))
 
 returns : tie.Need-returns Inv-loop μ-loop
 returns c =
