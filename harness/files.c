@@ -248,3 +248,20 @@ void diamonds(uint32_t count, stored *file)
     join(&made, at, port, end, 0);
     lay_out(&made, NULL, file);
 }
+
+void forks(uint32_t count, stored *file)
+{
+    static yard made;
+    uint32_t at, port = 0, end;
+    empty_yard(&made);
+    at = add(&made, IND_START_BOUNDARY, IND_BOUNDARY_SIZE);
+    for (; count > 0; count--) {
+        uint32_t turnout = add(&made, IND_TURNOUT, IND_TURNOUT_SIZE);
+        join(&made, at, port, turnout, FRONT);
+        at = turnout;
+        port = NORMAL;
+    }
+    end = add(&made, IND_END_BOUNDARY, IND_BOUNDARY_SIZE);
+    join(&made, at, port, end, 0);
+    lay_out(&made, NULL, file);
+}

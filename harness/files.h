@@ -23,6 +23,10 @@ void worst_application(uint32_t bytes, stored *file);
  * routes with each. */
 void diamonds(uint32_t count, stored *file);
 
+/* An X.2 of one line of so many turnouts, each entered at the front, whose
+ * reverse legs lead nowhere: every walk forks at each. */
+void forks(uint32_t count, stored *file);
+
 /* A station whose two files are an accepted pair, the X.1 first: both as
  * above, each of at most so many bytes. */
 void realistic_station(uint32_t bytes, stored *files);

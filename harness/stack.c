@@ -9,14 +9,14 @@
 #include "files.h"
 #include "yard.h"
 
-enum { STACK = 1 << 20, FILLED = 0xA5, LARGEST = 65535, FIRST_START = 41, WORDS = 8192, OUTPUT = 128 };
+enum { STACK = 1 << 20, FILLED = 0xA5, LARGEST = 65535, FIRST_START = 41, FORKS = 600, WORDS = 8192, OUTPUT = 128 };
 
 /* What yard.h allows, in bytes. */
 enum { ON_X1 = 10 << 10, ON_X2 = 20 << 10, ON_PAIR = 22 << 10, ON_ROUTES = 250 << 10 };
 
 static unsigned char stack[STACK];
 static ucontext_t caller, called;
-static stored geography, application, station[2];
+static stored geography, application, forked, station[2];
 static uint8_t out[OUTPUT], words[WORDS];
 static uint64_t answered;
 
@@ -32,7 +32,7 @@ static void record(void) { answered = yard_record(application.bytes, application
 
 static void routes(size_t limit)
 {
-    answered = yard_routes(application.bytes, application.length, FIRST_START, limit, 65535, out, OUTPUT, words, WORDS);
+    answered = yard_routes(forked.bytes, forked.length, FIRST_START, limit, 65535, out, OUTPUT, words, WORDS);
 }
 
 static void routes_of_64(void) { routes(64); }
@@ -79,6 +79,7 @@ int main(void)
     int over = 0;
     worst_geography(LARGEST, &geography);
     worst_application(LARGEST, &application);
+    forks(FORKS, &forked);
     largest_station(LARGEST, station);
     for (size_t i = 0; i < sizeof calls / sizeof calls[0]; i++) {
         unsigned bytes = taken(calls[i].call);

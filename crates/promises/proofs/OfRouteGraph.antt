@@ -8,6 +8,10 @@ use Rattle.route_graph.proofs.Object.edge_link.Kinds as object-edge-link-kinds
 use Rattle.route_graph.proofs.Object.edge_link.Reads as object-edge-link-reads
 use Rattle.route_graph.proofs.object_at.Kinds as object-at-kinds
 use Rattle.route_graph.proofs.object_at.Reads as object-at-reads
+use Rattle.route_graph.proofs.ends_of.Kinds as ends-of-kinds
+use Rattle.route_graph.proofs.ends_of.Reads as ends-of-reads
+use Rattle.route_graph.proofs.object_in.Kinds as object-in-kinds
+use Rattle.route_graph.proofs.object_in.Reads as object-in-reads
 use Rattle.route_graph.proofs.boundary_at.Kinds as boundary-at-kinds
 use Rattle.route_graph.proofs.boundary_at.Reads as boundary-at-reads
 
@@ -19,6 +23,12 @@ object-edge-link-determined κs a = by-equation (λ v w. refl)
 
 pub object-at-determined : Determined 1 object-at-kinds.ps object-at-kinds.r object-at-reads.Pre object-at-reads.Post
 object-at-determined κs a = by-equation (λ v w. refl)
+
+pub ends-of-determined : Determined 0 ends-of-kinds.ps ends-of-kinds.r ends-of-reads.Pre ends-of-reads.Post
+ends-of-determined κs a = by-equation (λ v w. refl)
+
+pub object-in-determined : Determined 1 object-in-kinds.ps object-in-kinds.r object-in-reads.Pre object-in-reads.Post
+object-in-determined κs a = by-equation (λ v w. refl)
 
 pub boundary-at-determined : Determined 0 boundary-at-kinds.ps boundary-at-kinds.r boundary-at-reads.Pre boundary-at-reads.Post
 boundary-at-determined κs a = by-equation (λ v w. refl)

@@ -1,3 +1,4 @@
 pub mod Ways
 pub mod Places
 pub mod Read
+pub mod Ends

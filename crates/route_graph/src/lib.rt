@@ -10,6 +10,12 @@ use x2_layout::kind_at;
 use x2_records::Boundary;
 use x2_records::Links;
 
+mod regions;
+
+pub use regions::Ends;
+pub use regions::ends_of;
+pub use regions::object_in;
+
 // The links of a balise, a signal or a joint, which are plain objects.
 pub struct PlainLinks {
     pub previous: u16,

@@ -1,3 +1,5 @@
 pub mod Stores
+pub mod Marking
+pub mod By
 pub mod Turn
 pub mod Whole

@@ -3,7 +3,7 @@ use Prim.Native.Nat.{ℕ, zero, suc, _*_, _-_, _≤_, _<_}
 use native.Mathlib.Nat.{zero-add}
 use native.Mathlib.Numerals.{sub-one}
 use native.Mathlib.Omega.{arith}
-use mathlib.Core.Path.{_≡_, refl, sym, ap, _∙_}
+use mathlib.Core.Path.{_≡_, refl, sym, ap, subst, _∙_}
 use mathlib.Core.Bool.{Bool, true, false, not, true≢false}
 use mathlib.Core.Logic.{⊎-elim, _↔_}
 use mathlib.Core.List.{List, [], _∷_, _++_}
@@ -37,12 +37,14 @@ unfolding isRoute
 starts v start budget out = grown-open v budget (start ∷ []) nothing one-walk out (record { capped = omega arith; fewer = omega arith; short = omega arith }) (omega arith) refl
     (record { walks-are = refl; routes-are = refl; words-are = refl })
 
-pub passes-through : (v : ℕ → Object) (start limit budget first : ℕ) (p out out′ : List ℕ) (r : Tally) → 2 ≤ limit → first ≡ edgeLink (v start) → p ≡ start ∷ []
-    → Grown v (walks v (limit - 1) p start first) budget one-walk r out out′ → Grown v (allWalks v start limit) budget nothing r out out′
+-- `v′` is what stands at each place, told by the three numbers of the layout
+pub passes-through : (v v′ : ℕ → Object) (start limit budget first : ℕ) (p out out′ : List ℕ) (r : Tally) → v′ ≡ v → 2 ≤ limit → first ≡ edgeLink (v start) → p ≡ start ∷ []
+    → Grown v′ (walks v′ (limit - 1) p start first) budget one-walk r out out′ → Grown v (allWalks v start limit) budget nothing r out out′
 unfolding allWalks
-passes-through v start zero budget first p out out′ r h f e g = absurd (omega arith)
-passes-through v start (suc k) budget first p out out′ r h f e g =
-    grown-seq v budget ((start ∷ []) ∷ []) (walks v k (start ∷ []) start (edgeLink (v start))) nothing one-walk r out out out′ (starts v start budget out) (rw (sub-one (suc k), f, e) at g)
+passes-through v v′ start zero budget first p out out′ r s h f e g = absurd (omega arith)
+passes-through v v′ start (suc k) budget first p out out′ r s h f e g =
+    let same = subst (λ (w : ℕ → Object). Grown w (walks w (suc k - 1) p start first) budget one-walk r out out′) s g in
+    grown-seq v budget ((start ∷ []) ∷ []) (walks v k (start ∷ []) start (edgeLink (v start))) nothing one-walk r out out out′ (starts v start budget out) (rw (sub-one (suc k), f, e) at same)
 
 -- what the code's test of the range says
 pub passes : (asked ok : Bool) (limit budget : ℕ) → ok ≡ inRange asked limit budget → not ok ≡ false → inRange asked limit budget ≡ true

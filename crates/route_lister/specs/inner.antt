@@ -1,2 +1,5 @@
 -- What only the code's inner contracts and the proofs need. No reviewer has to believe it: each use of it is proved.
 pub mod Ready
+pub mod Steps
+pub mod Ways
+pub mod Marks

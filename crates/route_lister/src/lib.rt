@@ -7,7 +7,9 @@ use route_walks::Tally;
 use verdict::Fault;
 
 mod lister;
+mod marks;
 mod steps;
+mod ways;
 
 pub use lister::list;
 

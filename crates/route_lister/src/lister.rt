@@ -4,17 +4,23 @@ ghost use lib.ListN.{take};
 ghost use Rattle.route_graph.specs.Objects.{objectAt, edgeLink};
 ghost use Rattle.route_walks.specs.Lent.{roomOf};
 ghost use Rattle.route_walks.specs.Range.{Bounds};
-ghost use Rattle.route_lister.specs.inner.Ready.{Ready, Followed, Branched, PassedOver};
+ghost use Rattle.route_lister.specs.inner.Ready.{Ready, Held, Followed, Branched, PassedOver};
 ghost use Rattle.route_lister.specs.Answered.{limitOf, inRange, refusedFor, answerIn, leftIn};
 use crate::DEFAULT_LIMIT;
 use crate::RoutesAnswer;
+use crate::marks::CELLS;
+use crate::marks::push;
 use crate::steps::arrived;
 use crate::steps::opened;
-use crate::steps::passed;
-use route_graph::Object;
+use crate::steps::opens;
+use crate::ways::Way;
+use crate::ways::way_of;
+use route_graph::Ends;
 use route_graph::TurnoutLinks;
 use route_graph::boundary_at;
+use route_graph::ends_of;
 use route_graph::object_at;
+use route_graph::object_in;
 use route_walks::BUDGET_LEAST;
 use route_walks::BUDGET_MOST;
 use route_walks::LIMIT_LEAST;
@@ -26,75 +32,69 @@ use verdict::refusal;
 use x2_layout::Layout;
 
 // Follows the link `to` of the object `from`, which is the last of the n in path: opens each partial walk that goes on by it with at most
-// `left` objects more. Stops once the walks outnumber the budget.
+// `left` objects more, along the line to where it ends or forks. Stops once the walks outnumber the budget.
 fn follow(
     f: &[u8],
-    l: Layout,
+    e: Ends,
     from: u16,
     to: u16,
     path: &mut [u16],
+    marks: &mut [u16; CELLS],
     n: usize,
     left: usize,
     budget: usize,
     out: &mut [u8],
     t: Tally,
 ) -> Tally
-    requires { ⌜ Ready budget (now path) n left t ⌝ }
-    ensures kept { λ _. ⌜ take n (now (path .exit)) ≡ take n (now (path .entry)) ⌝ }
-    ensures grown { λ r. ⌜ Followed (now (f .entry)) l from to (take n (now (path .entry))) left budget t r (now (out .entry)) (now (out .exit)) ⌝ }
+    requires { ⌜ Ready budget (now marks) (now path) n left t ⌝ }
+    ensures held { λ _. ⌜ Held n (now (path .entry)) (now (path .exit)) (now (marks .exit)) ⌝ }
+    ensures grown { λ r. ⌜ Followed (now (f .entry)) e from to (take n (now (path .entry))) left budget t r (now (out .entry)) (now (out .exit)) ⌝ }
 {
-    if to == 0 {
-        return t;
-    }
-    if left == 0 {
-        return t;
-    }
-    if budget < t.walks {
-        return t;
-    }
-    if passed(path, n, to) {
-        return t;
-    }
-    path[n] = to;
-    let u = opened(t);
-    match object_at(f, l, to) {
-        Object::Boundary(_) => arrived(path, n + 1, out, t),
-        Object::Plain(p) => {
-            let next = p.onward(from);
-            follow(f, l, to, next, path, n + 1, left - 1, budget, out, u)
+    let mut last = from;
+    let mut next = to;
+    let mut k = n;
+    let mut more = left;
+    let mut u = t;
+    while opens(path, marks, k, next, more, u.walks, budget) {
+        push(path, marks, k, next);
+        k += 1;
+        more -= 1;
+        let w = opened(u);
+        match way_of(object_in(f, e, next), last) {
+            Way::Arrives => return arrived(path, k, out, u),
+            Way::Forks(j) => return branch(f, e, next, j, path, marks, k, more, budget, out, w),
+            Way::On(link) => {
+                u = w;
+                last = next;
+                next = link;
+            }
         }
-        Object::Turnout(j) => branch(f, l, from, to, j, path, n + 1, left - 1, budget, out, u),
-        Object::Nothing => u,
     }
+    u
 }
 
-// Goes on from the turnout `at`, the last of the n in path, which was entered from `from`: from the front by normal and then by reverse,
-// from either leg by the front.
+// Goes on from the turnout `at`, the last of the n in path, which was entered at the front: by normal and then by reverse.
 fn branch(
     f: &[u8],
-    l: Layout,
-    from: u16,
+    e: Ends,
     at: u16,
     links: TurnoutLinks,
     path: &mut [u16],
+    marks: &mut [u16; CELLS],
     n: usize,
     left: usize,
     budget: usize,
     out: &mut [u8],
     t: Tally,
 ) -> Tally
-    requires { ⌜ Ready budget (now path) n left t ⌝ }
-    ensures kept { λ _. ⌜ take n (now (path .exit)) ≡ take n (now (path .entry)) ⌝ }
-    ensures grown { λ r. ⌜ Branched (now (f .entry)) l from at links (take n (now (path .entry))) left budget t r (now (out .entry)) (now (out .exit)) ⌝ }
+    requires { ⌜ Ready budget (now marks) (now path) n left t ⌝ }
+    ensures held { λ _. ⌜ Held n (now (path .entry)) (now (path .exit)) (now (marks .exit)) ⌝ }
+    ensures grown { λ r. ⌜ Branched (now (f .entry)) e at links (take n (now (path .entry))) left budget t r (now (out .entry)) (now (out .exit)) ⌝ }
 {
-    let front = links.front;
     let normal = links.normal;
     let reverse = links.reverse;
-    if front == from {
-        let u = follow(f, l, at, normal, path, n, left, budget, out, t);
-        return follow(f, l, at, reverse, path, n, left, budget, out, u);
-    }
-    follow(f, l, at, front, path, n, left, budget, out, t)
+    let u = follow(f, e, at, normal, path, marks, n, left, budget, out, t);
+    follow(f, e, at, reverse, path, marks, n, left, budget, out, u)
 }
 
 // One pass over the partial walks from the boundary `start`, whose link is `first`: counts them, and stores the words of the routes as far
@@ -113,12 +113,26 @@ fn pass(
 {
     let mut path = [0u16; LIMIT_MOST];
     path[0] = start;
+    let mut marks = [0u16; CELLS];
     let t = Tally {
         walks: 1,
         routes: 0,
         words: 0,
     };
-    follow(f, l, start, first, &mut path, 1, limit - 1, budget, out, t)
+    let e = ends_of(l);
+    follow(
+        f,
+        e,
+        start,
+        first,
+        &mut path,
+        &mut marks,
+        1,
+        limit - 1,
+        budget,
+        out,
+        t,
+    )
 }
 
 // The limit that is meant.

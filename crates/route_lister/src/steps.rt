@@ -1,50 +1,73 @@
-// What the lister does with each partial walk that it opens: the test for a repeat, the count, and the words of a route.
+// What the lister does with each partial walk that it opens: the test whether it opens one, the count, and the words of a route.
 ghost use mathlib.Core.Path.{_≡_};
-ghost use Prim.Native.Nat.{_+_, _*_, _≤_};
+ghost use Prim.Native.Nat.{_+_, _≤_, _<_};
 ghost use mathlib.Core.List.{_∷_};
 ghost use lib.ListN.{length, take};
-ghost use Rattle.route_walks.specs.Walks.{has};
-ghost use Rattle.route_walks.specs.Lent.{lay, lays};
+ghost use Rattle.route_walks.specs.Lent.{roomOf, lay, lays};
 ghost use Rattle.route_walks.specs.Range.{limitMost, budgetMost};
 ghost use Rattle.route_walks.specs.inner.Grown.{Sane, Counted};
+ghost use Rattle.route_lister.specs.inner.Marks.{Marked};
+ghost use Rattle.route_lister.specs.inner.Steps.{Lesser, Tested};
+use crate::marks::CELLS;
+use crate::marks::stands;
 use route_walks::Tally;
 use route_walks::WORD_SIZE;
 
 // How many values a byte has.
 const BYTE_VALUES: u16 = 256;
 
-// Whether x stands among the first n of a path. Every one of them is looked at: without an early way out the loop takes several at a time.
-pub fn passed(path: &[u16], n: usize, x: u16) -> bool
-    requires { ⌜ n ≤ length (now path) ⌝ }
-    ensures { λ r. ⌜ r ≡ has (take n (now (path .entry))) x ⌝ }
+// Whether a walk of the first n of a path opens another by the link `to`: the link names an object, `left` objects more are allowed, the
+// walks do not outnumber the budget, and the object does not stand in the walk.
+pub fn opens(
+    path: &[u16],
+    marks: &[u16; CELLS],
+    n: usize,
+    to: u16,
+    left: usize,
+    walks: usize,
+    budget: usize,
+) -> bool
+    requires { ⌜ (n ≤ length (now path)) × Marked (now marks) (now path) n ⌝ }
+    ensures { λ r. ⌜ Tested (take n (now (path .entry))) to left walks budget r ⌝ }
 {
-    let mut found = false;
-    let mut i = 0;
-    while i < n {
-        found = found | (path[i] == x);
-        i += 1;
+    if to == 0 {
+        return false;
     }
-    found
+    if left == 0 {
+        return false;
+    }
+    if budget < walks {
+        return false;
+    }
+    !stands(path, marks, n, to)
 }
 
-// Stores a word in two bytes, low byte first, where there is room for it: never half a word.
+// Stores a word in two bytes, low byte first. There is room for it.
 fn store(out: &mut [u8], at: usize, word: u16)
+    requires { ⌜ at < roomOf (now out) ⌝ }
     ensures { λ _. ⌜ now (out .exit) ≡ lay (now (out .entry)) at word ⌝ }
 {
-    if at < out.len() / WORD_SIZE {
-        out[WORD_SIZE * at] = (word % BYTE_VALUES) as u8;
-        out[WORD_SIZE * at + 1] = (word / BYTE_VALUES) as u8;
-    }
+    out[WORD_SIZE * at] = (word % BYTE_VALUES) as u8;
+    out[WORD_SIZE * at + 1] = (word / BYTE_VALUES) as u8;
 }
 
-// Stores the words of the route in the first n of a path: its object count, and then the offsets.
+// The lesser of two numbers.
+fn lesser(a: usize, b: usize) -> usize
+    ensures { λ r. ⌜ Lesser a b r ⌝ }
+{
+    if a < b { a } else { b }
+}
+
+// Stores the words of the route in the first n of a path: its object count, for which there is room, and then the offsets, as many as find
+// room.
 fn put(path: &[u16], n: usize, out: &mut [u8], at: usize)
-    requires { ⌜ (n ≤ length (now path)) × (n ≤ limitMost) × (at ≤ (limitMost + 1) * (budgetMost + 1)) ⌝ }
+    requires { ⌜ (n ≤ length (now path)) × (n ≤ limitMost) × (at < roomOf (now out)) ⌝ }
     ensures { λ _. ⌜ now (out .exit) ≡ lays (now (out .entry)) at (n ∷ take n (now (path .entry))) ⌝ }
 {
+    let whole = lesser(n, out.len() / WORD_SIZE - at - 1);
     store(out, at, n as u16);
     let mut i = 0;
-    while i < n {
+    while i < whole {
         store(out, at + 1 + i, path[i]);
         i += 1;
     }
@@ -52,7 +75,7 @@ fn put(path: &[u16], n: usize, out: &mut [u8], at: usize)
 
 // The same, where there is room for the first of these words; the pass that only counts has none.
 fn put_in_room(path: &[u16], n: usize, out: &mut [u8], at: usize)
-    requires { ⌜ (n ≤ length (now path)) × (n ≤ limitMost) × (at ≤ (limitMost + 1) * (budgetMost + 1)) ⌝ }
+    requires { ⌜ (n ≤ length (now path)) × (n ≤ limitMost) ⌝ }
     ensures { λ _. ⌜ now (out .exit) ≡ lays (now (out .entry)) at (n ∷ take n (now (path .entry))) ⌝ }
 {
     let room = out.len() / WORD_SIZE;

@@ -1,9 +1,9 @@
--- `route_lister::store` meets its contract: a word that finds no room changes nothing.
+-- `route_lister::store` meets its contract: there is room for the word.
 use mathlib.Core.Path.{sym}
 use lib.ListN.{length-set}
 use native.Mathlib.Omega.{arith}
 use borrow.Author.Needs.{needs}
-use Rattle.route_walks.proofs.Lent.{lay-in, lay-out}
+use Rattle.route_walks.proofs.Lent.{lay-in}
 use Rattle.route_lister.proofs.steps.store.Statement.{statement}
 use Rattle.route_lister.proofs.steps.store.Tie as tie
 
@@ -11,10 +11,7 @@ slice-write-out-2 : tie.Need-slice-write-out-2
 slice-write-out-2 c = simp length-set (omega arith)
 
 returns : tie.Need-returns
-returns c = sym (lay-in _ _ _ (c .if1 .taken))
-
-returns-2 : tie.Need-returns-2
-returns-2 c = sym (lay-out _ _ _ (c .if1 .left))
+returns c = sym (lay-in _ _ _ (c .pre))
 
 pub store-spec : {M : Type 1} → statement M
 store-spec =
@@ -28,5 +25,4 @@ store-spec =
     (λ c. search needs)
     slice-write-out-2
     (λ c. search needs)
-    returns
-    returns-2)
+    returns)

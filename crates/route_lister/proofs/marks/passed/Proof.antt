@@ -1,4 +1,4 @@
--- `route_lister::passed` meets its contract. The loop's invariant: whether x is one of the objects before i.
+-- `route_lister::marks::passed` meets its contract. The loop's invariant: whether x is one of the objects before i.
 use mathlib.Core.Path.{_≡_, refl}
 use Prim.Native.Nat.{_-_, _≤_}
 use native.Mathlib.Omega.{arith}
@@ -6,8 +6,8 @@ use borrow.Author.Needs.{needs}
 use lib.ListN.{take}
 use Rattle.route_walks.specs.Walks.{has}
 use Rattle.route_lister.proofs.Stores.{looked-more}
-use Rattle.route_lister.proofs.steps.passed.Statement.{statement}
-use Rattle.route_lister.proofs.steps.passed.Tie as tie
+use Rattle.route_lister.proofs.marks.passed.Statement.{statement}
+use Rattle.route_lister.proofs.marks.passed.Tie as tie
 
 abbrev Inv-loop : tie.InvT-loop
 Inv-loop path n x found₀ i₀ found i = (i ≤ n) × (found ≡ has (take i path) x)
