@@ -1,13 +1,16 @@
 -- Names by the bytes that lie inside the file: past the end every byte is 0. The bytes 0x21 to 0x7E are counted up to the first that is
 -- none; where only zeros follow, the count is the name's length, and where something else follows, there is no name at all.
 use Prim.Native.Nat.{ℕ, _+_, _-_, min, _≤_, _<_}
-use mathlib.Core.Path.{_≡_, refl, sym, _∙_}
-use mathlib.Core.Bool.{Bool, true, false, _&&_}
+use mathlib.Core.Path.{_≡_, refl, sym, ap, _∙_}
+use mathlib.Core.Bool.{Bool, true, false, _&&_, _||_, and-false}
 use mathlib.Core.List.{List}
 use mathlib.Core.Logic.{_↔_, ⊎-elim}
 use native.Mathlib.Nat.{le-refl}
 use native.Mathlib.Omega.{arith}
-use lib.Dec.{leb}
+use lib.Dec.{leb, eqb}
+use mir.Val.{boolByte}
+use borrow.Author.Count.{below-more}
+use borrow.Author.Tests.{leb-true, leb-false, eqb-true, eqb-false}
 use lib.ListN.{length, getD, List·getD-eq-default}
 use Rattle.octets.specs.Octets.{numAt}
 use Rattle.verdict.proofs.Orders.{le-or-lt}
@@ -95,3 +98,80 @@ name-test f p least n l =
     let to = letters-name f p least n l in
     let on = object-name-iff f p least in
     same-test (test c) (test d) (Holds c) (Holds d) (agrees c) (agrees d) (λ h. on .1 (to .0 h), λ h. to .1 (on .0 h))
+
+-- ---- one pass over the eight bytes
+
+-- what the first k bytes are: letters, or n letters and then zeros, or no name's beginning
+pub data Spelt (f : List ℕ) (p k n : ℕ) : Bool → Bool → Type 0 where
+  lettered : n ≡ k → Passed f p k → Spelt f p k n true true
+  ended : n < k → Passed f p n → ((j : ℕ) → n ≤ j → j < k → byteAfter f p j ≡ 0) → Spelt f p k n true false
+  spoiled : {before : Bool} → ((least : ℕ) → ObjectName f p least → ⊥) → Spelt f p k n false before
+
+-- a byte that is neither a letter nor a zero is in no name
+stray : (f : List ℕ) (p k : ℕ) → k < 8 → (0x21 ≤ byteAfter f p k → byteAfter f p k ≤ 0x7E → ⊥) → (byteAfter f p k ≡ 0 → ⊥) → (least : ℕ) → ObjectName f p least → ⊥
+stray f p k h other z least r =
+    ⊎-elim (λ (g : r .count ≤ k). z (r .rest k g h)) (λ (g : k < r .count). let b = r .bytes k g in other (b .0) (b .1)) (le-or-lt (r .count) k)
+
+-- a letter after a zero is in no name
+late : (f : List ℕ) (p n k : ℕ) → n ≤ k → k < 8 → byteAfter f p n ≡ 0 → 0x21 ≤ byteAfter f p k → (least : ℕ) → ObjectName f p least → ⊥
+late f p n k l h z letter least r =
+    ⊎-elim
+    (λ (g : r .count ≤ n). let y = r .rest k (omega arith) h in omega arith)
+    (λ (g : n < r .count). let b = r .bytes n g .0 in omega arith)
+    (le-or-lt (r .count) n)
+
+-- what the byte at k is: a letter, a zero or neither
+pub data Byte (f : List ℕ) (p k : ℕ) : Bool → Bool → Type 0 where
+  letter : (0x21 ≤ byteAfter f p k) → (byteAfter f p k ≤ 0x7E) → Byte f p k true false
+  zero : byteAfter f p k ≡ 0 → Byte f p k false true
+  other : (0x21 ≤ byteAfter f p k → byteAfter f p k ≤ 0x7E → ⊥) → (byteAfter f p k ≡ 0 → ⊥) → Byte f p k false false
+
+pub byte-tests : (f : List ℕ) (p k : ℕ) → Byte f p k (leb 0x21 (getD f (p + k) 0) && leb (getD f (p + k) 0) 0x7E) (eqb (getD f (p + k) 0) 0)
+byte-tests f p k = go (leb 0x21 (getD f (p + k) 0)) (leb (getD f (p + k) 0) 0x7E) (eqb (getD f (p + k) 0) 0) refl refl refl (byte-is f p k)
+  where
+    go : (s t z : Bool) → leb 0x21 (getD f (p + k) 0) ≡ s → leb (getD f (p + k) 0) 0x7E ≡ t → eqb (getD f (p + k) 0) 0 ≡ z → byteAfter f p k ≡ getD f (p + k) 0 → Byte f p k (s && t) z
+    go true true true a b d i = let x = leb-true 0x21 (getD f (p + k) 0) a in let y = eqb-true (getD f (p + k) 0) 0 d in absurd (omega arith)
+    go true true false a b d i = let x = leb-true 0x21 (getD f (p + k) 0) a in let y = leb-true (getD f (p + k) 0) 0x7E b in letter (omega arith) (omega arith)
+    go true false true a b d i = let y = eqb-true (getD f (p + k) 0) 0 d in zero (omega arith)
+    go true false false a b d i =
+        let x = leb-false (getD f (p + k) 0) 0x7E b in
+        let y = eqb-false (getD f (p + k) 0) 0 d in
+        other (λ g l. omega arith) (λ e. y (omega arith))
+    go false t true a b d i = let y = eqb-true (getD f (p + k) 0) 0 d in zero (omega arith)
+    go false t false a b d i =
+        let x = leb-false 0x21 (getD f (p + k) 0) a in
+        let y = eqb-false (getD f (p + k) 0) 0 d in
+        other (λ g l. omega arith) (λ e. y (omega arith))
+
+pub at-most-one : (b : Bool) → boolByte b ≤ 1
+at-most-one true = omega arith
+at-most-one false = omega arith
+
+-- one byte more
+pub one-more : (f : List ℕ) (p k n : ℕ) (ok before l z : Bool) → k < 8 → Spelt f p k n ok before → Byte f p k l z → Spelt f p (k + 1) (n + boolByte l) (ok && (z || (l && before))) l
+one-more f p k n _ _ _ _ h (lettered e passed) (letter a b) = lettered (omega arith) (below-more (λ j. (0x21 ≤ byteAfter f p j) × (byteAfter f p j ≤ 0x7E)) k passed (a, b))
+one-more f p k n _ _ _ _ h (lettered e passed) (zero y) =
+    ended (omega arith) (λ j l. passed j (omega arith)) (λ j l g. let i : j ≡ k = omega arith in rw i y)
+one-more f p k n _ _ _ _ h (lettered e passed) (other a y) = spoiled (stray f p k h a y)
+one-more f p k n _ _ _ _ h (ended e passed rest) (letter a b) = spoiled (late f p n k (omega arith) h (rest n (le-refl n) e) a)
+one-more f p k n _ _ _ _ h (ended e passed rest) (zero y) =
+    ended (omega arith) (λ j l. passed j (omega arith)) (λ j l g. below-more (λ i. n ≤ i → byteAfter f p i ≡ 0) k (λ i m o. rest i o m) (λ o. y) j g (omega arith))
+one-more f p k n _ _ _ _ h (ended e passed rest) (other a y) = spoiled (stray f p k h a y)
+one-more f p k n _ _ _ _ h (spoiled never) (letter a b) = spoiled never
+one-more f p k n _ _ _ _ h (spoiled never) (zero y) = spoiled never
+one-more f p k n _ _ _ _ h (spoiled never) (other a y) = spoiled never
+
+-- n letters and then only zeros
+named : (f : List ℕ) (p n least : ℕ) → n ≤ 8 → Passed f p n → ((j : ℕ) → n ≤ j → j < 8 → byteAfter f p j ≡ 0) → (leb least n && true) ≡ test (objectName f p least)
+named f p n least m passed rest =
+    let l : Letters f p n = record { most = m; each = passed; next = λ a g o. let z = rest n (le-refl n) a in omega arith } in
+    ap (λ (t : Bool). leb least n && t) (all-zeros f p n 8 rest) ∙ name-test f p least n l
+
+-- all eight bytes: the letters were counted
+pub all-eight : (f : List ℕ) (p k n least : ℕ) (ok before : Bool) → k ≡ 8 → Spelt f p k n ok before → (leb least n && ok) ≡ test (objectName f p least)
+all-eight f p k n least _ _ e (lettered q passed) = named f p n least (omega arith) (λ j l. passed j (omega arith)) (λ j l g. absurd (omega arith))
+all-eight f p k n least _ _ e (ended q passed rest) = named f p n least (omega arith) passed (λ j l g. rest j l (omega arith))
+all-eight f p k n least _ _ e (spoiled never) =
+    let c : Claim = objectName f p least in
+    let none : Holds c → ⊥ = λ h. never least (object-name-iff f p least .0 h) in
+    and-false (leb least n) ∙ same-test false (test c) (Holds c) (Holds c) none (agrees c) (λ a. a, λ a. a)

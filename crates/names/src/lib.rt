@@ -148,13 +148,35 @@ fn codes(f: &[u8], place: usize, n: usize) -> bool
     ok
 }
 
-// The 8 bytes at a place are an object's name: `least` or more bytes 0x21 to 0x7E, then only 0x00.
-pub fn is_name(f: &[u8], place: usize, least: usize) -> bool
+// The 8 bytes at a place are an object's name, where the file ends inside them: those past its end count as 0.
+fn is_cut_name(f: &[u8], place: usize, least: usize) -> bool
     ensures { λ r. ⌜ r ≡ test (objectName (now (f .entry)) place least) ⌝ }
 {
     let n = letters(f, place);
     let ended = zeros(f, place, n, OBJECT_BYTES);
     (least <= n) & ended
+}
+
+// The 8 bytes at a place are an object's name: `least` or more bytes 0x21 to 0x7E, then only 0x00.
+pub fn is_name(f: &[u8], place: usize, least: usize) -> bool
+    ensures { λ r. ⌜ r ≡ test (objectName (now (f .entry)) place least) ⌝ }
+{
+    if inside(f, place, OBJECT_BYTES) < OBJECT_BYTES {
+        return is_cut_name(f, place, least);
+    }
+    let mut ok = true;
+    let mut before = true;
+    let mut n = 0;
+    let mut k = 0;
+    while k < OBJECT_BYTES {
+        let b = f[place + k];
+        let letter = (LEAST_BYTE <= b) & (b <= GREATEST_BYTE);
+        ok = ok & ((b == 0) | (letter & before));
+        before = letter;
+        n = n + letter as usize;
+        k = k + 1;
+    }
+    (least <= n) & ok
 }
 
 // The same, as a fact.

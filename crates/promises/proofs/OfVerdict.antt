@@ -16,6 +16,8 @@ use Rattle.verdict.proofs.PairVerdict.place.Kinds as pairverdict-place-kinds
 use Rattle.verdict.proofs.PairVerdict.place.Reads as pairverdict-place-reads
 use Rattle.verdict.proofs.PairVerdict.file.Kinds as pairverdict-file-kinds
 use Rattle.verdict.proofs.PairVerdict.file.Reads as pairverdict-file-reads
+use Rattle.verdict.proofs.Judged.is_accepted.Kinds as judged-is-accepted-kinds
+use Rattle.verdict.proofs.Judged.is_accepted.Reads as judged-is-accepted-reads
 use Rattle.verdict.proofs.Judged.shown.Kinds as judged-shown-kinds
 use Rattle.verdict.proofs.Judged.shown.Reads as judged-shown-reads
 use Rattle.verdict.proofs.also_fact.Kinds as also-fact-kinds
@@ -45,6 +47,9 @@ pairverdict-place-determined κs a = by-equation (λ v w. refl)
 
 pub pairverdict-file-determined : Determined 0 pairverdict-file-kinds.ps pairverdict-file-kinds.r pairverdict-file-reads.Pre pairverdict-file-reads.Post
 pairverdict-file-determined κs a = by-equation (λ v w. refl)
+
+pub judged-is-accepted-determined : Determined 0 judged-is-accepted-kinds.ps judged-is-accepted-kinds.r judged-is-accepted-reads.Pre judged-is-accepted-reads.Post
+judged-is-accepted-determined κs a = by-equation (λ v w. refl)
 
 pub judged-shown-determined : Determined 0 judged-shown-kinds.ps judged-shown-kinds.r judged-shown-reads.Pre judged-shown-reads.Post
 judged-shown-determined κs a = by-equation (λ v w. refl)

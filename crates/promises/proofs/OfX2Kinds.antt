@@ -2,6 +2,8 @@
 use mathlib.Core.Path.{refl}
 use Rattle.promises.specs.Determined.{Determined}
 use Rattle.promises.proofs.Equations.{by-equation}
+use Rattle.x2_kinds.proofs.balise_obeys.Kinds as balise-obeys-kinds
+use Rattle.x2_kinds.proofs.balise_obeys.Reads as balise-obeys-reads
 use Rattle.x2_kinds.proofs.kind_obeys.Kinds as kind-obeys-kinds
 use Rattle.x2_kinds.proofs.kind_obeys.Reads as kind-obeys-reads
 use Rattle.x2_kinds.proofs.kind_fields.Kinds as kind-fields-kinds
@@ -12,3 +14,6 @@ kind-obeys-determined κs a = by-equation (λ v w. refl)
 
 pub kind-fields-determined : Determined 1 kind-fields-kinds.ps kind-fields-kinds.r kind-fields-reads.Pre kind-fields-reads.Post
 kind-fields-determined κs a = by-equation (λ v w. refl)
+
+pub balise-obeys-determined : Determined 1 balise-obeys-kinds.ps balise-obeys-kinds.r balise-obeys-reads.Pre balise-obeys-reads.Post
+balise-obeys-determined κs a = by-equation (λ v w. refl)

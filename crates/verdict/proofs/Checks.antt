@@ -1,13 +1,13 @@
 -- The loops over records that stand without gaps: what one turn does, and the end, for each kind of check.
 use Prim.Native.Nat.{ℕ, _+_, _<_, _≤_}
-use mathlib.Core.Path.{_≡_, sym, _∙_}
+use mathlib.Core.Path.{_≡_, sym, ap, _∙_}
 use mathlib.Core.Bool.{Bool, true, false, not, _&&_, _||_, or-assoc, or-false, and-assoc, and-true}
 use mathlib.Core.List.{List, flatMap}
 use borrow.Author.Tests.{not-true, not-false}
 use Rattle.verdict.specs.declared.Judged.{Judged}
 use Rattle.verdict.specs.Facts.{anyOf, allOf, Fact, allTests, judge}
 use Rattle.verdict.specs.Walk.{startsFrom}
-use Rattle.verdict.proofs.Facts.{judge-append, tests-hold, tests-fail}
+use Rattle.verdict.proofs.Facts.{judge-append, tests-hold, tests-fail, tests-append}
 use Rattle.verdict.proofs.Walk.{starts-step, starts-stop}
 
 -- One turn of a loop that judges each record: the record's own facts, then those of the records that follow.
@@ -52,3 +52,18 @@ module _ (size : ℕ → ℕ) (end : ℕ) (t : ℕ → Bool) where
 
   pub all-stop : (b : Bool) (at : ℕ) → end ≤ at → (b && allOf t (startsFrom size end at)) ≡ b
   all-stop b at h = rw (starts-stop size end at h) (and-true b)
+
+-- One turn of a loop that tests the facts of each record, and has no early exit.
+module _ (size : ℕ → ℕ) (end : ℕ) (facts : ℕ → List Fact) where
+  pub tests-step :
+      ((x : ℕ) → 0 < size x) → (b d : Bool) (at next : ℕ) → at < end → d ≡ (b && allTests (facts at)) → next ≡ at + size at
+      → (d && allTests (flatMap facts (startsFrom size end next))) ≡ (b && allTests (flatMap facts (startsFrom size end at)))
+  unfolding flatMap
+  tests-step pos b d at next h e q =
+      let rest = flatMap facts (startsFrom size end (at + size at)) in
+      rw (e, q, starts-step size end pos at h)
+      (and-assoc b (allTests (facts at)) (allTests rest) ∙ ap (λ (t : Bool). b && t) (sym (tests-append (facts at) rest)))
+
+  pub tests-stop : (b : Bool) (at : ℕ) → end ≤ at → (b && allTests (flatMap facts (startsFrom size end at))) ≡ b
+  unfolding flatMap
+  tests-stop b at h = rw (starts-stop size end at h) (and-true b)

@@ -12,6 +12,7 @@ use borrow.Author.Tests.{eqb-true, eqb-false, leb-true, leb-false}
 use Rattle.verdict.specs.declared.Mark.{Mark}
 use Rattle.verdict.specs.declared.Judged.{Judged}
 use Rattle.verdict.specs.declared.Judged.the-variants.{Accepted, Refused}
+use Rattle.verdict.specs.inner.Accepted.{isAccepted}
 use Rattle.verdict.specs.Facts.{Claim, always, same, atMost, both, either, denied, some, every, anyOf, allOf, test, Holds, Fact, fact, firstFault, AllHold, allTests, also, judge, Marked, TrueReason}
 
 -- ---- one fact
@@ -146,6 +147,23 @@ tests-append (fact c m ∷ fs) b = ap (λ (t : Bool). test c && t) (tests-append
 
 pub tests-then : (x y : Bool) (a b : List Fact) → x ≡ allTests a → y ≡ allTests b → (x && y) ≡ allTests (a ++ b)
 tests-then x y a b p q = ap₂ _&&_ p q ∙ sym (tests-append a b)
+
+-- the same of a test that a check makes first
+pub tests-passed : (v : Judged) (t : Bool) (fs : List Fact) → t ≡ allTests fs → t ≡ true → v ≡ judge v fs
+tests-passed v t fs e h = sym (tests-hold v fs (sym e ∙ h))
+
+-- the facts are accepted exactly where all tests pass
+accepted-tests : (fs : List Fact) → isAccepted (judge Accepted fs) ≡ allTests fs
+unfolding also
+accepted-tests [] = refl
+accepted-tests (fact c m ∷ fs) = go (test c) (accepted-tests fs)
+  where
+    go : (t : Bool) → isAccepted (judge Accepted fs) ≡ allTests fs → isAccepted (judge (also Accepted t m) fs) ≡ (t && allTests fs)
+    go true ih = ih
+    go false ih = ap isAccepted (judge-refused m fs)
+
+pub tests-judged : (v : Judged) (r : Bool) (fs : List Fact) → v ≡ judge Accepted fs → r ≡ isAccepted v → r ≡ allTests fs
+tests-judged v r fs p q = q ∙ ap isAccepted p ∙ accepted-tests fs
 
 -- ---- one check after the other: a refusal is answered at once, and after an acceptance the next check counts
 

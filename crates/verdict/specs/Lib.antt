@@ -3,3 +3,4 @@ pub mod Answers
 pub mod Facts
 pub mod Walk
 pub mod Order
+pub mod inner

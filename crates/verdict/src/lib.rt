@@ -3,6 +3,7 @@ ghost use mathlib.Core.Path.{_≡_};
 ghost use Rattle.verdict.specs.Reasons.{numberOf, fileOf, shownOf, numberIn, placeIn, pairNumberIn, pairPlaceIn, pairFileIn};
 ghost use Rattle.verdict.specs.Answers.{refusal, faultIn};
 ghost use Rattle.verdict.specs.Facts.{mark, also};
+ghost use Rattle.verdict.specs.inner.Accepted.{isAccepted};
 
 // Why an answer is refused, in the order of 01's table: 6 comes before 5.
 pub enum Reason {
@@ -233,6 +234,16 @@ impl PairVerdict {
 }
 
 impl Judged {
+    // Whether no fact failed.
+    pub fn is_accepted(self) -> bool
+        ensures { λ r. ⌜ r ≡ isAccepted self ⌝ }
+    {
+        match self {
+            Judged::Accepted => true,
+            Judged::Refused(_) => false,
+        }
+    }
+
     // The verdict that is answered: the mark's reason and place.
     pub fn shown(self) -> Verdict
         ensures { λ r. ⌜ r ≡ shownOf self ⌝ }

@@ -1,5 +1,6 @@
 // The fields of X.1's header, of a track's entry and of a point (01, 'Fields'): 5 in 01's table. For an entry and for a point there are two
-// functions: one tests it, and one is the verdict so far, then its facts. `e` and `p` are where it starts.
+// functions: one tests it, and one is the verdict so far, then its facts. `e` and `p` are where it starts. A test asks once whether the
+// file ends inside the record, and then goes fact by fact, so that its reads need not ask it again.
 ghost use mathlib.Core.Path.{_≡_};
 ghost use Rattle.verdict.specs.Facts.{allTests, judge};
 ghost use Rattle.x1_fields.specs.Fields.{headerFields, entryFields, pointFields};
@@ -33,6 +34,9 @@ pub fn header_fields(v: Judged, f: &[u8]) -> Judged
 pub fn entry_obeys(f: &[u8], e: u32) -> bool
     ensures { λ r. ⌜ r ≡ allTests (entryFields (now (f .entry)) e) ⌝ }
 {
+    if f.len() < e as usize + Track::SIZE as usize {
+        return entry_fields(Judged::Accepted, f, e).is_accepted();
+    }
     let number = lies_between(f, e, Track::NUMBER, 1, 255);
     let property = lies_between(f, e, Track::PROPERTY, 1, 5);
     let start = equals(f, e, Track::START_POSITION, 0);
@@ -62,6 +66,9 @@ pub fn entry_fields(v: Judged, f: &[u8], e: u32) -> Judged
 pub fn point_obeys(f: &[u8], p: u32) -> bool
     ensures { λ r. ⌜ r ≡ allTests (pointFields (now (f .entry)) p) ⌝ }
 {
+    if f.len() < p as usize + Point::SIZE as usize {
+        return point_fields(Judged::Accepted, f, p).is_accepted();
+    }
     lies_between(f, p, Point::POSITION, 0, POSITION_MOST)
         && (lies_within(f, p, Point::HEADING, HEADING_MOST)
             && lies_between(f, p, Point::NEAR, 0, 1))

@@ -1,9 +1,11 @@
 -- How the verdict of a check comes from the verdicts of its parts, one law for each way out of the code.
-use Prim.Native.Nat.{ℕ, _+_}
+use Prim.Native.Nat.{ℕ, _+_, _≤_, _<_}
 use mathlib.Core.Path.{_≡_, _∙_, sym, ap}
-use mathlib.Core.Bool.{Bool, cond, _&&_}
+use mathlib.Core.Bool.{Bool, true, cond, _&&_, and-true}
 use mathlib.Core.List.{List, [], _∷_, _++_, flatMap}
 use lib.Dec.{ltb, eqb}
+use native.Mathlib.Omega.{arith}
+use borrow.Author.Tests.{le-ltb, ne-eqb}
 use Rattle.verdict.specs.declared.Mark.{Mark}
 use Rattle.verdict.specs.declared.Judged.{Judged}
 use Rattle.verdict.specs.declared.Judged.the-variants.{Accepted, Refused}
@@ -18,8 +20,16 @@ use Rattle.x1_verdict.specs.Fields.{allPoints, fieldFacts}
 use Rattle.x1_verdict.specs.Agreement.{numberAgrees, opens, rises, stays, closes, pointAgrees, pointsOf, trackAgrees, agreementFacts}
 use Rattle.x1_verdict.specs.Facts.{fileType, checkFacts, facts, judgedOf}
 
+-- A refusal stays, whatever facts follow.
+refused-stays : (w : Judged) (m : Mark) (fs : List Fact) → w ≡ Refused m → w ≡ judge w fs
+refused-stays w m fs e = e ∙ sym (judge-refused m fs) ∙ ap (λ (y : Judged). judge y fs) (sym e)
+
+-- After an acceptance the facts that follow count alone.
+accepted-goes : (w r : Judged) (fs : List Fact) → w ≡ Accepted → r ≡ judge Accepted fs → r ≡ judge w fs
+accepted-goes w r fs e q = q ∙ ap (λ (y : Judged). judge y fs) (sym e)
+
 module _ (f : List ℕ) (size : ℕ) (v x y r : Judged) where
-  pub fields-judged : x ≡ judge v (headerFields f) → y ≡ judge x (flatMap (entryFields f) (entries f)) → r ≡ judge y (flatMap (pointFields f) (allPoints f size)) → r ≡ judge v (fieldFacts f size)
+  fields-judged : x ≡ judge v (headerFields f) → y ≡ judge x (flatMap (entryFields f) (entries f)) → r ≡ judge y (flatMap (pointFields f) (allPoints f size)) → r ≡ judge v (fieldFacts f size)
   unfolding fieldFacts
   fields-judged p q s =
       judge-then v x r (headerFields f) (flatMap (entryFields f) (entries f) ++ flatMap (pointFields f) (allPoints f size)) p
@@ -31,6 +41,21 @@ module _ (f : List ℕ) (size : ℕ) (v x y r : Judged) where
       judge-then v x r (cond (ltb p (firstOf f e + size)) (opens f size p) (rises f size p)) (stays f e p ++ cond (eqb p (lastOf f e)) (closes f e p) [])
       (a ∙ ap (λ (n : ℕ). judge v (cond (ltb p (n + size)) (opens f size p) (rises f size p))) i)
       (judge-then x y r (stays f e p) (cond (eqb p (lastOf f e)) (closes f e p) []) b (d ∙ ap (λ (n : ℕ). judge y (cond (eqb p n) (closes f e p) [])) j))
+
+-- The fields, where a refusal is answered at once: x is the verdict of the header, y of the entries, r of the points.
+module _ (f : List ℕ) (size : ℕ) (v x : Judged) (p : x ≡ judge v (headerFields f)) where
+  pub header-refused : (m : Mark) → x ≡ Refused m → x ≡ judge v (fieldFacts f size)
+  header-refused m e =
+      fields-judged f size v x x x p (refused-stays x m (flatMap (entryFields f) (entries f)) e) (refused-stays x m (flatMap (pointFields f) (allPoints f size)) e)
+
+  module _ (e : x ≡ Accepted) (y : Judged) (q : y ≡ judge Accepted (flatMap (entryFields f) (entries f))) where
+    pub entries-refused : (m : Mark) → y ≡ Refused m → y ≡ judge v (fieldFacts f size)
+    entries-refused m g =
+        fields-judged f size v x y y p (accepted-goes x y (flatMap (entryFields f) (entries f)) e q) (refused-stays y m (flatMap (pointFields f) (allPoints f size)) g)
+
+    pub points-judged : y ≡ Accepted → (r : Judged) → r ≡ judge Accepted (flatMap (pointFields f) (allPoints f size)) → r ≡ judge v (fieldFacts f size)
+    points-judged g r s =
+        fields-judged f size v x y r p (accepted-goes x y (flatMap (entryFields f) (entries f)) e q) (accepted-goes y r (flatMap (pointFields f) (allPoints f size)) g s)
 
 module _ (f : List ℕ) (size : ℕ) (v x r : Judged) where
   pub track-judged : (e : ℕ) → x ≡ judge v (numberAgrees f e) → r ≡ judge x (flatMap (pointAgrees f size e) (pointsOf f size e)) → r ≡ judge v (trackAgrees f size e)
@@ -46,9 +71,14 @@ module _ (f : List ℕ) (size : ℕ) (x y z : Bool) where
       (a ∙ ap (λ (n : ℕ). allTests (cond (ltb p (n + size)) (opens f size p) (rises f size p))) i)
       (tests-then y z (stays f e p) (cond (eqb p (lastOf f e)) (closes f e p) []) b (d ∙ ap (λ (n : ℕ). allTests (cond (eqb p n) (closes f e p) [])) j))
 
--- A refusal stays, whatever facts follow.
-pub refused-stays : (w : Judged) (m : Mark) (fs : List Fact) → w ≡ Refused m → w ≡ judge w fs
-refused-stays w m fs e = e ∙ sym (judge-refused m fs) ∙ ap (λ (y : Judged). judge y fs) (sym e)
+-- The tests of a point that is neither the first nor the last of its track.
+module _ (f : List ℕ) (size : ℕ) (x y : Bool) where
+  pub later-tested : (e first last p : ℕ) → first ≡ firstOf f e → last ≡ lastOf f e → first + size ≤ p → p < last → x ≡ allTests (rises f size p) → y ≡ allTests (stays f e p)
+      → (x && y) ≡ allTests (pointAgrees f size e p)
+  later-tested e first last p i j h g a b =
+      let n : p ≡ last → ⊥ = λ q. omega arith in
+      ap (λ (t : Bool). x && t) (sym (and-true y))
+      ∙ point-tested f size x y true e first last p i j (rw (le-ltb p (first + size) h) a) b (rw (ne-eqb p last n))
 
 -- The checks of a file, one after the other: s is the verdict of the length, t of the checksum, the type and the version, l of the
 -- layout, d of the fields.

@@ -1,2 +1,3 @@
 pub mod Checks
 pub mod Starts
+pub mod Tracks

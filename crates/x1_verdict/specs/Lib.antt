@@ -1,3 +1,4 @@
 pub mod Fields
 pub mod Agreement
 pub mod Facts
+pub mod inner

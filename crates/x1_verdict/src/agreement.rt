@@ -12,6 +12,7 @@ ghost use Rattle.rules.specs.Rules.{zeroAt, sameAs, above};
 ghost use Rattle.tables.specs.Table.{signedOf};
 ghost use Rattle.x1_layout.specs.Layout.{firstOf, lastOf};
 ghost use Rattle.x1_verdict.specs.Agreement.{SumOf, Roomy, FrameOf, fieldRow, pointMark, sumWithin, sumIs, numberAgrees, opens, rises, stays, closes, pointAgrees, pointsOf, trackAgrees, agreementFacts};
+ghost use Rattle.x1_verdict.specs.inner.FirstOff.{Later, LaterOff, FirstOff};
 use octets::byte_at;
 use octets::distance;
 use rules::above;
@@ -178,6 +179,16 @@ fn frame_of(f: &[u8], e: u32) -> Frame
 // ---- the facts
 
 // The number of the entry at e is above that of the entry before it.
+fn number_obeys(f: &[u8], e: u32) -> bool
+    ensures { λ r. ⌜ r ≡ allTests (numberAgrees (now (f .entry)) e) ⌝ }
+{
+    if is_first(e) {
+        return true;
+    }
+    number_of(f, entry_before(e), Track::NUMBER) < number_of(f, e, Track::NUMBER)
+}
+
+// The same, as a fact.
 fn number_agrees(v: Judged, f: &[u8], e: u32) -> Judged
     ensures { λ r. ⌜ r ≡ judge v (numberAgrees (now (f .entry)) e) ⌝ }
 {
@@ -297,6 +308,9 @@ fn point_obeys(f: &[u8], size: u8, e: u32, t: Frame, p: u32) -> bool
     requires { ⌜ FrameOf (now f) e t ⌝ }
     ensures { λ r. ⌜ r ≡ allTests (pointAgrees (now (f .entry)) size e p) ⌝ }
 {
+    if f.len() < p as usize + Point::SIZE as usize {
+        return point_agrees(Judged::Accepted, f, size, e, t.first, t.last, p).is_accepted();
+    }
     start_obeys(f, size, t.first, p) && (stay_obeys(f, e, t, p) && end_obeys(f, e, t, p))
 }
 
@@ -310,20 +324,78 @@ fn point_agrees(v: Judged, f: &[u8], size: u8, e: u32, first: u16, last: u16, p:
     ends_right(w, f, e, last, p)
 }
 
+// A point of the entry at e obeys that is neither its first nor its last one.
+fn later_obeys(f: &[u8], size: u8, e: u32, t: Frame, p: u32) -> bool
+    requires { ⌜ Later (now f) size e t p ⌝ }
+    ensures { λ r. ⌜ r ≡ allTests (pointAgrees (now (f .entry)) size e p) ⌝ }
+{
+    if f.len() < p as usize + Point::SIZE as usize {
+        return point_agrees(Judged::Accepted, f, size, e, t.first, t.last, p).is_accepted();
+    }
+    let before = number_of(f, p - size as u32, Point::POSITION);
+    let rises = before < number_of(f, p, Point::POSITION);
+    let stays = stay_obeys(f, e, t, p);
+    rises & stays
+}
+
+// Where the first of those points stands that does not obey; where each obeys, the place after them.
+fn later_off(f: &[u8], size: u8, e: u32, t: Frame) -> u32
+    requires { ⌜ FrameOf (now f) e t × (0 < size) ⌝ }
+    ensures { λ r. ⌜ LaterOff (now (f .entry)) size e r ⌝ }
+{
+    let step = size as u32;
+    let last = t.last as u32;
+    let mut p = t.first as u32 + step;
+    while p < last {
+        if !later_obeys(f, size, e, t, p) {
+            return p;
+        }
+        p = p + step;
+    }
+    p
+}
+
+// Where the first point of the entry at e stands that does not obey; where each obeys, a place past them all.
+fn first_off(f: &[u8], size: u8, e: u32) -> u32
+    requires { ⌜ 0 < size ⌝ }
+    ensures { λ r. ⌜ FirstOff (now (f .entry)) size e r ⌝ }
+{
+    let t = frame_of(f, e);
+    let first = t.first as u32;
+    if !point_obeys(f, size, e, t, first) {
+        return first;
+    }
+    let p = later_off(f, size, e, t);
+    if p < t.last as u32 {
+        return p;
+    }
+    if !point_obeys(f, size, e, t, p) {
+        return p;
+    }
+    p + size as u32
+}
+
+// The entry at e and its points obey.
+fn track_obeys(f: &[u8], size: u8, e: u32) -> bool
+    requires { ⌜ 0 < size ⌝ }
+    ensures { λ r. ⌜ r ≡ allTests (trackAgrees (now (f .entry)) size e) ⌝ }
+{
+    let number = number_obeys(f, e);
+    let stop = number_of(f, e, Track::LAST) + size as usize;
+    let off = first_off(f, size, e) as usize;
+    number & (stop <= off)
+}
+
 // The points of the entry at e: the first that does not obey is the verdict.
 fn points_agree(v: Judged, f: &[u8], size: u8, e: u32) -> Judged
     requires { ⌜ 0 < size ⌝ }
     ensures { λ r. ⌜ r ≡ judge v (flatMap (pointAgrees (now (f .entry)) size e) (pointsOf (now (f .entry)) size e)) ⌝ }
 {
-    let t = frame_of(f, e);
-    let step = size as u32;
-    let stop = t.last as u32 + step;
-    let mut p = t.first as u32;
-    while p < stop {
-        if !point_obeys(f, size, e, t, p) {
-            return point_agrees(v, f, size, e, t.first, t.last, p);
-        }
-        p = p + step;
+    let first = number_of(f, e, Track::FIRST) as u16;
+    let last = number_of(f, e, Track::LAST) as u16;
+    let off = first_off(f, size, e);
+    if off < last as u32 + size as u32 {
+        return point_agrees(v, f, size, e, first, last, off);
     }
     v
 }
@@ -337,20 +409,18 @@ fn track_agrees(v: Judged, f: &[u8], size: u8, e: u32) -> Judged
     points_agree(w, f, size, e)
 }
 
-// The verdict so far, then the agreement: after a track at fault none is looked at.
+// The verdict so far, then the agreement: the facts of the first track that does not obey are the verdict.
 pub fn check_agreement(v: Judged, f: &[u8], size: u8) -> Judged
     requires { ⌜ 0 < size ⌝ }
     ensures { λ r. ⌜ r ≡ judge v (agreementFacts (now (f .entry)) size) ⌝ }
 {
     let points = points_at(f);
-    let mut w = v;
     let mut e = ENTRIES;
     while e < points {
-        w = track_agrees(w, f, size, e);
-        let Judged::Accepted = w else {
-            return w;
-        };
+        if !track_obeys(f, size, e) {
+            return track_agrees(v, f, size, e);
+        }
         e = e + Track::SIZE as u32;
     }
-    w
+    v
 }

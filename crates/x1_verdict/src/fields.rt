@@ -55,7 +55,13 @@ pub fn check_fields(v: Judged, f: &[u8], size: u8) -> Judged
     requires { ⌜ (length (now f) ≤ mostLength) × (0 < size) ⌝ }
     ensures { λ r. ⌜ r ≡ judge v (fieldFacts (now (f .entry)) size) ⌝ }
 {
-    let mut w = header_fields(v, f);
-    w = entries_fields(w, f);
-    points_fields(w, f, size)
+    let opened = header_fields(v, f);
+    let Judged::Accepted = opened else {
+        return opened;
+    };
+    let entered = entries_fields(Judged::Accepted, f);
+    let Judged::Accepted = entered else {
+        return entered;
+    };
+    points_fields(Judged::Accepted, f, size)
 }

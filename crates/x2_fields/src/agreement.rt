@@ -7,6 +7,7 @@ ghost use Rattle.x2_layout.specs.inner.Bounds.{countMost, placeMost, headerMost
 ghost use Rattle.x2_layout.specs.Records.{eachAfter};
 ghost use Rattle.x2_fields.specs.Agreement.{entriesAgree, rankInCount, goesBefore, inSequence, kindAgrees, agreementFacts};
 use rules::same_as;
+use tables::equals;
 use tables::number_of;
 use tables::place_of;
 use verdict::Judged;
@@ -25,10 +26,29 @@ use x2_records::Boundary;
 use x2_records::Kind;
 
 // The tracks in so many entries are those of the boundaries from a place on.
-fn entries_agree(v: Judged, f: &[u8], entries: usize, from: usize, count: usize) -> Judged
+fn entries_obey(f: &[u8], entries: usize, from: usize, count: usize) -> bool
+    requires { ⌜ (entries ≤ headerMost) × (from ≤ placeMost) × (count ≤ countMost) ⌝ }
+    ensures { λ r. ⌜ r ≡ allTests (entriesAgree (now (f .entry)) entries from count) ⌝ }
+{
+    let mut ok = true;
+    let mut i = 0;
+    while i < count {
+        let entry = (entries + ENTRY_SIZE * i) as u32;
+        let own = number_of(f, (from + Boundary::SIZE * i) as u32, Boundary::TRACK);
+        ok = ok & equals(f, entry, ENTRY_TRACK, own);
+        i = i + 1;
+    }
+    ok
+}
+
+// The same, as facts, one by one only where they do not obey.
+pub fn entries_agree(v: Judged, f: &[u8], entries: usize, from: usize, count: usize) -> Judged
     requires { ⌜ (entries ≤ headerMost) × (from ≤ placeMost) × (count ≤ countMost) ⌝ }
     ensures { λ r. ⌜ r ≡ judge v (entriesAgree (now (f .entry)) entries from count) ⌝ }
 {
+    if entries_obey(f, entries, from, count) {
+        return v;
+    }
     let width = ENTRY_TRACK.1;
     let mut w = v;
     let mut i = 0;
@@ -83,9 +103,11 @@ fn goes_before(f: &[u8], k: Kind, before: u32, at: u32) -> bool
 fn sequence_obeys(f: &[u8], l: Layout, before: u32, at: u32) -> bool
     ensures { λ r. ⌜ r ≡ allTests (inSequence (now (f .entry)) l before at ∷ []) ⌝ }
 {
-    let rank = Balise::rank_of(number_of(f, at, Balise::GROUP));
+    if Balise::rank_of(number_of(f, at, Balise::GROUP)) == 1 {
+        return true;
+    }
     let k = kind_at(l, before as usize);
-    (rank == 1) | goes_before(f, k, before, at)
+    goes_before(f, k, before, at)
 }
 
 // The same, as a fact.
@@ -99,7 +121,7 @@ fn in_sequence(v: Judged, f: &[u8], l: Layout, before: u32, at: u32) -> Judged
 }
 
 // A record of a kind, after the one at `before`: only a balise has rules.
-fn agreement_obeys(f: &[u8], l: Layout, before: u32, k: Kind, at: u32) -> bool
+pub fn agreement_obeys(f: &[u8], l: Layout, before: u32, k: Kind, at: u32) -> bool
     ensures { λ r. ⌜ r ≡ allTests (kindAgrees (now (f .entry)) l before k at) ⌝ }
 {
     match k {

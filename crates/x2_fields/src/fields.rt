@@ -1,10 +1,13 @@
 // The fields of X.2: 5 in 01's table.
 ghost use mathlib.Core.Path.{_≡_};
 ghost use Rattle.verdict.specs.Facts.{judge};
+ghost use Rattle.verdict.specs.declared.Judged.the-variants.{Accepted};
 ghost use Rattle.x2_layout.specs.inner.Bounds.{Bounded, ifBounded};
 ghost use Rattle.x2_layout.specs.Records.{eachRecord};
 ghost use Rattle.x2_kinds.specs.KindFields.{kindFields};
 ghost use Rattle.x2_fields.specs.Fields.{fieldFacts};
+ghost use Rattle.x2_fields.specs.inner.Header.{headerFacts};
+use crate::agreement::entries_agree;
 use crate::header::entries_fields;
 use crate::header::header_fields;
 use verdict::Judged;
@@ -32,6 +35,29 @@ fn records_fields(v: Judged, f: &[u8], l: Layout) -> Judged
         at = at + size_of(f, k, at);
     }
     v
+}
+
+// The fields of the header, and the tracks of its boundaries, which are those of the records.
+fn all_header(f: &[u8], l: Layout) -> Judged
+    requires { ⌜ Bounded l ⌝ }
+    ensures { λ r. ⌜ r ≡ judge Accepted (headerFacts (now (f .entry)) l) ⌝ }
+{
+    let end_entries = START_ENTRIES + ENTRY_SIZE * l.n + 1;
+    let mut w = header_fields(Judged::Accepted, f);
+    w = entries_fields(w, f, START_ENTRIES, l.n);
+    w = entries_fields(w, f, end_entries, l.k);
+    w = entries_agree(w, f, START_ENTRIES, l.starts, l.n);
+    entries_agree(w, f, end_entries, l.ends, l.k)
+}
+
+// What the header is asked by itself: its fields and its agreement. A layout that no file has is not looked at.
+pub fn check_header(f: &[u8], l: Layout) -> Judged
+    ensures { λ r. ⌜ r ≡ judge Accepted (ifBounded l (headerFacts (now (f .entry)) l)) ⌝ }
+{
+    if !is_bounded(l) {
+        return Judged::Accepted;
+    }
+    all_header(f, l)
 }
 
 // The fields of the header and of every record.

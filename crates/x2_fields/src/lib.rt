@@ -4,5 +4,7 @@ mod agreement;
 mod fields;
 mod header;
 
+pub use agreement::agreement_obeys;
 pub use agreement::check_agreement;
 pub use fields::check_fields;
+pub use fields::check_header;

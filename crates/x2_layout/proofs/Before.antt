@@ -16,7 +16,8 @@ use Rattle.x2_layout.specs.declared.Layout.{Layout}
 use Rattle.x2_layout.specs.Records.{kindAt, IsSize, sizeOf, sizeAt, starts, beforeIn, recordBefore, DirectlyBefore, eachAfter}
 use Rattle.x2_layout.proofs.Records.{sizeAt-pos}
 use Rattle.x2_layout.proofs.Walks.{starts-between, starts-reached}
-use Rattle.x2_layout.proofs.Walking.{Walking, walking-stop, walking-over, walking-fault}
+use Rattle.x2_layout.specs.inner.Walking.{Walking, Following}
+use Rattle.x2_layout.proofs.Walking.{walking-stop, walking-over, walking-fault}
 
 module _ (size : ℕ → ℕ) (end : ℕ) (pos : (x : ℕ) → 0 < size x) where
   -- one step of the search
@@ -91,11 +92,6 @@ module _ (f : List ℕ) (l : Layout) (x : ℕ) (m : List·Memᴰ x (starts f l))
       (before-found size (l .end) pos 0 (w .reached) (w .below))
 
 -- ---- a loop over the records that keeps the start of the one before
-
--- The records before `at` are right, and the search for the record before one that is still to come goes on from `at` with `before`.
-pub record Following (f : List ℕ) (l : Layout) (facts : ℕ → Kind → ℕ → List Fact) (v : Judged) (before at : ℕ) : Type 0 where
-  pub walking : Walking f l (λ k x. facts (recordBefore f l x) k x) v at
-  pub onward-is : (x : ℕ) → at ≤ x → recordBefore f l x ≡ beforeIn before (startsFrom (sizeAt f l) (l .end) at) x
 
 pub following-start : (f : List ℕ) (l : Layout) (facts : ℕ → Kind → ℕ → List Fact) (v : Judged) → Following f l facts v 0 (l .starts)
 unfolding recordBefore

@@ -11,3 +11,4 @@ pub mod Walking
 pub mod Before
 pub mod Grouped
 pub mod Loops
+pub mod Sizes

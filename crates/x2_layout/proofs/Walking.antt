@@ -1,4 +1,4 @@
--- A loop over the records of a file that tests each of them: where it stands, one turn, and the end.
+-- A loop over the records of a file that tests each of them: one turn, and the end.
 use Prim.Native.Nat.{ℕ, _+_, _≤_, _<_}
 use mathlib.Core.Path.{_≡_, _∙_, sym, ap}
 use mathlib.Core.Bool.{Bool, true, false, not}
@@ -10,11 +10,8 @@ use Rattle.verdict.proofs.Checks.{judge-stop, passes-over, fails-here}
 use Rattle.x2_records.specs.declared.Kind.{Kind}
 use Rattle.x2_layout.specs.declared.Layout.{Layout}
 use Rattle.x2_layout.specs.Records.{kindAt, IsSize, sizeOf, sizeAt, eachRecord}
+use Rattle.x2_layout.specs.inner.Walking.{Walking}
 use Rattle.x2_layout.proofs.Records.{sizeAt-pos}
-
--- The records before `at` are right: the facts of the records from `at` on give the verdict that the facts of all records give.
-pub record Walking (f : List ℕ) (l : Layout) (facts : Kind → ℕ → List Fact) (v : Judged) (at : ℕ) : Type 0 where
-  pub so : judge v (flatMap (λ x. facts (kindAt l x) x) (startsFrom (sizeAt f l) (l .end) at)) ≡ judge v (eachRecord f l facts)
 
 module _ {f : List ℕ} {l : Layout} {facts : Kind → ℕ → List Fact} {v : Judged} {at : ℕ} (i : Walking f l facts v at) where
   pub walking-stop : l .end ≤ at → v ≡ judge v (eachRecord f l facts)

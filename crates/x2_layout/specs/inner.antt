@@ -1,3 +1,5 @@
 -- What only the code's inner contracts and the proofs need. No reviewer has to believe it: each use of it is proved.
 pub mod Bounds
 pub mod Regions
+pub mod Walking
+pub mod Sizes

@@ -2,12 +2,12 @@
 ghost use mathlib.Core.Path.{_≡_};
 ghost use mathlib.Core.List.{[], _∷_};
 ghost use Prim.Native.Nat.{_<_};
-ghost use Rattle.verdict.specs.Facts.{test, allTests, judge};
+ghost use Rattle.verdict.specs.Facts.{test, judge};
 ghost use Rattle.x2_layout.specs.inner.Bounds.{sliceOver};
+ghost use Rattle.x2_layout.specs.inner.Sizes.{baliseFits};
 ghost use Rattle.x2_layout.specs.Groups.{rightSize, sizeByte, baliseLayout, walkLayout};
 use crate::SIZE_LEAST;
 use crate::SIZE_MOST;
-use crate::stream::balise_bytes;
 use octets::byte_at;
 use rules::fits;
 use verdict::Judged;
@@ -34,15 +34,15 @@ fn size_byte(v: Judged, f: &[u8], at: usize) -> Judged
     also_fact(v, ok, Reason::Layout, at, at, 0, rule)
 }
 
-// The balise at a place: 16 bytes are left of its group, its size byte is right, and it is not too large for the rest. (Where the group's
-// end is told, no test asks.)
-fn balise_obeys(f: &[u8], at: usize, until: usize) -> bool
-    requires { ⌜ at < sliceOver ⌝ }
-    ensures { λ r. ⌜ r ≡ allTests (baliseLayout (now (f .entry)) until 0 at) ⌝ }
+// A balise at a place whose size byte is n: 16 bytes are left of its group, its size byte is right, and it is not too large for the rest.
+fn balise_obeys(at: usize, n: usize, until: usize) -> bool
+    requires { ⌜ (at < sliceOver) × (n < 256) ⌝ }
+    ensures { λ r. ⌜ r ≡ baliseFits at n until ⌝ }
 {
-    let n = byte_at(f, at + Balise::SIZE_BYTE.0 as usize);
-    let right = is_right_size(n);
-    (at + Balise::SIZE <= until) & (right & (at + n <= until))
+    if until < at + Balise::SIZE {
+        return false;
+    }
+    is_right_size(n) & (at + n <= until)
 }
 
 // The same, as facts; the end of its group is told at `next`.
@@ -65,10 +65,11 @@ pub fn walk_layout(v: Judged, f: &[u8], from: usize, until: usize, next: usize) 
 {
     let mut at = from;
     while at < until {
-        if !balise_obeys(f, at, until) {
+        let n = byte_at(f, at + Balise::SIZE_BYTE.0 as usize);
+        if !balise_obeys(at, n, until) {
             return balise_layout(v, f, at, until, next);
         }
-        at = at + balise_bytes(f, at);
+        at = at + n;
     }
     v
 }

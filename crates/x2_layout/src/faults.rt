@@ -1,7 +1,7 @@
 // The layout faults of X.2: 6 in 01's table, in the order of 'Layout faults'.
 ghost use mathlib.Core.Path.{_≡_};
 ghost use Prim.Native.Nat.{_≤_};
-ghost use Rattle.verdict.specs.Facts.{judge};
+ghost use Rattle.verdict.specs.Facts.{allTests, judge};
 ghost use Rattle.x2_layout.specs.inner.Bounds.{countMost, headerMost, boundsMost, Small};
 ghost use Rattle.x2_layout.specs.Facts.{countLayout, offsetsLayout, layoutFacts, shapeOf};
 use crate::COUNT_MOST;
@@ -12,20 +12,36 @@ use crate::START_COUNT;
 use crate::START_ENTRIES;
 use crate::Shape;
 use crate::groups::check_groups;
+use crate::groups::groups_obey;
 use crate::numbers::layout_of;
 use crate::numbers::yard_offsets;
 use envelope::HEADER;
 use octets::Width;
+use octets::byte_at;
 use rules::between;
 use rules::fits;
 use rules::is_number;
+use tables::equals;
+use tables::lies_between;
 use tables::number_between;
 use tables::place_of;
 use verdict::Judged;
 use verdict::Reason;
 use x2_records::Boundary;
 
-// The counts: n is not 0 and k's place is below End; k is not 0 and the boundaries fit.
+// The counts obey: n is not 0 and k's place is below End; k is not 0 and the boundaries fit.
+fn counts_obey(f: &[u8], l: Layout) -> bool
+    requires { ⌜ Small l ⌝ }
+    ensures { λ r. ⌜ r ≡ allTests (countLayout (now (f .entry)) l) ⌝ }
+{
+    let end_count = START_ENTRIES + ENTRY_SIZE * l.n;
+    let starts = lies_between(f, HEADER, START_COUNT, 1, COUNT_MOST);
+    let k = byte_at(f, end_count);
+    let ends = (1 <= k) & (k <= COUNT_MOST);
+    starts & ((end_count + 1 <= l.end) & (ends & (l.turnouts <= l.end)))
+}
+
+// The same, as facts.
 fn counts_layout(v: Judged, f: &[u8], l: Layout) -> Judged
     requires { ⌜ Small l ⌝ }
     ensures { λ r. ⌜ r ≡ judge v (countLayout (now (f .entry)) l) ⌝ }
@@ -56,7 +72,22 @@ fn counts_layout(v: Judged, f: &[u8], l: Layout) -> Judged
     fits(w, 0, end_count, 1, l.turnouts, end_count, l.end, l.end)
 }
 
-// The offsets in so many entries from a place on: each boundary stands where it is due.
+// The offsets in so many entries from a place on obey: each boundary stands where it is due.
+fn offsets_obey(f: &[u8], entries: usize, count: usize, due: usize) -> bool
+    requires { ⌜ (entries ≤ headerMost) × (count ≤ countMost) × (due ≤ boundsMost) ⌝ }
+    ensures { λ r. ⌜ r ≡ allTests (offsetsLayout (now (f .entry)) entries due count) ⌝ }
+{
+    let mut ok = true;
+    let mut i = 0;
+    while i < count {
+        let entry = (entries + ENTRY_SIZE * i) as u32;
+        ok = ok & equals(f, entry, ENTRY_OFFSET, due + Boundary::SIZE * i);
+        i = i + 1;
+    }
+    ok
+}
+
+// The same, as facts.
 fn offsets_layout(v: Judged, f: &[u8], entries: usize, count: usize, due: usize) -> Judged
     requires { ⌜ (entries ≤ headerMost) × (count ≤ countMost) × (due ≤ boundsMost) ⌝ }
     ensures { λ r. ⌜ r ≡ judge v (offsetsLayout (now (f .entry)) entries due count) ⌝ }
@@ -81,11 +112,28 @@ fn offsets_layout(v: Judged, f: &[u8], entries: usize, count: usize, due: usize)
     w
 }
 
-// The verdict so far, then the layout.
+// The layout obeys.
+fn layout_obeys(f: &[u8], l: Layout) -> bool
+    requires { ⌜ Small l ⌝ }
+    ensures { λ r. ⌜ r ≡ allTests (layoutFacts (now (f .entry)) l) ⌝ }
+{
+    let end_entries = START_ENTRIES + ENTRY_SIZE * l.n + 1;
+    let o = yard_offsets(end_entries + ENTRY_SIZE * l.k, l.end);
+    let counts = counts_obey(f, l);
+    let starts = offsets_obey(f, START_ENTRIES, l.n, l.starts);
+    let ends = offsets_obey(f, end_entries, l.k, l.ends);
+    let groups = groups_obey(f, o, l.turnouts, l.turnouts - Boundary::SIZE);
+    counts & (starts & (ends & groups))
+}
+
+// The verdict so far, then the layout: fact by fact only where it does not obey.
 fn check_layout(v: Judged, f: &[u8], l: Layout) -> Judged
     requires { ⌜ Small l ⌝ }
     ensures { λ r. ⌜ r ≡ judge v (layoutFacts (now (f .entry)) l) ⌝ }
 {
+    if layout_obeys(f, l) {
+        return v;
+    }
     let end_entries = START_ENTRIES + ENTRY_SIZE * l.n + 1;
     let o = yard_offsets(end_entries + ENTRY_SIZE * l.k, l.end);
     let mut w = counts_layout(v, f, l);

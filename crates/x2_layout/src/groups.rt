@@ -2,7 +2,7 @@
 // offset for each group, in the groups' order; 0 is an empty group. A group is due where what is before it ends.
 ghost use mathlib.Core.Path.{_≡_};
 ghost use Prim.Native.Nat.{_-_, _≤_, _<_};
-ghost use Rattle.verdict.specs.Facts.{judge};
+ghost use Rattle.verdict.specs.Facts.{allTests, judge};
 ghost use Rattle.x2_layout.specs.inner.Bounds.{groupsMost, sliceOver, Near};
 ghost use Rattle.x2_layout.specs.Groups.{madeOf, groupIn, groupsFrom, groupsOf, nextStart, nextField, endFrom, groupLayout, madeFacts, oneGroup, groupFacts};
 use crate::BALISES;
@@ -21,6 +21,7 @@ use octets::u16_at;
 use rules::ends_at;
 use rules::fits;
 use rules::is_number;
+use rules::rest;
 use rules::whole;
 use verdict::Judged;
 use verdict::Reason;
@@ -111,7 +112,19 @@ fn group_layout(
     fits(w, 0, field, OFFSET_SIZE, until, next, end, end)
 }
 
-// The records of a group, whose offset is at a field: whole ones.
+// The records of a group, whose offset is at a field, are whole ones.
+fn made_obeys(f: &[u8], field: usize, until: usize, next: usize, made: Made) -> bool
+    requires { ⌜ until < sliceOver ⌝ }
+    ensures { λ r. ⌜ r ≡ allTests (madeFacts (now (f .entry)) field until next made) ⌝ }
+{
+    let off = u16_at(f, field);
+    match made {
+        Made::Fixed(size) => rest(less(until, off), size) == 0,
+        Made::Balises => walk_layout(Judged::Accepted, f, off, until, next).is_accepted(),
+    }
+}
+
+// The same, as facts.
 fn made_layout(v: Judged, f: &[u8], field: usize, until: usize, next: usize, made: Made) -> Judged
     requires { ⌜ until < sliceOver ⌝ }
     ensures { λ r. ⌜ r ≡ judge v (madeFacts (now (f .entry)) field until next made) ⌝ }
@@ -123,7 +136,23 @@ fn made_layout(v: Judged, f: &[u8], field: usize, until: usize, next: usize, mad
     }
 }
 
-// The group with an index, from where it is due to its end, which is told at `next`: if it is not empty, it is right and whole records.
+// The group with an index, from where it is due to its end, which is told at `next`, obeys: if it is not empty, it is right and whole
+// records.
+fn group_obeys(f: &[u8], o: Offsets, i: usize, due: usize, until: usize, next: usize) -> bool
+    requires { ⌜ Near o × (i ≤ groupsMost) × (until < sliceOver) ⌝ }
+    ensures { λ r. ⌜ r ≡ allTests (oneGroup (now (f .entry)) (o .end) due until next (groupIn o i)) ⌝ }
+{
+    let field = o.base + OFFSET_SIZE * i;
+    let off = u16_at(f, field);
+    if off == 0 {
+        return true;
+    }
+    let file = o.file;
+    let made = made_obeys(f, field, until, next, made_of(file, i));
+    (off == due) & ((off + 1 <= until) & ((until <= o.end) & made))
+}
+
+// The same, as facts.
 fn one_group(
     v: Judged,
     f: &[u8],
@@ -145,8 +174,26 @@ fn one_group(
     made_layout(w, f, field, until, next, made_of(file, i))
 }
 
-// The groups in field order, the first due at a place; at last, what came ends at End. `last` is where the last record before the groups
-// starts.
+// The groups in field order obey, the first due at a place; at last, what came ends at End. `last` is where the last record before the
+// groups starts.
+pub fn groups_obey(f: &[u8], o: Offsets, first: usize, last: usize) -> bool
+    requires { ⌜ Near o × (first < sliceOver) ⌝ }
+    ensures { λ r. ⌜ r ≡ allTests (groupFacts (now (f .entry)) last (o .end) first (groupsOf o)) ⌝ }
+{
+    let mut ok = true;
+    let mut due = first;
+    let mut i = 0;
+    while i < o.count {
+        let until = group_end(f, o, i, due);
+        let next = next_group(f, o, i + 1);
+        ok = ok & group_obeys(f, o, i, due, until, next.field);
+        due = until;
+        i = i + 1;
+    }
+    ok & (due == o.end)
+}
+
+// The same, as facts.
 pub fn check_groups(v: Judged, f: &[u8], o: Offsets, first: usize, last: usize) -> Judged
     requires { ⌜ Near o × (first < sliceOver) ⌝ }
     ensures { λ r. ⌜ r ≡ judge v (groupFacts (now (f .entry)) last (o .end) first (groupsOf o)) ⌝ }

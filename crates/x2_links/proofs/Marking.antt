@@ -1,6 +1,5 @@
--- The marks while they are being filled: a place is marked, or a record from `at` on is one that it may name, exactly where a link may
--- name it; and no cell from that of `at` on is filled yet. A record has more bytes than a cell has places, so the next one starts in a
--- later cell, and the mark of one start leaves those of the others as they are.
+-- The marks while they are being filled. A record has more bytes than a cell has places, so the next one starts in a later cell, and the
+-- mark of one start leaves those of the others as they are.
 use Prim.Native.Nat.{ℕ, zero, suc, _+_, _/_, _≤_, _<_}
 use mathlib.Core.Path.{_≡_, refl, sym, _∙_, subst}
 use mathlib.Core.Bool.{Bool, true, false, _||_, or-false}
@@ -20,12 +19,7 @@ use Rattle.x2_layout.specs.inner.Bounds.{placeMost}
 use Rattle.x2_layout.specs.Records.{kindAt, sizeAt}
 use Rattle.x2_layout.proofs.Records.{sizeAt-least, sizeAt-pos}
 use Rattle.x2_links.specs.Links.{linkable, named, isTarget}
-use Rattle.x2_links.specs.inner.Marks.{cell, cells, markOf, markIf, markAt, Blank, Targets}
-
-pub record Marking (f : List ℕ) (l : Layout) (marks : List ℕ) (at : ℕ) : Type 0 where
-  pub room : length marks ≡ cells
-  pub blank : (i : ℕ) → at / cell ≤ i → getD marks i 0 ≡ 0
-  pub found : (x : ℕ) → (markAt marks x || anyOf (λ s. test (named f l x s)) (startsFrom (sizeAt f l) (l .end) at)) ≡ test (isTarget f l x)
+use Rattle.x2_links.specs.inner.Marks.{cell, cells, markOf, markIf, markAt, Blank, Targets, Marking}
 
 -- ---- marks: of the place itself, and of another place of its cell
 

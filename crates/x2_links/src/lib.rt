@@ -4,4 +4,9 @@
 mod marks;
 mod targets;
 
+pub use marks::CELL;
+pub use marks::CELLS;
+pub use marks::is_target;
+pub use marks::mark_if;
+pub use marks::may_link;
 pub use targets::check_targets;

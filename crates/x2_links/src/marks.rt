@@ -2,10 +2,9 @@
 // has more than eight bytes, so at most one starts in a cell; the byte says at which place of the cell, if that record may be linked to. A
 // link's target is then known at once, however many balises there are.
 ghost use mathlib.Core.Path.{_≡_};
-ghost use Prim.Native.Nat.{_≤_};
 ghost use lib.ListN.{length};
 ghost use Rattle.verdict.specs.Facts.{test};
-ghost use Rattle.x2_layout.specs.inner.Bounds.{placeMost, Bounded};
+ghost use Rattle.x2_layout.specs.inner.Bounds.{Bounded};
 ghost use Rattle.x2_links.specs.Links.{linkable};
 ghost use Rattle.x2_links.specs.inner.Marks.{cells, markOf, markIf, markAt, Blank, Targets};
 use tables::bits_of;
@@ -29,7 +28,7 @@ fn is_first(f: &[u8], at: u32) -> bool
 }
 
 // Whether the record of a kind at a place may be linked to.
-fn may_link(f: &[u8], k: Kind, at: u32) -> bool
+pub fn may_link(f: &[u8], k: Kind, at: u32) -> bool
     ensures { λ r. ⌜ r ≡ test (linkable (now (f .entry)) k at) ⌝ }
 {
     match k {
@@ -51,7 +50,7 @@ fn mark_of(x: usize) -> u8
 }
 
 // The mark of a place where a link may name it, else 0.
-fn mark_if(b: bool, x: usize) -> u8
+pub fn mark_if(b: bool, x: usize) -> u8
     ensures { λ r. ⌜ r ≡ markIf b x ⌝ }
 {
     if b { mark_of(x) } else { 0 }
@@ -73,9 +72,9 @@ pub fn mark_targets(f: &[u8], l: Layout, marks: &mut [u8; CELLS])
 }
 
 // Whether a link may name x.
-pub fn is_target(marks: &[u8; CELLS], x: usize) -> bool
-    requires { ⌜ x ≤ placeMost ⌝ }
+pub fn is_target(marks: &[u8; CELLS], x: u16) -> bool
     ensures { λ r. ⌜ r ≡ markAt (now (marks .entry)) x ⌝ }
 {
-    marks[x / CELL] == mark_of(x)
+    let place = x as usize;
+    marks[place / CELL] == mark_of(place)
 }

@@ -32,7 +32,7 @@ fn target_obeys(f: &[u8], l: Layout, marks: &[u8; CELLS], at: u32, p: usize) -> 
     ensures { λ r. ⌜ r ≡ allTests (target (now (f .entry)) l at p ∷ []) ⌝ }
 {
     let x = u16_at(f, p);
-    (x == 0) | ((x != at as usize) & is_target(marks, x))
+    (x == 0) | ((x != at as usize) & is_target(marks, x as u16))
 }
 
 // The target of the link at p, of the record at `at`.

@@ -143,7 +143,7 @@ fn same_link(v: Judged, f: &[u8], at: u32, p: usize, q: usize) -> Judged
 }
 
 // Both links of a balise are those of the record at `before`.
-fn same_links_obey(f: &[u8], before: u32, at: u32) -> bool
+pub fn same_links_obey(f: &[u8], before: u32, at: u32) -> bool
     ensures { λ r. ⌜ r ≡ allTests (sameLinks (now (f .entry)) before at) ⌝ }
 {
     let p = place_of(at, Balise::PREVIOUS);
@@ -167,7 +167,7 @@ fn same_links(v: Judged, f: &[u8], before: u32, at: u32) -> Judged
 }
 
 // A record of a kind is a balise of place above 1.
-fn is_member(f: &[u8], k: Kind, at: u32) -> bool
+pub fn is_member(f: &[u8], k: Kind, at: u32) -> bool
     ensures { λ r. ⌜ r ≡ isMember (now (f .entry)) k at ⌝ }
 {
     match k {

@@ -2,3 +2,5 @@ pub mod Checks
 pub mod Found
 pub mod Obeys
 pub mod Questions
+pub mod Passes
+pub mod Linked

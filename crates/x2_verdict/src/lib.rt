@@ -2,10 +2,15 @@
 // and the questions 'header' and 'record at an offset'.
 ghost use mathlib.Core.Path.{_≡_};
 ghost use Rattle.verdict.specs.Facts.{firstFault};
+ghost use mathlib.Core.Bool.{true};
+ghost use Rattle.verdict.specs.declared.Judged.the-variants.{Accepted};
 ghost use Rattle.x2_layout.specs.inner.Bounds.{Bounded};
+ghost use Rattle.x2_layout.specs.inner.Regions.{Regions};
 ghost use Rattle.x2_verdict.specs.Facts.{recordFacts, judgedOf, verdictOf};
 ghost use Rattle.x2_verdict.specs.Questions.{namedHeaderOf, recordOf};
 ghost use Rattle.x2_verdict.specs.inner.Shapes.{judgedAs};
+use crate::first_pass::records_pass;
+use crate::second_pass::links_pass;
 use crate::starts::starts_record;
 use envelope::Header;
 use envelope::MOST_LENGTH;
@@ -19,16 +24,20 @@ use verdict::Verdict;
 use verdict::refusal;
 use x2_fields::check_agreement;
 use x2_fields::check_fields;
+use x2_fields::check_header;
 use x2_layout::Layout;
 use x2_layout::NAME;
 use x2_layout::Shape;
 use x2_layout::find_layout;
 use x2_layout::kind_at;
 use x2_layout::layout_of;
+use x2_links::CELLS;
 use x2_links::check_targets;
 use x2_records::Record;
 use x2_returns::check_returns;
 
+mod first_pass;
+mod second_pass;
 mod starts;
 
 // How long an X.2 file is at least, and its type.
@@ -55,8 +64,23 @@ pub enum RecordAnswer {
     Refused(Fault),
 }
 
-// The checks of the records of a file whose layout is right.
-fn check_records(f: &[u8], l: Layout) -> Judged
+// Whether every record obeys: two passes over the records.
+fn all_obey(f: &[u8], l: Layout) -> bool
+    requires { ⌜ Bounded l × Regions (now f) l ⌝ }
+    ensures { λ r. ⌜ (r ≡ true → Accepted ≡ firstFault (recordFacts (now (f .entry)) l)) ⌝ }
+{
+    let Judged::Accepted = check_header(f, l) else {
+        return false;
+    };
+    let mut marks = [0u8; CELLS];
+    if !records_pass(f, l, &mut marks) {
+        return false;
+    }
+    links_pass(f, l, &marks)
+}
+
+// The checks of the records, one after the other, each over the whole file.
+fn check_in_turn(f: &[u8], l: Layout) -> Judged
     requires { ⌜ Bounded l ⌝ }
     ensures { λ r. ⌜ r ≡ firstFault (recordFacts (now (f .entry)) l) ⌝ }
 {
@@ -73,6 +97,18 @@ fn check_records(f: &[u8], l: Layout) -> Judged
         return aimed;
     };
     check_returns(Judged::Accepted, f, l)
+}
+
+// The checks of the records of a file whose layout is right. Where two passes find nothing wrong, nothing is; else the checks go in turn, and
+// tell what comes first in 01's order.
+fn check_records(f: &[u8], l: Layout) -> Judged
+    requires { ⌜ Bounded l × Regions (now f) l ⌝ }
+    ensures { λ r. ⌜ r ≡ firstFault (recordFacts (now (f .entry)) l) ⌝ }
+{
+    if all_obey(f, l) {
+        return Judged::Accepted;
+    }
+    check_in_turn(f, l)
 }
 
 // The verdict of the layout. The arm of one that was found is never reached; it stands because an `else` cannot bind the mark.

@@ -1,11 +1,19 @@
--- `x2_kinds::fixed_obeys` meets its contract: the test of each rule in turn.
+-- `x2_kinds::fixed_obeys` meets its contract: the test of each rule in turn; where the file ends inside the record, what its facts say.
 use mathlib.Core.Bool.{and-true}
 use borrow.Author.Needs.{needs}
+use Rattle.verdict.proofs.Facts.{tests-judged}
+use Rattle.tables.specs.Rows.{tableFacts}
+use Rattle.x2_records.specs.Rows.{baliseTable}
 use Rattle.x2_kinds.proofs.fixed_obeys.Statement.{statement}
 use Rattle.x2_kinds.proofs.fixed_obeys.Tie as tie
 
 returns : tie.Need-returns
 returns c =
+    let a = c .before .before .before .before .args in
+    tests-judged _ _ (tableFacts (a .f .now) (a .at) baliseTable) (c .before .fixed-fields .ensures) (c .is-accepted .ensures)
+
+returns-2 : tie.Need-returns-2
+returns-2 c =
     let r5 = c .before in
     let r4 = r5 .before in
     let r3 = r4 .before in
@@ -14,4 +22,4 @@ returns c =
     simp (and-true, c .has-part .ensures, r5 .lies-between3 .ensures, r4 .lies-between2 .ensures, r3 .is-among-four .ensures, r2 .lies-between .ensures, r1 .equals .ensures)
 
 pub fixed-obeys-spec : {M : Type 1} → statement M
-fixed-obeys-spec = tie.close (tie.spec (λ c κs. search needs) (λ c. search needs) (λ c κs. search needs) (λ c κs. search needs) (λ c κs. search needs) (λ c κs. search needs) (λ c κs. search needs) returns)
+fixed-obeys-spec = tie.close (tie.spec (λ c. search needs) (λ c κs. search needs) (λ c κs. search needs) returns (λ c κs. search needs) (λ c. search needs) (λ c κs. search needs) (λ c κs. search needs) (λ c κs. search needs) (λ c κs. search needs) (λ c κs. search needs) returns-2)

@@ -1,11 +1,19 @@
--- `x2_kinds::signal_obeys` meets its contract: the test of each rule in turn.
+-- `x2_kinds::signal_obeys` meets its contract: the test of each rule in turn; where the file ends inside the record, what its facts say.
 use mathlib.Core.Bool.{and-true}
 use borrow.Author.Needs.{needs}
+use Rattle.verdict.proofs.Facts.{tests-judged}
+use Rattle.tables.specs.Rows.{tableFacts}
+use Rattle.x2_records.specs.Rows.{signalTable}
 use Rattle.x2_kinds.proofs.signal_obeys.Statement.{statement}
 use Rattle.x2_kinds.proofs.signal_obeys.Tie as tie
 
 returns : tie.Need-returns
 returns c =
+    let a = c .before .before .before .before .args in
+    tests-judged _ _ (tableFacts (a .f .now) (a .at) signalTable) (c .before .signal-fields .ensures) (c .is-accepted .ensures)
+
+returns-2 : tie.Need-returns-2
+returns-2 c =
     let r6 = c .before in
     let r5 = r6 .before in
     let r4 = r5 .before in
@@ -15,4 +23,4 @@ returns c =
     simp (and-true, c .has-part3 .ensures, r6 .has-part2 .ensures, r5 .has-part .ensures, r4 .lies-between2 .ensures, r3 .lies-between .ensures, r2 .has-name .ensures, r1 .equals .ensures)
 
 pub signal-obeys-spec : {M : Type 1} → statement M
-signal-obeys-spec = tie.close (tie.spec (λ c κs. search needs) (λ c κs. search needs) (λ c κs. search needs) (λ c κs. search needs) (λ c κs. search needs) (λ c κs. search needs) (λ c κs. search needs) returns)
+signal-obeys-spec = tie.close (tie.spec (λ c. search needs) (λ c κs. search needs) (λ c κs. search needs) returns (λ c κs. search needs) (λ c κs. search needs) (λ c κs. search needs) (λ c κs. search needs) (λ c κs. search needs) (λ c κs. search needs) (λ c κs. search needs) returns-2)

@@ -1,6 +1,7 @@
 -- `x2_returns::all_returns` meets its contract: a walk over the records that tests each of them, with the one before it.
 use Prim.Native.Nat.{_-_}
-use Rattle.x2_layout.proofs.Before.{Following, following-start, following-stop, following-over, following-fault}
+use Rattle.x2_layout.specs.inner.Walking.{Following}
+use Rattle.x2_layout.proofs.Before.{following-start, following-stop, following-over, following-fault}
 use Rattle.x2_links.specs.Links.{recordReturns, returnFacts}
 use borrow.Author.Needs.{needs}
 use Rattle.x2_returns.proofs.all_returns.Statement.{statement}

@@ -3,6 +3,7 @@ use Rattle.envelope.specs.Seal.{mostLength}
 use Rattle.x2_verdict.specs.Facts.{leastLength}
 use Rattle.x2_verdict.proofs.Checks.{length-refused, seal-refused, layout-refused, found-bounded, records-judged}
 use Rattle.rules.proofs.Length.{length-held}
+use Rattle.x2_layout.proofs.Shapes.{found-regions}
 use borrow.Author.Needs.{needs}
 use Rattle.x2_verdict.proofs.first_fault.Statement.{statement}
 use Rattle.x2_verdict.proofs.first_fault.Tie as tie
@@ -20,7 +21,7 @@ returns-3 : tie.Need-returns-3
 returns-3 c = layout-refused _ _ (c .before .before .before .before .before .before .before .before .before .length-between .ensures) (c .before .before .before .before .before .before .before .enum-told .given .1) _ (c .before .before .before .before .before .before .check-seal .ensures) (c .before .before .before .before .enum-told3 .given .1) _ (c .before .before .before .find-layout .ensures) _ (c .before .enum-told5 .given .1) _ (c .laid .ensures)
 
 check-records-requires : tie.Need-check-records-requires
-check-records-requires c κs = let f = c .before .before .before .before .before .before .before .before .before .before .before .args .f .now in let h = length-held f leastLength mostLength _ (c .before .before .before .before .before .before .before .before .before .length-between .ensures) (c .before .before .before .before .before .before .before .enum-told .given .1) in found-bounded f _ (c .before .before .before .find-layout .ensures) _ (c .before .shape .given .1) (h .1)
+check-records-requires c κs = let f = c .before .before .before .before .before .before .before .before .before .before .before .args .f .now in let h = length-held f leastLength mostLength _ (c .before .before .before .before .before .before .before .before .before .length-between .ensures) (c .before .before .before .before .before .before .before .enum-told .given .1) in (found-bounded f _ (c .before .before .before .find-layout .ensures) _ (c .before .shape .given .1) (h .1), found-regions f _ (c .before .before .before .find-layout .ensures) _ (c .before .shape .given .1))
 
 returns-4 : tie.Need-returns-4
 returns-4 c = records-judged _ _ (c .before .before .before .before .before .before .before .before .before .before .length-between .ensures) (c .before .before .before .before .before .before .before .before .enum-told .given .1) _ (c .before .before .before .before .before .before .before .check-seal .ensures) (c .before .before .before .before .before .enum-told3 .given .1) _ (c .before .before .before .before .find-layout .ensures) _ (c .before .before .shape .given .1) _ (c .check-records .ensures)

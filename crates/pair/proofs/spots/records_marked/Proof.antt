@@ -1,7 +1,8 @@
 -- `pair::spots::records_marked` meets its contract.
 use Prim.Native.Nat.{_-_}
 use mathlib.Core.Path.{refl, _∙_}
-use Rattle.x2_layout.proofs.Walking.{Walking, walking-over, walking-fault, walking-stop}
+use Rattle.x2_layout.specs.inner.Walking.{Walking}
+use Rattle.x2_layout.proofs.Walking.{walking-over, walking-fault, walking-stop}
 use Rattle.pair.specs.Pair.{spots, recordPair, recordsPair}
 use Rattle.pair.proofs.Marked.{spots-tested}
 use borrow.Author.Needs.{needs}

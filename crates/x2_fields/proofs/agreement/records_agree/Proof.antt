@@ -1,6 +1,7 @@
 -- `x2_fields::agreement::records_agree` meets its contract: a walk over the records that tests each of them, with the one before it.
 use Prim.Native.Nat.{_-_}
-use Rattle.x2_layout.proofs.Before.{Following, following-start, following-stop, following-over, following-fault}
+use Rattle.x2_layout.specs.inner.Walking.{Following}
+use Rattle.x2_layout.proofs.Before.{following-start, following-stop, following-over, following-fault}
 use Rattle.x2_fields.specs.Agreement.{kindAgrees}
 use borrow.Author.Needs.{needs}
 use Rattle.x2_fields.proofs.agreement.records_agree.Statement.{statement}

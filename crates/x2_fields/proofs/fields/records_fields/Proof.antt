@@ -1,7 +1,8 @@
 -- `x2_fields::fields::records_fields` meets its contract: a walk over the records that tests each of them.
 use Prim.Native.Nat.{_-_}
 use mathlib.Core.Path.{refl}
-use Rattle.x2_layout.proofs.Walking.{Walking, walking-stop, walking-over, walking-fault}
+use Rattle.x2_layout.specs.inner.Walking.{Walking}
+use Rattle.x2_layout.proofs.Walking.{walking-stop, walking-over, walking-fault}
 use Rattle.x2_kinds.specs.KindFields.{kindFields}
 use borrow.Author.Needs.{needs}
 use Rattle.x2_fields.proofs.fields.records_fields.Statement.{statement}

@@ -1,7 +1,7 @@
 -- `x2_layout::balises::walk_layout` meets its contract. The invariant: the balises before `at` obey, so that the facts of the balises from `at`
 -- on give the verdict that the facts of all balises give.
-use Prim.Native.Nat.{_-_}
-use mathlib.Core.Path.{_≡_, _∙_, refl, sym}
+use Prim.Native.Nat.{ℕ, _+_, _-_}
+use mathlib.Core.Path.{_≡_, _∙_, refl, sym, ap}
 use mathlib.Core.List.{flatMap}
 use native.Mathlib.Omega.{arith}
 use Rattle.verdict.specs.Facts.{judge}
@@ -9,6 +9,7 @@ use Rattle.verdict.specs.Walk.{startsFrom}
 use Rattle.verdict.proofs.Checks.{judge-stop, passes-over, fails-here}
 use Rattle.x2_layout.specs.Groups.{baliseBytes, baliseLayout, walkLayout}
 use Rattle.x2_layout.proofs.Records.{baliseBytes-pos}
+use Rattle.x2_layout.proofs.Sizes.{fits-told, fits-least, fits-size}
 use borrow.Author.Needs.{needs}
 use Rattle.x2_layout.proofs.balises.walk_layout.Statement.{statement}
 use Rattle.x2_layout.proofs.balises.walk_layout.Tie as tie
@@ -27,19 +28,34 @@ loop-holds c = refl
 returns : tie.Need-returns Inv-loop μ-loop
 returns c =
     let tested = c .before .before in
-    let h = tested .before .before .loop in
-    let a = tested .before .before .before .before .args in
+    let read = tested .before in
+    let h = read .before .before .before .loop in
+    let a = read .before .before .before .before .before .args in
     let t = tested .balise-obeys in
-    fails-here (baliseBytes (a .f .now)) (a .until) (baliseLayout (a .f .now) (a .until) (a .next)) (baliseBytes-pos (a .f .now)) (a .v) (h .at) (t .result) (omega arith) (t .ensures) _ (c .before .if1 .taken) (c .balise-layout .ensures)
+    fails-here (baliseBytes (a .f .now)) (a .until) (baliseLayout (a .f .now) (a .until) (a .next)) (baliseBytes-pos (a .f .now)) (a .v) (h .at) (t .result) (omega arith)
+    (fits-told (a .f .now) (h .at) _ (a .until) (a .next) (t .result) (read .byte-at .ensures .is) (t .ensures)) _ (c .before .if1 .taken) (c .balise-layout .ensures)
     ∙ h .inv
+
+loop-less : tie.Need-loop-less Inv-loop μ-loop
+loop-less c =
+    let tested = c .before in
+    let read = tested .before in
+    let h = read .before .before .before .loop in
+    let a = read .before .before .before .before .before .args in
+    let t = tested .balise-obeys in
+    omega (arith, read .before .before .loop-test .taken, fits-least (a .f .now) (h .at) _ (a .until) (a .next) (t .result) (read .byte-at .ensures .is) (t .ensures) (c .if1 .left))
 
 loop-again : tie.Need-loop-again Inv-loop μ-loop
 loop-again c =
-    let tested = c .before .before in
-    let h = tested .before .before .loop in
-    let a = tested .before .before .before .before .args in
+    let tested = c .before in
+    let read = tested .before in
+    let h = read .before .before .before .loop in
+    let a = read .before .before .before .before .before .args in
     let t = tested .balise-obeys in
-    passes-over (baliseBytes (a .f .now)) (a .until) (baliseLayout (a .f .now) (a .until) (a .next)) (baliseBytes-pos (a .f .now)) (a .v) (h .at) (t .result) (omega arith) (t .ensures) _ (c .before .if1 .left) (simp (c .balise-bytes .ensures .0))
+    let size = read .byte-at .ensures .is in
+    passes-over (baliseBytes (a .f .now)) (a .until) (baliseLayout (a .f .now) (a .until) (a .next)) (baliseBytes-pos (a .f .now)) (a .v) (h .at) (t .result) (omega arith)
+    (fits-told (a .f .now) (h .at) _ (a .until) (a .next) (t .result) size (t .ensures)) _ (c .if1 .left)
+    (ap (λ (n : ℕ). h .at + n) (fits-size (a .f .now) (h .at) _ (a .until) (a .next) (t .result) size (t .ensures) (c .if1 .left)))
     ∙ h .inv
 
 returns-2 : tie.Need-returns-2 Inv-loop μ-loop
@@ -48,4 +64,4 @@ returns-2 c =
     sym (judge-stop (baliseBytes (a .f .now)) (a .until) (baliseLayout (a .f .now) (a .until) (a .next)) _ _ (omega arith)) ∙ c .before .loop .inv
 
 pub walk-layout-spec : {M : Type 1} → statement M
-walk-layout-spec = tie.close (tie.spec Inv-loop μ-loop loop-holds (λ c κs. search needs) (λ c κs. search needs) returns (λ c κs. search needs) (λ c. search needs) (λ c. search needs) loop-again returns-2)
+walk-layout-spec = tie.close (tie.spec Inv-loop μ-loop loop-holds (λ c. search needs) (λ c. search needs) (λ c κs. search needs) (λ c κs. search needs) (λ c κs. search needs) returns (λ c. search needs) loop-less loop-again returns-2)

@@ -1,7 +1,8 @@
 -- `x2_links::marks::mark_targets` meets its contract.
 use Prim.Native.Nat.{_+_, _-_}
 use native.Mathlib.Omega.{arith}
-use Rattle.x2_links.proofs.Marking.{Marking, marking-none, marking-step, marking-all}
+use Rattle.x2_links.specs.inner.Marks.{Marking}
+use Rattle.x2_links.proofs.Marking.{marking-none, marking-step, marking-all}
 use borrow.Author.Needs.{needs}
 use Rattle.x2_links.proofs.marks.mark_targets.Statement.{statement}
 use Rattle.x2_links.proofs.marks.mark_targets.Tie as tie

@@ -1,7 +1,8 @@
 -- `x2_links::targets::all_targets` meets its contract.
 use Prim.Native.Nat.{_-_}
 use mathlib.Core.Path.{refl}
-use Rattle.x2_layout.proofs.Walking.{Walking, walking-over, walking-fault, walking-stop}
+use Rattle.x2_layout.specs.inner.Walking.{Walking}
+use Rattle.x2_layout.proofs.Walking.{walking-over, walking-fault, walking-stop}
 use Rattle.x2_links.specs.Links.{recordTargets, targetFacts}
 use borrow.Author.Needs.{needs}
 use Rattle.x2_links.proofs.targets.all_targets.Statement.{statement}

@@ -21,5 +21,6 @@ target-obeys-spec =
     tie.close
     (tie.spec
     (λ c κs. search needs)
+    (λ c. search needs)
     (λ c κs. search needs)
     returns)
