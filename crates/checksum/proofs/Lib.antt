@@ -6,3 +6,4 @@ pub mod Empty
 pub mod ByTable
 pub mod Entries
 pub mod Walk
+pub mod Plain

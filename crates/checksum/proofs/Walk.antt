@@ -1,7 +1,7 @@
 -- The checksum by a walk along the bytes: in turns, the register is what the bytes before the place make of the first one; byte by byte,
 -- what the bytes to come make of the register stays the same. One law for each way on, and one for the end. A turn goes four bytes after
 -- four, its first four beside the others.
-use mathlib.Core.Path.{_≡_, refl, sym, ap, _∙_}
+use mathlib.Core.Path.{_≡_, refl, sym, ap, ap₂, _∙_}
 use mathlib.Core.List.{List, [], _∷_}
 use Prim.Native.Nat.{ℕ, zero, suc, _+_, _^_, _≤_, _<_}
 use native.Mathlib.Nat.{zero-add, suc-add}
@@ -72,6 +72,10 @@ word-on n s i r w h p bytes e =
 -- a place k, and n on
 on : (n k j : ℕ) (s : List ℕ) → j ≡ k + n → drop j s ≡ drop n (drop k s)
 on n k j s e = ap (λ (m : ℕ). drop m s) e ∙ sym (drop-drop n k s)
+
+-- four bytes enter
+pub four-on : (s : List ℕ) (r q i c : ℕ) → q ≡ checksumFrom r (take 4 (drop i s)) → checksumFrom r (drop i s) ≡ c → checksumFrom q (drop (i + 4) s) ≡ c
+four-on s r q i c e kept = ap₂ checksumFrom e (on 4 i (i + 4) s refl) ∙ from-take 4 (drop i s) r ∙ kept
 
 -- after n of the bytes from the place i on, four more enter
 four-more : (n i j : ℕ) (s : List ℕ) (r q t : ℕ) → j ≡ i + n → q ≡ checksumFrom r (take n (drop i s)) → t ≡ checksumFrom q (take 4 (drop j s))

@@ -9,6 +9,7 @@ use lib.Bits.{bitXor}
 
 -- the terms, as the page prints them
 -- 01: Sum.2
+-- 02: Ticket3.1
 abbrev pub terms : List ℕ
 terms = 31 ∷ 30 ∷ 28 ∷ 25 ∷ 19 ∷ 18 ∷ 16 ∷ 15 ∷ 11 ∷ 9 ∷ 7 ∷ 0 ∷ []
 
@@ -27,7 +28,7 @@ polynomial = 32 ∷ terms
 abbrev pub width : ℕ
 width = getD polynomial 0 0
 
--- a one at the place of each term; of the page's terms this is the mask 0xD20D8A81
+-- a one at the place of each term; of the page's terms this is the mask that 01 prints (proofs, Mask: mask-is)
 -- 01: Sum.4
 abbrev pub ones : List ℕ → ℕ
 ones [] = 0
@@ -68,6 +69,7 @@ checksumFrom r (b ∷ bs) = checksumFrom (byteStep r b) bs
 
 -- the checksum of the bytes: what they make of the start value, with no final change
 -- 01: Sum.6, Account.9
+-- 02: Ticket3.2
 unfoldable pub checksumOf : List ℕ → ℕ
 checksumOf s = checksumFrom start s
 

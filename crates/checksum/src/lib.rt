@@ -1,27 +1,27 @@
-// The checksum of 6.6 (01, 'Bytes and checksum'), sixteen bytes a turn, four bytes a step, by tables of what each byte makes of an empty
-// register once some empty bytes have followed. Of a turn's bytes the first four meet the register, and twelve empty bytes follow them; the
-// other twelve enter an empty register and need not wait for the first four. What both make, joined, is what the sixteen make.
+// The checksum of 6.6 (01, 'Bytes and checksum'). terms.rt has it as the page prints it, bit by bit. Here it goes sixteen bytes a turn, four
+// bytes a step, by tables of what each byte makes of an empty register once some empty bytes have followed. Of a turn's bytes the first four
+// meet the register, and twelve empty bytes follow them; the other twelve enter an empty register and need not wait for the first four.
+// What both make, joined, is what the sixteen make.
 mod table;
+mod terms;
 
 ghost use mathlib.Core.Path.{_≡_};
-ghost use Prim.Native.Nat.{ℕ, _+_, _≤_, _<_};
+ghost use Prim.Native.Nat.{ℕ, _+_, _%_, _≤_, _<_};
 ghost use lib.ListN.{length, take, drop};
 ghost use Rattle.checksum.specs.Checksum.{byteStep, checksumFrom, checksumOf, Checksum};
-ghost use Rattle.checksum.specs.inner.Table.{wordOf, inTurns, emptySteps, RightTable, RightTables};
+ghost use Rattle.checksum.specs.inner.Table.{wordOf, inTurns, inFours, emptySteps, RightTable, RightTables};
 use table::BYTES;
 use table::ENTRIES;
 use table::FAR;
 use table::NEAR;
+use terms::BYTE;
+use terms::START;
+use terms::checksum_of;
 
-// The start value.
-const START: u32 = 0xFFFF_FFFF;
+// The bits of two bytes, and of three.
+const TWO_BYTES: u32 = 2 * BYTE;
 
-// The bits of a byte, of two bytes and of three.
-const BYTE: u32 = 8;
-
-const TWO_BYTES: u32 = 16;
-
-const THREE_BYTES: u32 = 24;
+const THREE_BYTES: u32 = 3 * BYTE;
 
 // How many bytes enter in one step by four entries, and in one turn.
 const STEP: usize = 4;
@@ -36,7 +36,7 @@ fn entry(table: &[u32; ENTRIES], row: usize, byte: usize) -> u32
     table[BYTES * row + byte]
 }
 
-// What the register becomes when a byte enters.
+// What the register becomes when a byte enters, by the entry of what it meets.
 fn byte_step(near: &[u32; ENTRIES], register: u32, byte: u8) -> u32
     requires { ⌜ RightTable 0 (now near) ⌝ }
     ensures { λ r. ⌜ r ≡ byteStep register byte ⌝ }
@@ -98,6 +98,20 @@ fn turns(near: &[u32; ENTRIES], far: &[u32; ENTRIES], register: u32, s: &[u8]) -
     turned
 }
 
+// What the register becomes when the bytes from a place on enter four by four, as far as there are four; whole fours stand before the place.
+fn fours(near: &[u32; ENTRIES], register: u32, s: &[u8], at: usize) -> u32
+    requires { ⌜ RightTable 0 (now near) × (at ≤ length (now s)) × (at % 4 ≡ 0) ⌝ }
+    ensures { λ r. ⌜ checksumFrom r (drop (inFours (length (now (s .entry)))) (now (s .entry))) ≡ checksumFrom register (drop at (now (s .entry))) ⌝ }
+{
+    let mut stepped = register;
+    let mut i = at;
+    while s.len() - i >= STEP {
+        stepped = four_step(near, stepped, s, i);
+        i += STEP;
+    }
+    stepped
+}
+
 // What the register becomes when the bytes from a place on enter, one by one.
 fn rest(near: &[u32; ENTRIES], register: u32, s: &[u8], at: usize) -> u32
     requires { ⌜ RightTable 0 (now near) ⌝ }
@@ -118,17 +132,27 @@ fn by_table(near: &[u32; ENTRIES], far: &[u32; ENTRIES], s: &[u8]) -> u32
     ensures { λ r. ⌜ r ≡ checksumOf (now (s .entry)) ⌝ }
 {
     let turned = turns(near, far, START, s);
-    let left = s.len() % TURN;
-    rest(near, turned, s, s.len() - left)
+    let stepped = fours(near, turned, s, s.len() - s.len() % TURN);
+    rest(near, stepped, s, s.len() - s.len() % STEP)
 }
 
-// The checksum of the bytes s.
-pub fn of(s: &[u8]) -> usize
-    ensures { λ r. ⌜ Checksum (now (s .entry)) r ⌝ }
+// Lays the tables, and answers by them what the bytes s make of the start value.
+fn with_tables(s: &[u8]) -> u32
+    ensures { λ r. ⌜ r ≡ checksumOf (now (s .entry)) ⌝ }
 {
     let near = &NEAR;
     let far = &FAR;
-    by_table(near, far, s) as usize
+    by_table(near, far, s)
+}
+
+// The checksum of the bytes s. Fewer than a turn enter bit by bit: no table is laid for them.
+pub fn of(s: &[u8]) -> usize
+    ensures { λ r. ⌜ Checksum (now (s .entry)) r ⌝ }
+{
+    if s.len() < TURN {
+        return checksum_of(s) as usize;
+    }
+    with_tables(s) as usize
 }
 
 // The checksum of the first n bytes of s; of all of them where n is over their number.

@@ -1,3 +1,8 @@
+// The tables, by which a byte enters at once and not bit by bit. No number here has to be believed: each is what the terms make of its byte.
+// The definition RightTable (specs, inner/Table) says so, by the steps of terms.rt; that both tables are right is the theorem right-tables
+// (proofs, Entries), computed entry by entry. With one bit of one entry wrong the crate is not proved.
+use crate::terms::TERMS;
+
 // How many bytes there are, from 00 to FF.
 pub const BYTES: usize = 256;
 
@@ -5,11 +10,12 @@ pub const BYTES: usize = 256;
 // an empty register once some empty bytes have followed: k more than in the first row.
 pub const ENTRIES: usize = 1024;
 
-// The entries with no, one, two and three empty bytes after the byte. The first row comes from the definition, bit by bit; each later entry
-// is what one more empty byte makes of the entry that stands BYTES before it.
+// The entries with no, one, two and three empty bytes after the byte. The first row comes from the definition, bit by bit: the entry of the
+// byte 01, whose one leaves as it enters, is the terms themselves. Each later entry is what one more empty byte makes of the entry that
+// stands BYTES before it.
 pub const NEAR: [u32; ENTRIES] = [
     0x0000_0000,
-    0xD20D_8A81,
+    TERMS,
     0x7616_9F83,
     0xA41B_1502,
     0xEC2D_3F06,

@@ -1,4 +1,4 @@
--- `checksum::by_table` meets its contract: the bytes of the turns enter, and then the rest.
+-- `checksum::by_table` meets its contract: the bytes of the turns enter, then the fours that are left, and then the rest.
 use mathlib.Core.Path.{ap, _∙_}
 use Prim.Native.Nat.{ℕ}
 use lib.ListN.{length, drop}
@@ -12,12 +12,17 @@ use Rattle.checksum.proofs.by_table.Tie as tie
 returns : tie.Need-returns
 unfolding checksumOf
 returns c =
-    let s = c .before .before .before .args .s .now in
-    c .rest .ensures ∙ ap (λ (r : ℕ). checksumFrom r (drop (inTurns (length s)) s)) (c .before .turns .ensures) ∙ from-take (inTurns (length s)) s start
+    let s = c .before .before .before .before .args .s .now in
+    c .rest .ensures
+    ∙ c .before .fours .ensures
+    ∙ ap (λ (r : ℕ). checksumFrom r (drop (inTurns (length s)) s)) (c .before .before .turns .ensures)
+    ∙ from-take (inTurns (length s)) s start
 
 pub by-table-spec : {M : Type 1} → statement M
 by-table-spec = tie.close
     (tie.spec
+    (λ c κs. search needs)
+    (λ c. search needs)
     (λ c κs. search needs)
     (λ c. search needs)
     (λ c κs. search needs)

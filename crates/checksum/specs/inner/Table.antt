@@ -14,6 +14,10 @@ wordOf a b c d = a * 2 ^ 24 + b * 2 ^ 16 + c * 2 ^ 8 + d
 abbrev pub inTurns : ℕ → ℕ
 inTurns n = n - n % 16
 
+-- how many of n bytes enter in whole fours
+abbrev pub inFours : ℕ → ℕ
+inFours n = n - n % 4
+
 -- n empty bytes enter
 unfoldable pub emptySteps : ℕ → ℕ → ℕ
 emptySteps zero r = r
