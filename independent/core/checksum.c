@@ -13,7 +13,7 @@
 #define CHECKSUM_HIGH_BYTE_SHIFT 24
 
 enum {
-    TURN_SIZE = 8,
+    TURN_SIZE = 16,
     BYTE_VALUES = 256,
     LOW_BYTE = 0xFF
 };
@@ -37,6 +37,22 @@ enum {
                  0x4247EE63u, 0x848FDCC6u, 0xDB12330Du, 0x6429EC9Bu
 #define PASSED_7 0xC853D936u, 0x42AA38EDu, 0x855471DAu, 0xD8A56935u,         \
                  0x634758EBu, 0xC68EB1D6u, 0x5F10E92Du, 0xBE21D25Au
+#define PASSED_8 0xAE4E2E35u, 0x8E91D6EBu, 0xCF2E2757u, 0x4C51C42Fu,         \
+                 0x98A3885Eu, 0xE34A9A3Du, 0x1498BEFBu, 0x29317DF6u
+#define PASSED_9 0x5262FBECu, 0xA4C5F7D8u, 0x9B866531u, 0xE50140E3u,         \
+                 0x180F0B47u, 0x301E168Eu, 0x603C2D1Cu, 0xC0785A38u
+#define PASSED_10 0x52FD3EF1u, 0xA5FA7DE2u, 0x99F97145u, 0xE1FF680Bu,        \
+                  0x11F35A97u, 0x23E6B52Eu, 0x47CD6A5Cu, 0x8F9AD4B8u
+#define PASSED_11 0xCD3823F1u, 0x487DCD63u, 0x90FB9AC6u, 0xF3FABF0Du,        \
+                  0x35F8F49Bu, 0x6BF1E936u, 0xD7E3D26Cu, 0x7DCA2E59u
+#define PASSED_12 0xFB945CB2u, 0x252533E5u, 0x4A4A67CAu, 0x9494CF94u,        \
+                  0xFB2415A9u, 0x2445A1D3u, 0x488B43A6u, 0x9116874Cu
+#define PASSED_13 0xF0208419u, 0x324C82B3u, 0x64990566u, 0xC9320ACCu,        \
+                  0x40699F19u, 0x80D33E32u, 0xD3ABF6E5u, 0x755A674Bu
+#define PASSED_14 0xEAB4CE96u, 0x076417ADu, 0x0EC82F5Au, 0x1D905EB4u,        \
+                  0x3B20BD68u, 0x76417AD0u, 0xEC82F5A0u, 0x0B0861C1u
+#define PASSED_15 0x1610C382u, 0x2C218704u, 0x58430E08u, 0xB0861C10u,        \
+                  0xB301B2A1u, 0xB40EEFC3u, 0xBA105507u, 0xA62D208Fu
 
 /* One bit leaves the register at the high end; a 1 brings the mask in. */
 #define SHIFTED(value)                                                       \
@@ -58,7 +74,15 @@ typedef char every_number_is_the_one_before_it_shifted
      && EACH_SHIFTED(LAST(PASSED_3), PASSED_4)
      && EACH_SHIFTED(LAST(PASSED_4), PASSED_5)
      && EACH_SHIFTED(LAST(PASSED_5), PASSED_6)
-     && EACH_SHIFTED(LAST(PASSED_6), PASSED_7) ? 1 : -1];
+     && EACH_SHIFTED(LAST(PASSED_6), PASSED_7)
+     && EACH_SHIFTED(LAST(PASSED_7), PASSED_8)
+     && EACH_SHIFTED(LAST(PASSED_8), PASSED_9)
+     && EACH_SHIFTED(LAST(PASSED_9), PASSED_10)
+     && EACH_SHIFTED(LAST(PASSED_10), PASSED_11)
+     && EACH_SHIFTED(LAST(PASSED_11), PASSED_12)
+     && EACH_SHIFTED(LAST(PASSED_12), PASSED_13)
+     && EACH_SHIFTED(LAST(PASSED_13), PASSED_14)
+     && EACH_SHIFTED(LAST(PASSED_14), PASSED_15) ? 1 : -1];
 
 /* The bits of a byte act each for itself. */
 #define OF_BYTE(byte, a, b, c, d, e, f, g, h)                                \
@@ -84,7 +108,10 @@ typedef char every_number_is_the_one_before_it_shifted
 static const uint32_t passed[TURN_SIZE][BYTE_VALUES] = {
     EVERY_BYTE(PASSED_0), EVERY_BYTE(PASSED_1), EVERY_BYTE(PASSED_2),
     EVERY_BYTE(PASSED_3), EVERY_BYTE(PASSED_4), EVERY_BYTE(PASSED_5),
-    EVERY_BYTE(PASSED_6), EVERY_BYTE(PASSED_7)
+    EVERY_BYTE(PASSED_6), EVERY_BYTE(PASSED_7), EVERY_BYTE(PASSED_8),
+    EVERY_BYTE(PASSED_9), EVERY_BYTE(PASSED_10), EVERY_BYTE(PASSED_11),
+    EVERY_BYTE(PASSED_12), EVERY_BYTE(PASSED_13), EVERY_BYTE(PASSED_14),
+    EVERY_BYTE(PASSED_15)
 };
 
 /* Four bytes as they enter the register, the first one high. */
@@ -103,14 +130,16 @@ static uint32_t four_passed(uint32_t four, int others)
            ^ passed[others][four & LOW_BYTE]);
 }
 
-/* Eight bytes a turn, then the rest one by one. What the later four become
+/* Sixteen bytes a turn, then the rest one by one. What the later twelve become
  * does not wait for the register. */
 uint32_t ind_checksum(const uint8_t *bytes, size_t length)
 {
     uint32_t value = CHECKSUM_START;
     for (; length >= TURN_SIZE; length -= TURN_SIZE) {
-        uint32_t later = four_passed(entering(bytes + 4), 0);
-        value = four_passed(value ^ entering(bytes), 4) ^ later;
+        uint32_t later = four_passed(entering(bytes + 4), 8)
+            ^ four_passed(entering(bytes + 8), 4)
+            ^ four_passed(entering(bytes + 12), 0);
+        value = four_passed(value ^ entering(bytes), 12) ^ later;
         bytes += TURN_SIZE;
     }
     for (; length > 0; length--) {
