@@ -84,6 +84,58 @@ typedef char every_number_is_the_one_before_it_shifted
      && EACH_SHIFTED(LAST(PASSED_13), PASSED_14)
      && EACH_SHIFTED(LAST(PASSED_14), PASSED_15) ? 1 : -1];
 
+/* The terms of these degrees, as the register holds them. */
+#define THIRD(...) THIRD_OF(__VA_ARGS__)
+#define THIRD_OF(a, b, c, d, e, f, g, h) c
+#define SIXTH(...) SIXTH_OF(__VA_ARGS__)
+#define SIXTH_OF(a, b, c, d, e, f, g, h) f
+#define HELD_42 THIRD(PASSED_1)
+#define HELD_85 SIXTH(PASSED_6)
+#define HELD_95 LAST(PASSED_7)
+#define HELD_151 LAST(PASSED_14)
+#define HELD_170 0x0BD02189u
+
+/* A sum of terms squared is the sum of the terms of twice the degrees. */
+#define SQUARED(value)                                                       \
+    (DOUBLED(value, 0, TERMS_FROM(0)) ^ DOUBLED(value, 4, TERMS_FROM(8))     \
+     ^ DOUBLED(value, 8, TERMS_FROM(16)) ^ DOUBLED(value, 12, TERMS_FROM(24)) \
+     ^ DOUBLED(value, 16, PASSED_0) ^ DOUBLED(value, 20, PASSED_1)           \
+     ^ DOUBLED(value, 24, PASSED_2) ^ DOUBLED(value, 28, PASSED_3))
+#define TERMS_FROM(degree)                                                   \
+    TERM(degree), TERM((degree) + 1), TERM((degree) + 2),                    \
+    TERM((degree) + 3), TERM((degree) + 4), TERM((degree) + 5),              \
+    TERM((degree) + 6), TERM((degree) + 7)
+#define DOUBLED(value, from, ...) DOUBLED_OF(value, from, __VA_ARGS__)
+#define DOUBLED_OF(value, from, a, b, c, d, e, f, g, h)                      \
+    (((value) & TERM(from) ? a : 0) ^ ((value) & TERM((from) + 1) ? c : 0)   \
+     ^ ((value) & TERM((from) + 2) ? e : 0)                                  \
+     ^ ((value) & TERM((from) + 3) ? g : 0))
+
+typedef char the_term_of_degree_170_is_that_of_85_squared
+    [SQUARED(HELD_85) == HELD_170 ? 1 : -1];
+
+/* Terms of degree 341, 151, 95, 42 and 0 leave nothing in the register. With
+ * all degrees eightfold, that is squared three times, they do neither. So a
+ * byte, together with the same byte 190, 246, 299 and 341 bytes later, brings
+ * nothing to the checksum. */
+typedef char such_five_terms_leave_nothing
+    [(SHIFTED(SQUARED(HELD_170)) ^ HELD_151 ^ HELD_95 ^ HELD_42 ^ TERM(0)) == 0
+         ? 1 : -1];
+
+enum {
+    LATER_1 = 341 - 151,
+    LATER_2 = 341 - 95,
+    LATER_3 = 341 - 42,
+    LATER_4 = 341,
+    /* Whole turns, and not below the farthest. */
+    REST = 22 * TURN_SIZE,
+    STRETCH = 4096,
+    /* Where moving begins to take less time than the tables. */
+    LEAST_MOVED = 36 * TURN_SIZE,
+    START_SIZE = 4,
+    START_BYTE = 0xFF
+};
+
 /* The bits of a byte act each for itself. */
 #define OF_BYTE(byte, a, b, c, d, e, f, g, h)                                \
     (((byte) & 0x01 ? a : 0) ^ ((byte) & 0x02 ? b : 0)                       \
@@ -130,11 +182,10 @@ static uint32_t four_passed(uint32_t four, int others)
            ^ passed[others][four & LOW_BYTE]);
 }
 
-/* Sixteen bytes a turn, then the rest one by one. What the later twelve become
- * does not wait for the register. */
-uint32_t ind_checksum(const uint8_t *bytes, size_t length)
+/* The register after some bytes: sixteen a turn, then the rest one by one.
+ * What the later twelve become does not wait for the register. */
+static uint32_t entered(uint32_t value, const uint8_t *bytes, size_t length)
 {
-    uint32_t value = CHECKSUM_START;
     for (; length >= TURN_SIZE; length -= TURN_SIZE) {
         uint32_t later = four_passed(entering(bytes + 4), 8)
             ^ four_passed(entering(bytes + 8), 4)
@@ -147,4 +198,54 @@ uint32_t ind_checksum(const uint8_t *bytes, size_t length)
         value = value << IND_BITS_PER_BYTE ^ passed[0][high ^ *bytes++];
     }
     return value;
+}
+
+/* Bytes with all that is moved to them. What is moved from the byte before
+ * the first of them stands in moved[REST - 1], and so on backwards. */
+static inline void moved_to(const uint8_t *bytes, size_t count,
+                            const uint8_t *moved, uint8_t *with)
+{
+    for (size_t i = 0; i < count; i++)
+        with[i] = (uint8_t)(bytes[i] ^ moved[REST - LATER_1 + i]
+                            ^ moved[REST - LATER_2 + i]
+                            ^ moved[REST - LATER_3 + i]
+                            ^ moved[REST - LATER_4 + i]);
+}
+
+/* Nothing is moved from before the first byte; but the start value enters
+ * with the first four, as if it were. */
+static void start_moved(uint8_t moved[REST])
+{
+    for (uint32_t i = 0; i < REST; i++)
+        moved[i] = 0;
+    for (uint32_t i = 0; i < START_SIZE; i++)
+        moved[REST - LATER_4 + i] = START_BYTE;
+}
+
+/* Each byte but the rest is moved: it is taken away, and added to the four
+ * that come so many bytes later. The rest, from which nothing is moved, then
+ * has the checksum of all. */
+static uint32_t moved_checksum(const uint8_t *bytes, size_t length)
+{
+    uint8_t moved[REST + STRETCH + REST - LATER_1];
+    uint8_t rest[REST];
+    size_t count = length - REST;
+    start_moved(moved);
+    for (; count > STRETCH; count -= STRETCH) {
+        moved_to(bytes, STRETCH, moved, moved + REST);
+        for (uint32_t i = 0; i < REST; i++)
+            moved[i] = moved[STRETCH + i];
+        bytes += STRETCH;
+    }
+    moved_to(bytes, count, moved, moved + REST);
+    for (uint32_t i = 0; i < REST - LATER_1; i++)
+        moved[REST + count + i] = 0;
+    moved_to(bytes + count, REST, moved + count, rest);
+    return entered(0, rest, REST);
+}
+
+uint32_t ind_checksum(const uint8_t *bytes, size_t length)
+{
+    return length < LEAST_MOVED ? entered(CHECKSUM_START, bytes, length)
+                                : moved_checksum(bytes, length);
 }
