@@ -77,11 +77,12 @@ static uint32_t position_of(const uint8_t *point)
     return ind_four(point, IND_POINT_POSITION);
 }
 
+/* From -limit to limit, a number of two bytes. */
 static int heading_right(const uint8_t *point)
 {
-    return within(ind_extended(ind_two(point, IND_POINT_HEADING),
-                               2 * IND_BITS_PER_BYTE),
-                  IND_HEADING_LIMIT);
+    uint32_t heading = ind_two(point, IND_POINT_HEADING);
+    return ((heading + IND_HEADING_LIMIT) & IND_LARGEST_OF_TWO)
+        <= 2 * IND_HEADING_LIMIT;
 }
 
 static int near_right(const uint8_t *point)
@@ -162,28 +163,53 @@ static int last_point_right(const uint8_t *track, const uint8_t *point)
             == ind_four(track, IND_TRACK_END_LONGITUDE);
 }
 
+/* Start plus increment stays in the coordinate's range. */
+static int point_in_range(const uint8_t *track, const uint8_t *point)
+{
+    return within(ind_four(track, IND_TRACK_START_LATITUDE) + north_of(point),
+                  IND_LATITUDE_LIMIT)
+        && within(ind_four(track, IND_TRACK_START_LONGITUDE) + east_of(point),
+                  IND_LONGITUDE_LIMIT);
+}
+
+/* The track starts so far inside both ranges that no increment leads out. */
+static int all_in_range(const uint8_t *track)
+{
+    return within(ind_four(track, IND_TRACK_START_LATITUDE),
+                  IND_LATITUDE_LIMIT + IND_INCREMENT_LEAST)
+        && within(ind_four(track, IND_TRACK_START_LONGITUDE),
+                  IND_LONGITUDE_LIMIT + IND_INCREMENT_LEAST);
+}
+
+/* The first point after a track's first in which a field or the agreement is
+ * wrong, NULL if there is none. A position may be too large without notice:
+ * then a later one does not rise, or the last is not the track's end. */
+static inline const uint8_t *wrong_after(const uint8_t *track,
+                                         const uint8_t *first,
+                                         const uint8_t *last, int in_range)
+{
+    uint32_t reached = IND_START_POSITION;
+    for (const uint8_t *point = first; point < last;) {
+        point += IND_POINT_SIZE;
+        if (position_of(point) <= reached || !near_right(point)
+            || !heading_right(point)
+            || !(in_range || point_in_range(track, point)))
+            return point;
+        reached = position_of(point);
+    }
+    return last_point_right(track, last) ? NULL : last;
+}
+
 /* The first of a track's points in which a field or the agreement is wrong,
  * NULL if there is none. A start plus an increment of 0 is in range. */
 static const uint8_t *wrong_point(const uint8_t *track, const uint8_t *first,
                                   const uint8_t *last)
 {
-    uint32_t latitude = ind_four(track, IND_TRACK_START_LATITUDE);
-    uint32_t longitude = ind_four(track, IND_TRACK_START_LONGITUDE);
-    uint32_t reached = IND_START_POSITION;
     if (!heading_right(first) || !near_right(first)
         || !first_point_right(first))
         return first;
-    for (const uint8_t *point = first; point < last;) {
-        point += IND_POINT_SIZE;
-        if (position_of(point) <= reached
-            || position_of(point) > IND_LARGEST_POSITION
-            || !heading_right(point) || !near_right(point)
-            || !within(latitude + north_of(point), IND_LATITUDE_LIMIT)
-            || !within(longitude + east_of(point), IND_LONGITUDE_LIMIT))
-            return point;
-        reached = position_of(point);
-    }
-    return last_point_right(track, last) ? NULL : last;
+    return all_in_range(track) ? wrong_after(track, first, last, 1)
+                               : wrong_after(track, first, last, 0);
 }
 
 /* The first track number that does not rise, or the first point in which a
