@@ -248,14 +248,14 @@ static inline uint32_t kind_fault(pass *over, ind_kind kind, int may_be_named,
     return IND_NO_FAULT;
 }
 
-/* The record directly before a balise of place above 1 is a balise of the
- * same count and a lower place. Before the first balise of all stands a
- * turnout or a boundary: a null pointer here. */
-static int in_sequence(const uint8_t *before, const uint8_t *balise)
+/* A balise of place above 1: its place is at most its count, and the record
+ * directly before it is a balise of the same count and a lower place. Before
+ * the first balise of all stands a turnout or a boundary: a null pointer
+ * here. */
+static int member_right(const uint8_t *before, const uint8_t *balise)
 {
-    if (ind_balise_place(balise, 0) == 1)
-        return 1;
-    return before != NULL
+    return ind_balise_place(balise, 0) <= ind_balise_count(balise, 0)
+        && before != NULL
         && ind_balise_count(before, 0) == ind_balise_count(balise, 0)
         && ind_balise_place(before, 0) < ind_balise_place(balise, 0);
 }
@@ -270,11 +270,11 @@ static uint32_t balises_fault(pass *over)
         uint32_t fault = balise_fault(balise);
         if (fault != IND_NO_FAULT)
             return at + fault;
-        if ((ind_balise_place(balise, 0) > ind_balise_count(balise, 0)
-             || !in_sequence(before, balise))
-            && over->group_fault == IND_NO_FAULT)
+        if (ind_balise_place(balise, 0) == 1)
+            ind_mark(over->targets, at);
+        else if (!member_right(before, balise)
+                 && over->group_fault == IND_NO_FAULT)
             over->group_fault = at + IND_BALISE_GROUP;
-        ind_mark_if(over->targets, at, ind_balise_place(balise, 0) == 1);
         before = balise;
         at += balise[IND_BALISE_SIZE_BYTE];
     }

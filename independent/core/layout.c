@@ -65,25 +65,24 @@ static uint32_t group_end(const uint8_t *file, const ind_layout *layout,
     return layout->end;
 }
 
+static int balise_size_right(uint32_t size)
+{
+    return size == IND_BALISE_PLAIN_SIZE
+        || (size >= IND_BALISE_LEAST_WITH_MESSAGE
+            && size <= IND_BALISE_LARGEST);
+}
+
 /* The balise group from balise to balise: the start of a faulty one. */
 static uint32_t balise_fault(const uint8_t *file, uint32_t from, uint32_t to)
 {
     uint32_t balise = from;
-    while (balise < to) {
-        uint32_t left = to - balise;
-        uint32_t size;
-        if (left < IND_BALISE_PLAIN_SIZE)
-            return balise;
-        size = file[balise + IND_BALISE_SIZE_BYTE];
-        if (size != IND_BALISE_PLAIN_SIZE
-            && (size < IND_BALISE_LEAST_WITH_MESSAGE
-                || size > IND_BALISE_LARGEST))
-            return balise;
-        if (size > left)
+    while (balise + IND_BALISE_PLAIN_SIZE <= to) {
+        uint32_t size = file[balise + IND_BALISE_SIZE_BYTE];
+        if (!balise_size_right(size) || balise + size > to)
             return balise;
         balise += size;
     }
-    return IND_NO_FAULT;
+    return balise == to ? IND_NO_FAULT : balise;
 }
 
 /* One nonzero group; the first must start where the boundaries end. */

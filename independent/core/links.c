@@ -12,6 +12,7 @@ typedef struct {
     uint32_t boundaries_end;
     uint32_t turnouts_end;
     uint32_t end;
+    uint32_t unreturned;
     uint32_t return_fault;
 } pass;
 
@@ -26,19 +27,25 @@ static inline uint32_t next_of(uint32_t both)
     return both >> 2 * IND_BITS_PER_BYTE;
 }
 
+/* Some link of a balise, signal or joint names the place. */
+static inline int plain_returned(const pass *over, uint32_t target,
+                                 uint32_t place)
+{
+    uint32_t both = ind_four(over->file + target, IND_BALISE_PREVIOUS);
+    return previous_of(both) == place || next_of(both) == place;
+}
+
 /* Some link of a target names the place. */
 static inline int returned(const pass *over, uint32_t target, uint32_t place)
 {
     const uint8_t *record = over->file + target;
-    uint32_t both;
     if (target < over->boundaries_end)
         return ind_two(record, IND_BOUNDARY_LINK) == place;
     if (target < over->turnouts_end)
         return ind_two(record, IND_TURNOUT_FRONT) == place
             || ind_two(record, IND_TURNOUT_NORMAL) == place
             || ind_two(record, IND_TURNOUT_REVERSE) == place;
-    both = ind_four(record, IND_BALISE_PREVIOUS);
-    return previous_of(both) == place || next_of(both) == place;
+    return plain_returned(over, target, place);
 }
 
 /* Whether a link of a record, not 0, names what it must not. */
@@ -169,13 +176,110 @@ static inline uint32_t plain_fault(pass *over, const ind_layout *layout,
     return IND_NO_FAULT;
 }
 
+/* ---- whether all links are right, without the place of one that is not */
+
+static inline int differ(uint32_t link, uint32_t other)
+{
+    return link != other || link == 0;
+}
+
+/* A link that leads on, to a later record, is right if it is returned; one
+ * that leads back is counted against it. */
+static inline int leads(pass *over, uint32_t at, uint32_t link, int plain)
+{
+    if (link > at) {
+        over->unreturned++;
+        return link < over->end && ind_marked(over->targets, link)
+            && (plain ? plain_returned(over, link, at)
+                      : returned(over, link, at));
+    }
+    over->unreturned -= link != 0;
+    return link != at;
+}
+
+static int boundaries_right(pass *over, uint32_t from)
+{
+    for (uint32_t at = from; at < over->boundaries_end;
+         at += IND_BOUNDARY_SIZE) {
+        uint32_t link = ind_two(over->file + at, IND_BOUNDARY_LINK);
+        if (link == 0 || !leads(over, at, link, 0))
+            return 0;
+    }
+    return 1;
+}
+
+static int turnouts_right(pass *over)
+{
+    for (uint32_t at = over->boundaries_end; at < over->turnouts_end;
+         at += IND_TURNOUT_SIZE) {
+        const uint8_t *turnout = over->file + at;
+        uint32_t front = ind_two(turnout, IND_TURNOUT_FRONT);
+        uint32_t normal = ind_two(turnout, IND_TURNOUT_NORMAL);
+        uint32_t reverse = ind_two(turnout, IND_TURNOUT_REVERSE);
+        if (!differ(front, normal) || !differ(front, reverse)
+            || !differ(normal, reverse) || !leads(over, at, front, 0)
+            || !leads(over, at, normal, 0) || !leads(over, at, reverse, 0))
+            return 0;
+    }
+    return 1;
+}
+
+/* Both links of a balise of place 1, a signal or a joint. No boundary and no
+ * turnout comes after it. */
+static inline int both_right(pass *over, uint32_t at, uint32_t both)
+{
+    uint32_t previous = previous_of(both), next = next_of(both);
+    return differ(previous, next) && leads(over, at, previous, 1)
+        && leads(over, at, next, 1);
+}
+
+static int balises_right(pass *over, const ind_layout *layout)
+{
+    uint32_t to = layout->to[IND_BALISE];
+    uint32_t at = layout->from[IND_BALISE];
+    uint32_t before = 0;
+    while (at < to) {
+        const uint8_t *balise = over->file + at;
+        uint32_t both = ind_four(balise, IND_BALISE_PREVIOUS);
+        if (ind_balise_place(balise, 0) == 1 ? !both_right(over, at, both)
+                                             : both != before)
+            return 0;
+        before = both;
+        at += balise[IND_BALISE_SIZE_BYTE];
+    }
+    return 1;
+}
+
+static inline int plain_right(pass *over, const ind_layout *layout,
+                              ind_kind kind)
+{
+    uint32_t to = layout->to[kind];
+    uint32_t size = ind_fixed_size(kind);
+    for (uint32_t at = layout->from[kind]; at < to; at += size)
+        if (!both_right(over, at,
+                        ind_four(over->file + at, IND_BALISE_PREVIOUS)))
+            return 0;
+    return 1;
+}
+
+static int links_right(pass *over, const ind_layout *layout)
+{
+    return boundaries_right(over, layout->header) && turnouts_right(over)
+        && balises_right(over, layout)
+        && plain_right(over, layout, IND_SIGNAL)
+        && plain_right(over, layout, IND_JOINT) && over->unreturned == 0;
+}
+
 ind_answer ind_application_links(const uint8_t *file,
                                  const ind_layout *layout,
                                  const ind_marks *targets)
 {
     pass over = { file, targets, layout->to[IND_END_BOUNDARY],
-                  layout->to[IND_TURNOUT], layout->end, IND_NO_FAULT };
-    uint32_t fault = boundaries_fault(&over, layout->header);
+                  layout->to[IND_TURNOUT], layout->end, 0, IND_NO_FAULT };
+    uint32_t fault;
+    if (links_right(&over, layout))
+        return ind_says(IND_ACCEPTED, 0);
+    fault = boundaries_fault(&over, layout->header);
     if (fault == IND_NO_FAULT)
         fault = turnouts_fault(&over);
     if (fault == IND_NO_FAULT)

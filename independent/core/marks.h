@@ -1,40 +1,44 @@
-/* Marked places of a file: one bit for each place up to End. */
+/* Marked records of a file, by where they start. A record has at least 12
+ * bytes, so that of eight places in a row at most one is the start of a
+ * record: one byte says which, if any. */
 #ifndef IND_MARKS_H
 #define IND_MARKS_H
 
 #include "bytes.h"
 
+enum {
+    IND_PLACES_PER_MARK = 8
+};
+
 typedef struct {
-    uint8_t bits[(IND_LARGEST_FILE + 1) / IND_BITS_PER_BYTE];
+    uint8_t starts[(IND_LARGEST_FILE + 1) / IND_PLACES_PER_MARK];
 } ind_marks;
 
 static inline void ind_no_marks(ind_marks *marks, uint32_t end)
 {
-    for (uint32_t i = 0; i <= end / IND_BITS_PER_BYTE; i++)
-        marks->bits[i] = 0;
+    for (uint32_t i = 0; i <= end / IND_PLACES_PER_MARK; i++)
+        marks->starts[i] = 0;
 }
 
-static inline void ind_mark_if(ind_marks *marks, uint32_t place, int due)
+/* The mark of a record that starts at a place: not 0. */
+static inline uint8_t ind_mark_of(uint32_t place)
 {
-    marks->bits[place / IND_BITS_PER_BYTE] |=
-        (uint8_t)((due != 0) << place % IND_BITS_PER_BYTE);
+    return (uint8_t)(place % IND_PLACES_PER_MARK + 1);
 }
 
 static inline void ind_mark(ind_marks *marks, uint32_t place)
 {
-    ind_mark_if(marks, place, 1);
+    marks->starts[place / IND_PLACES_PER_MARK] = ind_mark_of(place);
 }
 
 static inline void ind_unmark(ind_marks *marks, uint32_t place)
 {
-    marks->bits[place / IND_BITS_PER_BYTE] &=
-        (uint8_t)~(1u << place % IND_BITS_PER_BYTE);
+    marks->starts[place / IND_PLACES_PER_MARK] = 0;
 }
 
 static inline int ind_marked(const ind_marks *marks, uint32_t place)
 {
-    return marks->bits[place / IND_BITS_PER_BYTE]
-            >> place % IND_BITS_PER_BYTE & 1;
+    return marks->starts[place / IND_PLACES_PER_MARK] == ind_mark_of(place);
 }
 
 #endif
