@@ -12,7 +12,7 @@ ind_answer ind_application(const uint8_t *file, size_t length,
     ind_answer answer =
         ind_opening(file, length, IND_X2_LEAST_LENGTH, IND_X2_TYPE);
     if (answer.number == IND_ACCEPTED)
-        answer = ind_application_layout(file, ind_end(length), layout);
+        answer = ind_application_groups(file, ind_end(length), layout);
     if (answer.number == IND_ACCEPTED)
         answer = ind_application_contents(file, layout, &targets);
     if (answer.number == IND_ACCEPTED)

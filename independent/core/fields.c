@@ -228,6 +228,7 @@ typedef struct {
     const uint8_t *file;
     const ind_layout *layout;
     ind_marks *targets;
+    uint32_t balise_fault;
     uint32_t group_fault;
 } pass;
 
@@ -260,16 +261,18 @@ static int member_right(const uint8_t *before, const uint8_t *balise)
         && ind_balise_place(before, 0) < ind_balise_place(balise, 0);
 }
 
-static uint32_t balises_fault(pass *over)
+/* The balises: their fields, and whether they agree, while they fit. The
+ * start of one that does not fit. */
+static uint32_t balises_layout_fault(pass *over)
 {
     uint32_t to = over->layout->to[IND_BALISE];
     uint32_t at = over->layout->from[IND_BALISE];
     const uint8_t *before = NULL;
-    while (at < to) {
+    while (ind_balise_fits(over->file, at, to)) {
         const uint8_t *balise = over->file + at;
         uint32_t fault = balise_fault(balise);
-        if (fault != IND_NO_FAULT)
-            return at + fault;
+        if (fault != IND_NO_FAULT && over->balise_fault == IND_NO_FAULT)
+            over->balise_fault = at + fault;
         if (ind_balise_place(balise, 0) == 1)
             ind_mark(over->targets, at);
         else if (!member_right(before, balise)
@@ -278,7 +281,7 @@ static uint32_t balises_fault(pass *over)
         before = balise;
         at += balise[IND_BALISE_SIZE_BYTE];
     }
-    return IND_NO_FAULT;
+    return at == to ? IND_NO_FAULT : at;
 }
 
 /* All records in stored order. */
@@ -290,7 +293,7 @@ static uint32_t records_fault(pass *over)
     if (fault == IND_NO_FAULT)
         fault = kind_fault(over, IND_TURNOUT, 1, turnout_fault);
     if (fault == IND_NO_FAULT)
-        fault = balises_fault(over);
+        fault = over->balise_fault;
     if (fault == IND_NO_FAULT)
         fault = kind_fault(over, IND_SIGNAL, 1, signal_fault);
     if (fault == IND_NO_FAULT)
@@ -318,9 +321,13 @@ ind_answer ind_application_contents(const uint8_t *file,
                                     const ind_layout *layout,
                                     ind_marks *targets)
 {
-    pass over = { file, layout, targets, IND_NO_FAULT };
-    uint32_t fault = header_fault(file, layout);
+    pass over = { file, layout, targets, IND_NO_FAULT, IND_NO_FAULT };
+    uint32_t fault;
     ind_no_marks(targets, layout->end);
+    fault = balises_layout_fault(&over);
+    if (fault != IND_NO_FAULT)
+        return ind_says(IND_LAYOUT, fault);
+    fault = header_fault(file, layout);
     if (fault == IND_NO_FAULT)
         fault = records_fault(&over);
     if (fault != IND_NO_FAULT)

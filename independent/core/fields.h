@@ -6,7 +6,8 @@
 #include "layout.h"
 #include "marks.h"
 
-/* Checks 5 and 7. Both look at every record, and marks are set where a link
+/* What is left of check 6, whether each balise fits, then checks 5 and 7. All
+ * look at the records, and marks are set where a link
  * may point: at each boundary, turnout, signal, joint and balise of place 1.
  * The marks hold for a file that passes. */
 ind_answer ind_application_contents(const uint8_t *file,

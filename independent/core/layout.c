@@ -65,23 +65,13 @@ static uint32_t group_end(const uint8_t *file, const ind_layout *layout,
     return layout->end;
 }
 
-static int balise_size_right(uint32_t size)
-{
-    return size == IND_BALISE_PLAIN_SIZE
-        || (size >= IND_BALISE_LEAST_WITH_MESSAGE
-            && size <= IND_BALISE_LARGEST);
-}
-
 /* The balise group from balise to balise: the start of a faulty one. */
-static uint32_t balise_fault(const uint8_t *file, uint32_t from, uint32_t to)
+static uint32_t balises_fault(const uint8_t *file, const ind_layout *layout)
 {
-    uint32_t balise = from;
-    while (balise + IND_BALISE_PLAIN_SIZE <= to) {
-        uint32_t size = file[balise + IND_BALISE_SIZE_BYTE];
-        if (!balise_size_right(size) || balise + size > to)
-            return balise;
-        balise += size;
-    }
+    uint32_t to = layout->to[IND_BALISE];
+    uint32_t balise = layout->from[IND_BALISE];
+    while (ind_balise_fits(file, balise, to))
+        balise += file[balise + IND_BALISE_SIZE_BYTE];
     return balise == to ? IND_NO_FAULT : balise;
 }
 
@@ -100,7 +90,7 @@ static uint32_t group_fault(const uint8_t *file, ind_layout *layout,
         return field;
     layout->from[kind] = from;
     layout->to[kind] = to;
-    return kind == IND_BALISE ? balise_fault(file, from, to) : IND_NO_FAULT;
+    return IND_NO_FAULT;
 }
 
 static uint32_t groups_fault(const uint8_t *file, ind_layout *layout)
@@ -121,15 +111,38 @@ static uint32_t groups_fault(const uint8_t *file, ind_layout *layout)
     return reached == layout->end ? IND_NO_FAULT : reached;
 }
 
-ind_answer ind_application_layout(const uint8_t *file, uint32_t end,
+/* A fault after the balise group's own turn comes after its balises'. */
+static uint32_t groups_and_balises_fault(const uint8_t *file,
+                                         ind_layout *layout)
+{
+    uint32_t fault, balise;
+    layout->from[IND_BALISE] = 0;
+    layout->to[IND_BALISE] = 0;
+    fault = groups_fault(file, layout);
+    if (fault == IND_NO_FAULT)
+        return IND_NO_FAULT;
+    balise = balises_fault(file, layout);
+    return balise == IND_NO_FAULT ? fault : balise;
+}
+
+ind_answer ind_application_groups(const uint8_t *file, uint32_t end,
                                   ind_layout *layout)
 {
     uint32_t fault = count_fault(file, end, layout);
     if (fault == IND_NO_FAULT)
         fault = boundary_offset_fault(file, layout);
     if (fault == IND_NO_FAULT)
-        fault = groups_fault(file, layout);
+        fault = groups_and_balises_fault(file, layout);
     return ind_unless(fault, IND_LAYOUT);
+}
+
+ind_answer ind_application_layout(const uint8_t *file, uint32_t end,
+                                  ind_layout *layout)
+{
+    ind_answer answer = ind_application_groups(file, end, layout);
+    if (answer.number == IND_ACCEPTED)
+        answer = ind_unless(balises_fault(file, layout), IND_LAYOUT);
+    return answer;
 }
 
 ind_kind ind_kind_at(const ind_layout *layout, uint32_t place)

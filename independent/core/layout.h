@@ -20,6 +20,26 @@ typedef struct {
 ind_answer ind_application_layout(const uint8_t *file, uint32_t end,
                                   ind_layout *layout);
 
+/* The same, but where it passes the balises are still to be looked at one by
+ * one: whether each fits. */
+ind_answer ind_application_groups(const uint8_t *file, uint32_t end,
+                                  ind_layout *layout);
+
+/* Of the balise group's bytes up to its end, at least 16 are left for a
+ * balise, its size byte is 16 or 18 to 120, and so many are left. */
+static inline int ind_balise_fits(const uint8_t *file, uint32_t balise,
+                                  uint32_t to)
+{
+    uint32_t size;
+    if (balise + IND_BALISE_PLAIN_SIZE > to)
+        return 0;
+    size = file[balise + IND_BALISE_SIZE_BYTE];
+    return (size == IND_BALISE_PLAIN_SIZE
+            || (size >= IND_BALISE_LEAST_WITH_MESSAGE
+                && size <= IND_BALISE_LARGEST))
+        && balise + size <= to;
+}
+
 /* In a file whose layout is right: */
 
 /* The header's entry of a boundary, counted through starts and ends. */
