@@ -135,12 +135,16 @@ static int attribute_right(uint8_t attribute)
         || attribute == IND_ATTRIBUTE_PHYSICAL_SAME;
 }
 
-static uint32_t balise_fault(const uint8_t *balise)
+static int number_absent(const uint8_t *number)
 {
-    uint32_t size = balise[IND_BALISE_SIZE_BYTE];
+    return ind_two(number, 0) == IND_LARGEST_OF_TWO && number[2] == 0xFF;
+}
+
+static inline uint32_t balise_fault(const uint8_t *balise, uint32_t size)
+{
     if (balise[IND_TYPE_PLACE] != IND_BALISE_TYPE)
         return IND_TYPE_PLACE;
-    if (ind_three(balise, IND_BALISE_NUMBER) == IND_NO_BALISE)
+    if (number_absent(balise + IND_BALISE_NUMBER))
         return IND_BALISE_NUMBER;
     if (!attribute_right(balise[IND_BALISE_ATTRIBUTE]))
         return IND_BALISE_ATTRIBUTE;
@@ -239,10 +243,10 @@ static inline uint32_t kind_fault(pass *over, ind_kind kind, int may_be_named,
     const uint8_t *file = over->file;
     uint32_t to = over->layout->to[kind];
     uint32_t size = ind_fixed_size(kind);
-    for (uint32_t at = over->layout->from[kind]; at < to; at += size) {
+    for (size_t at = over->layout->from[kind]; at < to; at += size) {
         uint32_t fault = fault_in(file + at);
         if (fault != IND_NO_FAULT)
-            return at + fault;
+            return (uint32_t)at + fault;
         if (may_be_named)
             ind_mark(over->targets, at);
     }
@@ -251,35 +255,48 @@ static inline uint32_t kind_fault(pass *over, ind_kind kind, int may_be_named,
 
 /* A balise of place above 1: its place is at most its count, and the record
  * directly before it is a balise of the same count and a lower place. Before
- * the first balise of all stands a turnout or a boundary: a null pointer
- * here. */
+ * the first balise of all stands a turnout or a boundary; here it stands
+ * before itself, and its place is not lower. */
 static int member_right(const uint8_t *before, const uint8_t *balise)
 {
     return ind_balise_place(balise, 0) <= ind_balise_count(balise, 0)
-        && before != NULL
         && ind_balise_count(before, 0) == ind_balise_count(balise, 0)
         && ind_balise_place(before, 0) < ind_balise_place(balise, 0);
 }
 
-/* The balises: their fields, and whether they agree, while they fit. The
- * start of one that does not fit. */
+/* A balise's fields, and whether it agrees with the one before it. */
+static inline void look_at_balise(pass *over, uint32_t at, uint32_t size,
+                                  uint32_t before)
+{
+    const uint8_t *balise = over->file + at;
+    uint32_t fault = balise_fault(balise, size);
+    if (fault != IND_NO_FAULT && over->balise_fault == IND_NO_FAULT)
+        over->balise_fault = at + fault;
+    if (ind_balise_place(balise, 0) == 1)
+        ind_mark(over->targets, at);
+    else if (!member_right(over->file + before, balise)
+             && over->group_fault == IND_NO_FAULT)
+        over->group_fault = at + IND_BALISE_GROUP;
+}
+
+/* All balises while they fit; the start of one that does not. Those without a
+ * message are all of one size. */
 static uint32_t balises_layout_fault(pass *over)
 {
+    const uint8_t *file = over->file;
     uint32_t to = over->layout->to[IND_BALISE];
     uint32_t at = over->layout->from[IND_BALISE];
-    const uint8_t *before = NULL;
-    while (ind_balise_fits(over->file, at, to)) {
-        const uint8_t *balise = over->file + at;
-        uint32_t fault = balise_fault(balise);
-        if (fault != IND_NO_FAULT && over->balise_fault == IND_NO_FAULT)
-            over->balise_fault = at + fault;
-        if (ind_balise_place(balise, 0) == 1)
-            ind_mark(over->targets, at);
-        else if (!member_right(before, balise)
-                 && over->group_fault == IND_NO_FAULT)
-            over->group_fault = at + IND_BALISE_GROUP;
-        before = balise;
-        at += balise[IND_BALISE_SIZE_BYTE];
+    uint32_t before = at;
+    while (ind_balise_fits(file + at, to - at)) {
+        uint32_t size = file[at + IND_BALISE_SIZE_BYTE];
+        look_at_balise(over, at, size, before);
+        before = at;
+        at += size;
+        while (ind_plain_balise_fits(file + at, to - at)) {
+            look_at_balise(over, at, IND_BALISE_PLAIN_SIZE, before);
+            before = at;
+            at += IND_BALISE_PLAIN_SIZE;
+        }
     }
     return at == to ? IND_NO_FAULT : at;
 }

@@ -70,7 +70,7 @@ static uint32_t balises_fault(const uint8_t *file, const ind_layout *layout)
 {
     uint32_t to = layout->to[IND_BALISE];
     uint32_t balise = layout->from[IND_BALISE];
-    while (ind_balise_fits(file, balise, to))
+    while (ind_balise_fits(file + balise, to - balise))
         balise += file[balise + IND_BALISE_SIZE_BYTE];
     return balise == to ? IND_NO_FAULT : balise;
 }

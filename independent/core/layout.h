@@ -25,19 +25,23 @@ ind_answer ind_application_layout(const uint8_t *file, uint32_t end,
 ind_answer ind_application_groups(const uint8_t *file, uint32_t end,
                                   ind_layout *layout);
 
-/* Of the balise group's bytes up to its end, at least 16 are left for a
- * balise, its size byte is 16 or 18 to 120, and so many are left. */
-static inline int ind_balise_fits(const uint8_t *file, uint32_t balise,
-                                  uint32_t to)
+/* Of the balise group, at least 16 bytes are left for a balise, its size byte
+ * is 16 or 18 to 120, and so many are left. */
+static inline int ind_balise_fits(const uint8_t *balise, size_t left)
 {
     uint32_t size;
-    if (balise + IND_BALISE_PLAIN_SIZE > to)
+    if (left < IND_BALISE_PLAIN_SIZE)
         return 0;
-    size = file[balise + IND_BALISE_SIZE_BYTE];
-    return (size == IND_BALISE_PLAIN_SIZE
-            || (size >= IND_BALISE_LEAST_WITH_MESSAGE
-                && size <= IND_BALISE_LARGEST))
-        && balise + size <= to;
+    size = balise[IND_BALISE_SIZE_BYTE];
+    return size == IND_BALISE_PLAIN_SIZE
+        || (size >= IND_BALISE_LEAST_WITH_MESSAGE
+            && size <= IND_BALISE_LARGEST && size <= left);
+}
+
+static inline int ind_plain_balise_fits(const uint8_t *balise, size_t left)
+{
+    return left >= IND_BALISE_PLAIN_SIZE
+        && balise[IND_BALISE_SIZE_BYTE] == IND_BALISE_PLAIN_SIZE;
 }
 
 /* In a file whose layout is right: */

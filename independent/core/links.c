@@ -12,7 +12,6 @@ typedef struct {
     uint32_t boundaries_end;
     uint32_t turnouts_end;
     uint32_t end;
-    uint32_t unreturned;
     uint32_t return_fault;
 } pass;
 
@@ -28,15 +27,14 @@ static inline uint32_t next_of(uint32_t both)
 }
 
 /* Some link of a balise, signal or joint names the place. */
-static inline int plain_returned(const pass *over, uint32_t target,
-                                 uint32_t place)
+static inline int plain_returned(const uint8_t *record, size_t place)
 {
-    uint32_t both = ind_four(over->file + target, IND_BALISE_PREVIOUS);
-    return previous_of(both) == place || next_of(both) == place;
+    return ind_two(record, IND_BALISE_PREVIOUS) == place
+        || ind_two(record, IND_BALISE_NEXT) == place;
 }
 
 /* Some link of a target names the place. */
-static inline int returned(const pass *over, uint32_t target, uint32_t place)
+static inline int returned(const pass *over, size_t target, size_t place)
 {
     const uint8_t *record = over->file + target;
     if (target < over->boundaries_end)
@@ -45,7 +43,7 @@ static inline int returned(const pass *over, uint32_t target, uint32_t place)
         return ind_two(record, IND_TURNOUT_FRONT) == place
             || ind_two(record, IND_TURNOUT_NORMAL) == place
             || ind_two(record, IND_TURNOUT_REVERSE) == place;
-    return plain_returned(over, target, place);
+    return plain_returned(record, place);
 }
 
 /* Whether a link of a record, not 0, names what it must not. */
@@ -176,98 +174,134 @@ static inline uint32_t plain_fault(pass *over, const ind_layout *layout,
     return IND_NO_FAULT;
 }
 
-/* ---- whether all links are right, without the place of one that is not */
+/* ---- whether all links are right, without the place of one that is not.
+ *
+ * A link leads on, to a later record, or back. One that leads on has to name
+ * a target that returns it, and the return leads back. Where no record names
+ * a target twice, each link on has a return of its own; so if as many lead
+ * back as on, every link back is such a return, and right as well. */
 
-static inline int differ(uint32_t link, uint32_t other)
+static inline int not_doubled(size_t link, size_t other)
 {
     return link != other || link == 0;
 }
 
-/* A link that leads on, to a later record, is right if it is returned; one
- * that leads back is counted against it. */
-static inline int leads(pass *over, uint32_t at, uint32_t link, int plain)
+/* A link of a record is right if it leads on and is returned, or leads back;
+ * ahead is how many more lead on. After a balise, signal or joint come no
+ * boundary and no turnout: a target of theirs is plain too. */
+static inline int leads(const pass *over, size_t at, size_t link, int plain,
+                        uint32_t *ahead)
 {
     if (link > at) {
-        over->unreturned++;
+        ++*ahead;
         return link < over->end && ind_marked(over->targets, link)
-            && (plain ? plain_returned(over, link, at)
+            && (plain ? plain_returned(over->file + link, at)
                       : returned(over, link, at));
     }
-    over->unreturned -= link != 0;
+    *ahead -= link != 0;
     return link != at;
 }
 
-static int boundaries_right(pass *over, uint32_t from)
+static int boundaries_right(const pass *over, uint32_t from, uint32_t *ahead)
 {
-    for (uint32_t at = from; at < over->boundaries_end;
+    uint32_t count = 0;
+    for (size_t at = from; at < over->boundaries_end;
          at += IND_BOUNDARY_SIZE) {
-        uint32_t link = ind_two(over->file + at, IND_BOUNDARY_LINK);
-        if (link == 0 || !leads(over, at, link, 0))
+        size_t link = ind_two(over->file + at, IND_BOUNDARY_LINK);
+        if (link == 0 || !leads(over, at, link, 0, &count))
             return 0;
     }
+    *ahead += count;
     return 1;
 }
 
-static int turnouts_right(pass *over)
+static int turnouts_right(const pass *over, uint32_t *ahead)
 {
-    for (uint32_t at = over->boundaries_end; at < over->turnouts_end;
+    uint32_t count = 0;
+    for (size_t at = over->boundaries_end; at < over->turnouts_end;
          at += IND_TURNOUT_SIZE) {
         const uint8_t *turnout = over->file + at;
-        uint32_t front = ind_two(turnout, IND_TURNOUT_FRONT);
-        uint32_t normal = ind_two(turnout, IND_TURNOUT_NORMAL);
-        uint32_t reverse = ind_two(turnout, IND_TURNOUT_REVERSE);
-        if (!differ(front, normal) || !differ(front, reverse)
-            || !differ(normal, reverse) || !leads(over, at, front, 0)
-            || !leads(over, at, normal, 0) || !leads(over, at, reverse, 0))
+        size_t front = ind_two(turnout, IND_TURNOUT_FRONT);
+        size_t normal = ind_two(turnout, IND_TURNOUT_NORMAL);
+        size_t reverse = ind_two(turnout, IND_TURNOUT_REVERSE);
+        if (!not_doubled(front, normal) || !not_doubled(front, reverse)
+            || !not_doubled(normal, reverse)
+            || !leads(over, at, front, 0, &count)
+            || !leads(over, at, normal, 0, &count)
+            || !leads(over, at, reverse, 0, &count))
             return 0;
     }
+    *ahead += count;
     return 1;
 }
 
-/* Both links of a balise of place 1, a signal or a joint. No boundary and no
- * turnout comes after it. */
-static inline int both_right(pass *over, uint32_t at, uint32_t both)
+/* Both links of a balise of place 1, a signal or a joint. */
+static inline int both_right(const pass *over, size_t at, uint32_t *ahead)
 {
-    uint32_t previous = previous_of(both), next = next_of(both);
-    return differ(previous, next) && leads(over, at, previous, 1)
-        && leads(over, at, next, 1);
+    size_t previous = ind_two(over->file + at, IND_BALISE_PREVIOUS);
+    size_t next = ind_two(over->file + at, IND_BALISE_NEXT);
+    return not_doubled(previous, next) && leads(over, at, previous, 1, ahead)
+        && leads(over, at, next, 1, ahead);
 }
 
-static int balises_right(pass *over, const ind_layout *layout)
+/* A balise of place above 1 has both links of the one before it. */
+static inline int balise_right(const pass *over, size_t at, size_t before,
+                               uint32_t *ahead)
 {
-    uint32_t to = layout->to[IND_BALISE];
-    uint32_t at = layout->from[IND_BALISE];
-    uint32_t before = 0;
+    const uint8_t *balise = over->file + at;
+    return ind_balise_place(balise, 0) == 1
+        ? both_right(over, at, ahead)
+        : ind_four(balise, IND_BALISE_PREVIOUS)
+            == ind_four(over->file + before, IND_BALISE_PREVIOUS);
+}
+
+/* Balises without a message are all of one size. */
+static int balises_right(const pass *over, const ind_layout *layout,
+                         uint32_t *ahead)
+{
+    const uint8_t *file = over->file;
+    size_t to = layout->to[IND_BALISE];
+    size_t at = layout->from[IND_BALISE];
+    size_t before = at;
+    uint32_t count = 0;
     while (at < to) {
-        const uint8_t *balise = over->file + at;
-        uint32_t both = ind_four(balise, IND_BALISE_PREVIOUS);
-        if (ind_balise_place(balise, 0) == 1 ? !both_right(over, at, both)
-                                             : both != before)
+        if (!balise_right(over, at, before, &count))
             return 0;
-        before = both;
-        at += balise[IND_BALISE_SIZE_BYTE];
+        before = at;
+        at += file[at + IND_BALISE_SIZE_BYTE];
+        while (at < to
+               && file[at + IND_BALISE_SIZE_BYTE] == IND_BALISE_PLAIN_SIZE) {
+            if (!balise_right(over, at, before, &count))
+                return 0;
+            before = at;
+            at += IND_BALISE_PLAIN_SIZE;
+        }
     }
+    *ahead += count;
     return 1;
 }
 
-static inline int plain_right(pass *over, const ind_layout *layout,
-                              ind_kind kind)
+static inline int plain_right(const pass *over, const ind_layout *layout,
+                              ind_kind kind, uint32_t *ahead)
 {
-    uint32_t to = layout->to[kind];
-    uint32_t size = ind_fixed_size(kind);
-    for (uint32_t at = layout->from[kind]; at < to; at += size)
-        if (!both_right(over, at,
-                        ind_four(over->file + at, IND_BALISE_PREVIOUS)))
+    size_t to = layout->to[kind];
+    size_t size = ind_fixed_size(kind);
+    uint32_t count = 0;
+    for (size_t at = layout->from[kind]; at < to; at += size)
+        if (!both_right(over, at, &count))
             return 0;
+    *ahead += count;
     return 1;
 }
 
-static int links_right(pass *over, const ind_layout *layout)
+static int links_right(const pass *over, const ind_layout *layout)
 {
-    return boundaries_right(over, layout->header) && turnouts_right(over)
-        && balises_right(over, layout)
-        && plain_right(over, layout, IND_SIGNAL)
-        && plain_right(over, layout, IND_JOINT) && over->unreturned == 0;
+    uint32_t ahead = 0;
+    return boundaries_right(over, layout->header, &ahead)
+        && turnouts_right(over, &ahead)
+        && balises_right(over, layout, &ahead)
+        && plain_right(over, layout, IND_SIGNAL, &ahead)
+        && plain_right(over, layout, IND_JOINT, &ahead) && ahead == 0;
 }
 
 ind_answer ind_application_links(const uint8_t *file,
@@ -275,7 +309,7 @@ ind_answer ind_application_links(const uint8_t *file,
                                  const ind_marks *targets)
 {
     pass over = { file, targets, layout->to[IND_END_BOUNDARY],
-                  layout->to[IND_TURNOUT], layout->end, 0, IND_NO_FAULT };
+                  layout->to[IND_TURNOUT], layout->end, IND_NO_FAULT };
     uint32_t fault;
     if (links_right(&over, layout))
         return ind_says(IND_ACCEPTED, 0);

@@ -21,22 +21,22 @@ static inline void ind_no_marks(ind_marks *marks, uint32_t end)
 }
 
 /* The mark of a record that starts at a place: not 0. */
-static inline uint8_t ind_mark_of(uint32_t place)
+static inline uint8_t ind_mark_of(size_t place)
 {
     return (uint8_t)(place % IND_PLACES_PER_MARK + 1);
 }
 
-static inline void ind_mark(ind_marks *marks, uint32_t place)
+static inline void ind_mark(ind_marks *marks, size_t place)
 {
     marks->starts[place / IND_PLACES_PER_MARK] = ind_mark_of(place);
 }
 
-static inline void ind_unmark(ind_marks *marks, uint32_t place)
+static inline void ind_unmark(ind_marks *marks, size_t place)
 {
     marks->starts[place / IND_PLACES_PER_MARK] = 0;
 }
 
-static inline int ind_marked(const ind_marks *marks, uint32_t place)
+static inline int ind_marked(const ind_marks *marks, size_t place)
 {
     return marks->starts[place / IND_PLACES_PER_MARK] == ind_mark_of(place);
 }
