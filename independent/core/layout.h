@@ -27,7 +27,7 @@ ind_answer ind_application_groups(const uint8_t *file, uint32_t end,
 
 /* Of the balise group, at least 16 bytes are left for a balise, its size byte
  * is 16 or 18 to 120, and so many are left. */
-static inline int ind_balise_fits(const uint8_t *balise, size_t left)
+static inline int ind_balise_fits(const uint8_t *balise, uint32_t left)
 {
     uint32_t size;
     if (left < IND_BALISE_PLAIN_SIZE)
@@ -38,7 +38,7 @@ static inline int ind_balise_fits(const uint8_t *balise, size_t left)
             && size <= IND_BALISE_LARGEST && size <= left);
 }
 
-static inline int ind_plain_balise_fits(const uint8_t *balise, size_t left)
+static inline int ind_plain_balise_fits(const uint8_t *balise, uint32_t left)
 {
     return left >= IND_BALISE_PLAIN_SIZE
         && balise[IND_BALISE_SIZE_BYTE] == IND_BALISE_PLAIN_SIZE;
