@@ -10,18 +10,19 @@
 #include "routes.h"
 
 #include "application.h"
-#include "marks.h"
 
 enum {
-    /* An object is left by at most so many links. */
-    MOST_WAYS = 2,
-    COUNT_WORD = 1
+    COUNT_WORD = 1,
+    /* A record has at least 12 bytes: of so many places in a row at most one
+     * is the start of an object. */
+    PLACES_PER_OBJECT = 8,
+    OBJECTS_MOST = (IND_LARGEST_FILE + 1) / PLACES_PER_OBJECT
 };
 
-/* An object that is still to be walked to, and the objects of that walk. */
+/* An object that is still to be walked to, and how many stand before it. */
 typedef struct {
     uint16_t object;
-    uint16_t objects;
+    uint16_t before;
 } branch;
 
 /* A listing under way. */
@@ -35,129 +36,121 @@ typedef struct {
     uint32_t count;
     uint32_t routes;
     uint32_t words;
-    /* The walk under way. */
-    uint32_t objects;
+    /* The walk under way, and for each object where in it the object was
+     * last put. It may have been taken out since. */
     uint16_t walk[IND_LARGEST_LIMIT];
-    ind_marks in_walk;
+    uint16_t put[OBJECTS_MOST];
     /* The reverse legs that wait, at most one of each turnout in the walk. */
     uint32_t waiting;
     branch branches[IND_LARGEST_LIMIT];
 } listing;
 
+/* A link, if it leads on from a walk of so many objects: it is not 0 and
+ * names no object that stands in it. Otherwise 0. */
+static inline uint32_t leading_on(const listing *list, uint32_t objects,
+                                  uint32_t link)
+{
+    uint32_t put = list->put[link / PLACES_PER_OBJECT];
+    return put < objects && list->walk[put] == link ? 0 : link;
+}
+
 /* A turnout entered at the front is left by normal or reverse; entered at
- * either leg it is left by the front. */
-static uint32_t ways_through_turnout(const uint8_t *turnout,
-                                     uint32_t came_from,
-                                     uint32_t ways[MOST_WAYS])
+ * either leg it is left by the front. Where both legs lead on, the reverse
+ * leg waits. */
+static inline uint32_t through_turnout(listing *list, uint32_t objects,
+                                       const uint8_t *turnout,
+                                       uint32_t came_from)
 {
-    ways[0] = ind_two(turnout, IND_TURNOUT_FRONT);
-    if (ways[0] != came_from)
-        return 1;
-    ways[0] = ind_two(turnout, IND_TURNOUT_NORMAL);
-    ways[1] = ind_two(turnout, IND_TURNOUT_REVERSE);
-    return 2;
+    uint32_t front = ind_two(turnout, IND_TURNOUT_FRONT);
+    uint32_t normal, reverse;
+    if (front != came_from)
+        return leading_on(list, objects, front);
+    normal =
+        leading_on(list, objects, ind_two(turnout, IND_TURNOUT_NORMAL));
+    reverse =
+        leading_on(list, objects, ind_two(turnout, IND_TURNOUT_REVERSE));
+    if (normal == 0)
+        return reverse;
+    if (reverse != 0) {
+        branch *later = &list->branches[list->waiting++];
+        later->object = (uint16_t)reverse;
+        later->before = (uint16_t)objects;
+    }
+    return normal;
 }
 
-/* The links by which the last object of the walk is left, in order. It was
- * entered by its link that names the object before; the first is a boundary,
- * and a boundary reached has nothing after it. */
-static uint32_t ways_on(const listing *list, uint32_t ways[MOST_WAYS])
+/* The object after the last one of a walk of so many objects, which was
+ * entered by its link that names the object before; 0 if there is none. The
+ * first is a boundary, and a boundary reached has nothing after it. */
+static inline uint32_t next_object(listing *list, uint32_t objects,
+                                   uint32_t here, uint32_t came_from)
 {
-    uint32_t here = list->walk[list->objects - 1];
     const uint8_t *record = list->file + here;
-    uint32_t came_from;
-    if (ind_boundary_at(list->layout, here)) {
-        ways[0] = ind_two(record, IND_BOUNDARY_LINK);
-        return list->objects == 1 ? 1 : 0;
-    }
-    came_from = list->walk[list->objects - 2];
-    if (ind_turnout_at(list->layout, here))
-        return ways_through_turnout(record, came_from, ways);
-    ways[0] = ind_two(record, IND_BALISE_PREVIOUS);
-    if (ways[0] == came_from)
-        ways[0] = ind_two(record, IND_BALISE_NEXT);
-    return 1;
-}
-
-/* Of the links by which the walk is left, those that lead on: they are not 0
- * and name no object that stands in it. */
-static uint32_t leading_on(const listing *list, uint32_t ways[MOST_WAYS])
-{
-    uint32_t count = ways_on(list, ways);
-    uint32_t leading = 0;
-    if (list->objects == list->limit)
+    uint32_t link;
+    if (objects == list->limit)
         return 0;
-    for (uint32_t i = 0; i < count; i++)
-        if (ways[i] != 0 && !ind_marked(&list->in_walk, ways[i]))
-            ways[leading++] = ways[i];
-    return leading;
+    if (ind_boundary_at(list->layout, here))
+        return objects > 1 ? 0 : ind_two(record, IND_BOUNDARY_LINK);
+    if (ind_turnout_at(list->layout, here))
+        return through_turnout(list, objects, record, came_from);
+    link = ind_two(record, IND_BALISE_PREVIOUS);
+    if (link == came_from)
+        link = ind_two(record, IND_BALISE_NEXT);
+    return leading_on(list, objects, link);
 }
 
-/* The walk under way is one object longer: one partial walk more. */
-static void lengthen(listing *list, uint32_t object)
+/* A walk of so many objects is one object longer: one partial walk more. */
+static inline void lengthen(listing *list, uint32_t objects, uint32_t object)
 {
-    ind_mark(&list->in_walk, object);
-    list->walk[list->objects++] = (uint16_t)object;
+    list->walk[objects] = (uint16_t)object;
+    list->put[object / PLACES_PER_OBJECT] = (uint16_t)objects;
     list->walks->last[list->count] = (uint16_t)object;
-    list->walks->objects[list->count] = (uint16_t)list->objects;
+    list->walks->objects[list->count] = (uint16_t)(objects + 1);
     list->count++;
-    if (list->objects > 1 && ind_boundary_at(list->layout, object)) {
+    if (objects > 0 && ind_boundary_at(list->layout, object)) {
         list->routes++;
-        list->words += COUNT_WORD + list->objects;
+        list->words += COUNT_WORD + objects + 1;
     }
 }
 
-/* Back to the walk of so many objects. */
-static void shorten(listing *list, uint32_t objects)
+static void begin(listing *list)
 {
-    while (list->objects > objects)
-        ind_unmark(&list->in_walk, list->walk[--list->objects]);
-}
-
-/* Lengthens the walk as far as it leads, each time by the first way; 0 if
- * the partial walks outnumber the budget. */
-static int walk_on(listing *list, uint32_t object)
-{
-    uint32_t ways[MOST_WAYS];
-    uint32_t leading = 1;
-    ways[0] = object;
-    while (leading > 0) {
-        if (list->count == list->budget)
-            return 0;
-        if (leading > 1) {
-            branch *later = &list->branches[list->waiting++];
-            later->object = (uint16_t)ways[1];
-            later->objects = (uint16_t)list->objects;
-        }
-        lengthen(list, ways[0]);
-        leading = leading_on(list, ways);
-    }
-    return 1;
+    list->count = 0;
+    list->routes = 0;
+    list->words = 0;
+    list->waiting = 0;
+    for (uint32_t i = 0; i <= list->layout->end / PLACES_PER_OBJECT; i++)
+        list->put[i] = 0;
 }
 
 /* All partial walks; 0 if they outnumber the budget. */
 static int all_walks(listing *list, uint32_t start)
 {
-    list->count = 0;
-    list->routes = 0;
-    list->words = 0;
-    list->objects = 0;
-    list->waiting = 0;
-    ind_no_marks(&list->in_walk, list->layout->end);
-    if (!walk_on(list, start))
-        return 0;
-    while (list->waiting > 0) {
-        const branch *next = &list->branches[--list->waiting];
-        shorten(list, next->objects);
-        if (!walk_on(list, next->object))
-            return 0;
+    uint32_t object = start, came_from = 0, objects = 0;
+    begin(list);
+    while (list->count < list->budget) {
+        uint32_t next;
+        lengthen(list, objects, object);
+        objects++;
+        next = next_object(list, objects, object, came_from);
+        came_from = object;
+        object = next;
+        if (next == 0) {
+            const branch *later;
+            if (list->waiting == 0)
+                return 1;
+            later = &list->branches[--list->waiting];
+            object = later->object;
+            objects = later->before;
+            came_from = list->walk[objects - 1];
+        }
     }
-    return 1;
+    return 0;
 }
 
 /* One route: its object count and then the offsets. */
-static uint16_t *write_route(uint16_t *words, const uint16_t *walk,
-                             uint32_t objects)
+static uint16_t *write_route(uint16_t *restrict words,
+                             const uint16_t *restrict walk, uint32_t objects)
 {
     *words++ = (uint16_t)objects;
     for (uint32_t i = 0; i < objects; i++)
