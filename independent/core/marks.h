@@ -31,11 +31,6 @@ static inline void ind_mark(ind_marks *marks, size_t place)
     marks->starts[place / IND_PLACES_PER_MARK] = ind_mark_of(place);
 }
 
-static inline void ind_unmark(ind_marks *marks, size_t place)
-{
-    marks->starts[place / IND_PLACES_PER_MARK] = 0;
-}
-
 static inline int ind_marked(const ind_marks *marks, size_t place)
 {
     return marks->starts[place / IND_PLACES_PER_MARK] == ind_mark_of(place);

@@ -1,9 +1,11 @@
 /* 01, 'Routes'. All partial walks are made depth first, a turnout's normal leg
  * before its reverse leg: the one under way stands in a list of its objects,
- * each of which is marked, and each walk leaves its last object and its
- * number of objects behind. Nothing is listed until all are there and the
- * words are counted. What they left behind, in the same order, then makes
- * them again, and those that end at a boundary are written down.
+ * and each walk leaves its last object and its number of objects behind. An
+ * object keeps where in the list it was put; it stands there as long as the
+ * list reaches so far and has it there, so that going back is only to shorten
+ * the list. Nothing is listed until all walks are there and the words are
+ * counted. What they left behind, in the same order, then makes them again,
+ * and those that end at a boundary are written down.
  *
  * An object is the place where it starts, below 65,535, and a walk has at most
  * 512 of them: both fit in 16 bits. */
@@ -99,14 +101,11 @@ static inline uint32_t next_object(listing *list, uint32_t objects,
     return leading_on(list, objects, link);
 }
 
-/* A walk of so many objects is one object longer: one partial walk more. */
+/* A walk of so many objects is one object longer. */
 static inline void lengthen(listing *list, uint32_t objects, uint32_t object)
 {
     list->walk[objects] = (uint16_t)object;
     list->put[object / PLACES_PER_OBJECT] = (uint16_t)objects;
-    list->walks->last[list->count] = (uint16_t)object;
-    list->walks->objects[list->count] = (uint16_t)(objects + 1);
-    list->count++;
     if (objects > 0 && ind_boundary_at(list->layout, object)) {
         list->routes++;
         list->words += COUNT_WORD + objects + 1;
@@ -126,12 +125,16 @@ static void begin(listing *list)
 /* All partial walks; 0 if they outnumber the budget. */
 static int all_walks(listing *list, uint32_t start)
 {
-    uint32_t object = start, came_from = 0, objects = 0;
+    uint32_t object = start, came_from = 0, objects = 0, count = 0;
+    ind_walks *walks = list->walks;
     begin(list);
-    while (list->count < list->budget) {
+    while (count < list->budget) {
         uint32_t next;
         lengthen(list, objects, object);
         objects++;
+        walks->last[count] = (uint16_t)object;
+        walks->objects[count] = (uint16_t)objects;
+        list->count = ++count;
         next = next_object(list, objects, object, came_from);
         came_from = object;
         object = next;
