@@ -33,20 +33,21 @@ static ind_answer in_x2(uint32_t number, uint32_t place)
     return answer;
 }
 
-/* The position stands on its track; both are places of the file. */
-static inline int stands(const station *known, const uint8_t *x2,
+/* A record's position stands on its track. */
+static inline int stands(const station *known, const uint8_t *record,
                          uint32_t track, uint32_t position)
 {
-    return ind_four(x2, position) < known->positions[x2[track]];
+    return ind_four(record, position) < known->positions[record[track]];
 }
 
-/* Why a position does not stand on its track: 11 before 12. */
+/* Why a record's position does not stand on its track: 11 before 12. */
 static ind_answer not_standing(const station *known, const uint8_t *x2,
-                               uint32_t track, uint32_t position)
+                               uint32_t start, uint32_t track,
+                               uint32_t position)
 {
-    return known->positions[x2[track]] == 0
-        ? in_x2(IND_NO_TRACK, track)
-        : in_x2(IND_BEYOND_END, position);
+    return known->positions[x2[start + track]] == 0
+        ? in_x2(IND_NO_TRACK, start + track)
+        : in_x2(IND_BEYOND_END, start + position);
 }
 
 /* The records of a kind of one position, whose track and position stand at
@@ -55,12 +56,14 @@ static inline ind_answer kind_answer(const station *known, const uint8_t *x2,
                                      const ind_layout *layout, ind_kind kind,
                                      uint32_t track, uint32_t position)
 {
-    ind_object record = { kind, layout->from[kind] };
-    while (record.start < layout->to[kind]) {
-        if (!stands(known, x2, record.start + track, record.start + position))
-            return not_standing(known, x2, record.start + track,
-                                record.start + position);
-        record.start += ind_record_size(x2, record);
+    size_t to = layout->to[kind];
+    size_t start = layout->from[kind];
+    while (start < to) {
+        const uint8_t *record = x2 + start;
+        if (!stands(known, record, track, position))
+            return not_standing(known, x2, (uint32_t)start, track, position);
+        start += kind == IND_BALISE ? record[IND_BALISE_SIZE_BYTE]
+                                    : ind_fixed_size(kind);
     }
     return ind_says(IND_ACCEPTED, 0);
 }
@@ -80,10 +83,9 @@ static ind_answer turnouts_answer(const station *known, const uint8_t *x2,
     for (uint32_t start = layout->from[IND_TURNOUT];
          start < layout->to[IND_TURNOUT]; start += IND_TURNOUT_SIZE)
         for (uint32_t i = 0; i < sizeof legs / sizeof *legs; i++)
-            if (!stands(known, x2, start + legs[i].track,
-                        start + legs[i].position))
-                return not_standing(known, x2, start + legs[i].track,
-                                    start + legs[i].position);
+            if (!stands(known, x2 + start, legs[i].track, legs[i].position))
+                return not_standing(known, x2, start, legs[i].track,
+                                    legs[i].position);
     return ind_says(IND_ACCEPTED, 0);
 }
 
