@@ -135,9 +135,11 @@ static int attribute_right(uint8_t attribute)
         || attribute == IND_ATTRIBUTE_PHYSICAL_SAME;
 }
 
+/* The three bytes that no balise has for a number. */
 static int number_absent(const uint8_t *number)
 {
-    return ind_two(number, 0) == IND_LARGEST_OF_TWO && number[2] == 0xFF;
+    return ind_two(number, 0) == (IND_NO_BALISE & IND_LARGEST_OF_TWO)
+        && number[2] == IND_NO_BALISE >> 2 * IND_BITS_PER_BYTE;
 }
 
 static inline uint32_t balise_fault(const uint8_t *balise, uint32_t size)
@@ -226,8 +228,8 @@ static uint32_t header_fault(const uint8_t *file, const ind_layout *layout)
 }
 
 /* What the pass over the records is made with, and what it finds for the
- * checks after it: the places where a link may point, and the first group
- * byte that does not agree. */
+ * checks after it: the places where a link may point, the first field of a
+ * balise that is at fault, and the first group byte that does not agree. */
 typedef struct {
     const uint8_t *file;
     const ind_layout *layout;

@@ -38,6 +38,7 @@ static inline int ind_balise_fits(const uint8_t *balise, uint32_t left)
             && size <= IND_BALISE_LARGEST && size <= left);
 }
 
+/* The same of a balise without a message. */
 static inline int ind_plain_balise_fits(const uint8_t *balise, uint32_t left)
 {
     return left >= IND_BALISE_PLAIN_SIZE
