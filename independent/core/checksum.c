@@ -222,9 +222,16 @@ static void start_moved(uint8_t moved[REST])
         moved[REST - LATER_4 + i] = START_BYTE;
 }
 
+/* So many bytes, and as many more as make the last turn whole. */
+static size_t whole_turns(size_t count)
+{
+    return (count + TURN_SIZE - 1) / TURN_SIZE * TURN_SIZE;
+}
+
 /* Each byte but the rest is moved: it is taken away, and added to the four
  * that come so many bytes later. The rest, from which nothing is moved, then
- * has the checksum of all. */
+ * has the checksum of all. It begins anywhere in a turn; what was moved from
+ * it to make the turn whole is blanked. */
 static uint32_t moved_checksum(const uint8_t *bytes, size_t length)
 {
     uint8_t moved[REST + STRETCH + REST - LATER_1];
@@ -237,7 +244,7 @@ static uint32_t moved_checksum(const uint8_t *bytes, size_t length)
             moved[i] = moved[STRETCH + i];
         bytes += STRETCH;
     }
-    moved_to(bytes, count, moved, moved + REST);
+    moved_to(bytes, whole_turns(count), moved, moved + REST);
     for (uint32_t i = 0; i < REST - LATER_1; i++)
         moved[REST + count + i] = 0;
     moved_to(bytes + count, REST, moved + count, rest);
