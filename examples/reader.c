@@ -1,5 +1,5 @@
 /* An example of the C library: reads a station's two files and prints the verdict of the pair, the headers, the first track, the coordinate
- * in the middle of that track, the record after the header of the X.2, and the routes from it.
+ * in the middle of that track, the record after the header of the X.2, the signal that it links to, and the routes from it.
  *
  *     tools/library && target/libyard/reader examples/1.1 examples/1.2 */
 #include <inttypes.h>
@@ -94,15 +94,32 @@ static size_t records_start(void)
     return HEADER + BOUNDARY * (starts + ends);
 }
 
+/* Prints the signal at a place, if there is one. Its name stands in the file, and no zero need follow it. */
+static void print_signal(uint32_t start)
+{
+    uint8_t record[YARD_RECORD_SIZE];
+    if (refused("signal", yard_record(second.bytes, second.length, start, record, sizeof record)))
+        return;
+    if (yard_unsigned(record, YARD_RECORD_KIND) != YARD_SIGNAL)
+        return;
+    const uint8_t *name = second.bytes + yard_unsigned(record, YARD_SIGNAL_NAME);
+    int bytes = (int)yard_unsigned(record, YARD_SIGNAL_NAME_BYTES);
+    printf("signal %" PRIu32 ": name '%.*s' of %d bytes, position %" PRIu32 " cm on track %" PRIu32 "\n", start, bytes, (const char *)name,
+           bytes, yard_unsigned(record, YARD_SIGNAL_POSITION), yard_unsigned(record, YARD_SIGNAL_TRACK));
+}
+
+/* Prints the boundary after the header, and the signal that it links to. */
 static void print_record(void)
 {
     uint8_t record[YARD_RECORD_SIZE];
     size_t start = records_start();
     if (refused("record", yard_record(second.bytes, second.length, start, record, sizeof record)))
         return;
+    uint32_t link = yard_unsigned(record, YARD_BOUNDARY_LINK);
     printf("record %zu: kind %" PRIu32 ", link %" PRIu32 ", position %" PRIu32 " cm on track %" PRIu32 "\n", start,
-           yard_unsigned(record, YARD_RECORD_KIND), yard_unsigned(record, YARD_BOUNDARY_LINK),
-           yard_unsigned(record, YARD_BOUNDARY_POSITION), yard_unsigned(record, YARD_BOUNDARY_TRACK));
+           yard_unsigned(record, YARD_RECORD_KIND), link, yard_unsigned(record, YARD_BOUNDARY_POSITION),
+           yard_unsigned(record, YARD_BOUNDARY_TRACK));
+    print_signal(link);
 }
 
 /* Prints every route from the boundary after the header, by the places of its objects. */

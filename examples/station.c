@@ -10,7 +10,7 @@
  *
  * station 1 writes its X.1 to standard output, station 2 its X.2. The track of each line starts at its start boundary; positions are in
  * centimetres, coordinates in milliarcseconds. The balises are a group of two: both have the same links, and others link to number 1 alone.
- * Tables are those of the standard. */
+ * X1 is named with a space in between, and J3 has no name. Tables are those of the standard. */
 #include <stdio.h>
 #include <string.h>
 
@@ -93,13 +93,13 @@ static void put_records(void)
     put_turnout(3, 0, (side){ 83300, J2, 2 }, (side){ 80000, X2, 2 }, (side){ 54700, J4, 4 });
     put_balise(X1, T1, BALISE_NUMBER, 12000, FIRST_OF_TWO, "\x90\x02\x7F\x81\x3C\xFF", MESSAGE);
     put_balise(X1, T1, BALISE_NUMBER + 1, 12500, SECOND_OF_TWO, "", 0);
-    put_signal(B1, FIRST_BALISE, "X1", 9000, 1, DOWN_ENTRY);
+    put_signal(B1, FIRST_BALISE, "X 1", 9000, 1, DOWN_ENTRY);
     put_signal(B2, T3, "X2", 9000, 2, UP_ENTRY);
     put_signal(T2, J3, "S3", 6000, 3, UP_EXIT);
     put_signal(T2, J4, "S4", 12500, 4, DOWN_SHUNTING);
     put_joint(T1, B3, "J1", 96000, 1);
     put_joint(T3, B4, "J2", 97000, 2);
-    put_joint(S3, 0, "J3", 32500, 3);
+    put_joint(S3, 0, "", 32500, 3);
     put_joint(S4, T3, "J4", 50000, 4);
     put_siding("3G", 3, NO_BALISE, "S3", NO_BALISE, "");
     put_siding("4G", 4, BALISE_NUMBER, "S4", NO_BALISE, "");

@@ -124,6 +124,7 @@ static void signal_values(const ind_signal *got, expected *due)
     value(due, got->previous);
     value(due, got->next);
     value(due, got->name);
+    value(due, got->name_bytes);
     value(due, got->position);
     value(due, got->track);
     value(due, got->direction);
@@ -135,6 +136,7 @@ static void joint_values(const ind_joint *got, expected *due)
     value(due, got->previous);
     value(due, got->next);
     value(due, got->name);
+    value(due, got->name_bytes);
     value(due, got->position);
     value(due, got->track);
 }
@@ -142,11 +144,14 @@ static void joint_values(const ind_joint *got, expected *due)
 static void siding_values(const ind_siding *got, expected *due)
 {
     value(due, got->name);
+    value(due, got->name_bytes);
     value(due, got->track);
     value(due, got->up_balise);
     value(due, got->up_signal);
+    value(due, got->up_signal_bytes);
     value(due, got->down_balise);
     value(due, got->down_signal);
+    value(due, got->down_signal_bytes);
 }
 
 static void expect_record(const posed *ask, expected *due)

@@ -13,7 +13,8 @@ void realistic_geography(uint32_t bytes, stored *file);
 void worst_geography(uint32_t bytes, stored *file);
 
 /* An X.2 of lines that part and meet again, with signals, joints, balises
- * with messages, and sidings. */
+ * with messages, and sidings. Names are as the generator makes them: some have
+ * a space inside, and some joints have none. */
 void realistic_application(uint32_t bytes, stored *file);
 
 /* An X.2 of balises alone, all links of which name balises. */

@@ -291,22 +291,28 @@ enum {
 
 typedef uint8_t starts_map[LARGEST_FILE + 1];
 
-static int name_right(const uint8_t name[NAME_SIZE])
+/* How many bytes a name has; -1 where the field holds none. */
+static int name_bytes(const uint8_t name[NAME_SIZE])
 {
-    int i = 0;
-    while (i < NAME_SIZE && name[i] >= 0x21 && name[i] <= 0x7E)
-        i++;
-    if (i == 0)
-        return 0;
-    while (i < NAME_SIZE && name[i] == 0)
-        i++;
-    return i == NAME_SIZE;
+    int used = 0, i;
+    while (used < NAME_SIZE && name[used] >= 0x20 && name[used] <= 0x7E)
+        used++;
+    for (i = used; i < NAME_SIZE; i++)
+        if (name[i] != 0)
+            return -1;
+    if (used > 0 && (name[0] == 0x20 || name[used - 1] == 0x20))
+        return -1;
+    return used;
 }
 
-static int exit_name_right(const uint8_t name[NAME_SIZE])
+static int name_right(const uint8_t name[NAME_SIZE])
 {
-    static const uint8_t none[NAME_SIZE];
-    return memcmp(name, none, NAME_SIZE) == 0 || name_right(name);
+    return name_bytes(name) > 0;
+}
+
+static int optional_name_right(const uint8_t name[NAME_SIZE])
+{
+    return name_bytes(name) >= 0;
 }
 
 static int station_name_right(const uint8_t name[STATION_NAME_SIZE])
@@ -411,10 +417,11 @@ static int balises_right(const uint8_t *file, uint32_t at, uint32_t to,
     return at == to;
 }
 
-static int joint_right(const joint *of, uint8_t type)
+/* A joint, or what a signal has in common with one: all but the name. */
+static int post_right(const joint *of, uint8_t type)
 {
-    return of->type == type && name_right(of->name)
-        && of->position <= LARGEST_POSITION && of->track != 0;
+    return of->type == type && of->position <= LARGEST_POSITION
+        && of->track != 0;
 }
 
 static int signals_right(const uint8_t *file, uint32_t at, uint32_t to,
@@ -422,9 +429,9 @@ static int signals_right(const uint8_t *file, uint32_t at, uint32_t to,
 {
     for (; at < to; at += (uint32_t)sizeof(signal)) {
         const signal *of = (const void *)(file + at);
-        if (!joint_right(&of->like, 0xC3) || of->signal >= 0xC0
-            || (of->signal & 0x30) != 0 || (of->signal & 0x0F) < 1
-            || (of->signal & 0x0F) > 5)
+        if (!post_right(&of->like, 0xC3) || !name_right(of->like.name)
+            || of->signal >= 0xC0 || (of->signal & 0x30) != 0
+            || (of->signal & 0x0F) < 1 || (of->signal & 0x0F) > 5)
             return 0;
         starts_at[at] = A_PLAIN_ONE;
     }
@@ -435,7 +442,8 @@ static int joints_right(const uint8_t *file, uint32_t at, uint32_t to,
                         starts_map starts_at)
 {
     for (; at < to; at += (uint32_t)sizeof(joint)) {
-        if (!joint_right((const void *)(file + at), 0xC6))
+        const joint *of = (const void *)(file + at);
+        if (!post_right(of, 0xC6) || !optional_name_right(of->name))
             return 0;
         starts_at[at] = A_PLAIN_ONE;
     }
@@ -447,8 +455,8 @@ static int sidings_right(const uint8_t *file, uint32_t at, uint32_t to)
     for (; at < to; at += (uint32_t)sizeof(siding)) {
         const siding *of = (const void *)(file + at);
         if (of->type != 0xCC || !name_right(of->name) || of->track == 0
-            || !exit_name_right(of->up_signal)
-            || !exit_name_right(of->down_signal))
+            || !optional_name_right(of->up_signal)
+            || !optional_name_right(of->down_signal))
             return 0;
     }
     return at == to;

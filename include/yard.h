@@ -173,8 +173,9 @@ enum yard_header2_value {
 #define YARD_HEADER2_SIZE 20
 
 /* The record that starts at a place. No record starts there: YARD_QUESTION. Value 0 is the record's kind, and the kind's values stand after
- * it; those after the kind's last one are 0. A link is the place of another record, 0 for none. A name is the place of its 8 bytes in the
- * file, of which those from the first zero on do not count. */
+ * it; those after the kind's last one are 0. A link is the place of another record, 0 for none. A name is its place in the file and how
+ * many bytes it has, 0 to 8. The bytes are 0x20 to 0x7E, and the name has no space first or last; no zero need stand after it. Where there
+ * is no name the number is 0, and the place is that of its field. */
 uint64_t yard_record(const uint8_t *file, size_t file_length, size_t offset, uint8_t *out, size_t out_length);
 
 #define YARD_RECORD_KIND 0
@@ -237,7 +238,8 @@ enum yard_balise_value {
 enum yard_signal_value {
     YARD_SIGNAL_PREVIOUS = 1, /* link */
     YARD_SIGNAL_NEXT,         /* link */
-    YARD_SIGNAL_NAME,         /* name */
+    YARD_SIGNAL_NAME,         /* the place of its name */
+    YARD_SIGNAL_NAME_BYTES,   /* how many bytes the name has, 1 to 8 */
     YARD_SIGNAL_POSITION,
     YARD_SIGNAL_TRACK,
     YARD_SIGNAL_DIRECTION, /* 0: for no direction; 1: down; 2: up */
@@ -248,19 +250,23 @@ enum yard_signal_value {
 enum yard_joint_value {
     YARD_JOINT_PREVIOUS = 1, /* link */
     YARD_JOINT_NEXT,         /* link */
-    YARD_JOINT_NAME,         /* name */
+    YARD_JOINT_NAME,         /* the place of its name */
+    YARD_JOINT_NAME_BYTES,   /* how many bytes the name has, 1 to 8; 0 for an unnamed joint */
     YARD_JOINT_POSITION,
     YARD_JOINT_TRACK
 };
 
 /* A siding, table 12. */
 enum yard_siding_value {
-    YARD_SIDING_NAME = 1, /* name */
+    YARD_SIDING_NAME = 1,   /* the place of its name */
+    YARD_SIDING_NAME_BYTES, /* how many bytes the name has, 1 to 8 */
     YARD_SIDING_TRACK,
-    YARD_SIDING_UP_BALISE,   /* the number of the exit balise on the up side, 0xFFFFFF for none */
-    YARD_SIDING_UP_SIGNAL,   /* the name of the exit signal on the up side, all zero for none */
-    YARD_SIDING_DOWN_BALISE, /* the same two of the down side */
-    YARD_SIDING_DOWN_SIGNAL
+    YARD_SIDING_UP_BALISE,       /* the number of the exit balise on the up side, 0xFFFFFF for none */
+    YARD_SIDING_UP_SIGNAL,       /* the place of the name of the exit signal on the up side */
+    YARD_SIDING_UP_SIGNAL_BYTES, /* how many bytes that name has, 1 to 8; 0 for none */
+    YARD_SIDING_DOWN_BALISE,     /* the same three of the down side */
+    YARD_SIDING_DOWN_SIGNAL,
+    YARD_SIDING_DOWN_SIGNAL_BYTES
 };
 
 /* Every route from the boundary that starts at `start`, of at most `limit` objects (2 to 512; 0 means 64), where there are at most `budget`

@@ -100,17 +100,16 @@ static void pair_line(FILE *output, ind_answer answer)
             (unsigned long)answer.place, (unsigned long)answer.file);
 }
 
-/* A name's bytes up to the first zero, `-` where there are none. */
-static void name_line(FILE *output, const char *field, const uint8_t *name)
+/* A name's bytes as they stand, `-` where there are none, and on a line of its
+ * own how many they are. */
+static void name_lines(FILE *output, const char *field, const uint8_t *name,
+                       uint32_t bytes)
 {
-    size_t used = 0;
-    while (used < IND_NAME_SIZE && name[used] != 0)
-        used++;
     fprintf(output, "%s ", field);
-    if (used == 0)
+    if (bytes == 0)
         putc('-', output);
-    fwrite(name, 1, used, output);
-    putc('\n', output);
+    fwrite(name, 1, bytes, output);
+    fprintf(output, "\n%s_bytes %lu\n", field, (unsigned long)bytes);
 }
 
 /* Bytes in hexadecimal, `-` where there are none. */
@@ -246,7 +245,7 @@ static void print_signal(FILE *output, const uint8_t *file,
     };
     line(output, "previous", signal->previous);
     line(output, "next", signal->next);
-    name_line(output, "name", file + signal->name);
+    name_lines(output, "name", file + signal->name, signal->name_bytes);
     line(output, "position", signal->position);
     line(output, "track", signal->track);
     word_line(output, "direction", directions[signal->direction]);
@@ -258,7 +257,7 @@ static void print_joint(FILE *output, const uint8_t *file,
 {
     line(output, "previous", joint->previous);
     line(output, "next", joint->next);
-    name_line(output, "name", file + joint->name);
+    name_lines(output, "name", file + joint->name, joint->name_bytes);
     line(output, "position", joint->position);
     line(output, "track", joint->track);
 }
@@ -266,12 +265,14 @@ static void print_joint(FILE *output, const uint8_t *file,
 static void print_siding(FILE *output, const uint8_t *file,
                          const ind_siding *siding)
 {
-    name_line(output, "name", file + siding->name);
+    name_lines(output, "name", file + siding->name, siding->name_bytes);
     line(output, "track", siding->track);
     exit_balise_line(output, "up_balise", siding->up_balise);
-    name_line(output, "up_signal", file + siding->up_signal);
+    name_lines(output, "up_signal", file + siding->up_signal,
+               siding->up_signal_bytes);
     exit_balise_line(output, "down_balise", siding->down_balise);
-    name_line(output, "down_signal", file + siding->down_signal);
+    name_lines(output, "down_signal", file + siding->down_signal,
+               siding->down_signal_bytes);
 }
 
 static void print_record(FILE *output, const posed *ask)

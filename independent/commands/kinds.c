@@ -13,7 +13,7 @@ enum {
     /* The name of a place, and of a case with its question and number. */
     PLACE_ROOM = 32,
     NAME_ROOM = 64,
-    NAMES_LARGEST = 1000
+    NAMES_LARGEST = 2000
 };
 
 int command_kinds(int count, char **words)
@@ -92,6 +92,78 @@ static const char *link_name(const uint8_t *bytes, uint32_t before,
     return "member_other_link";
 }
 
+/* Whether the field at this place of a record is a name. */
+static int is_name(ind_kind kind, uint32_t field)
+{
+    switch (kind) {
+    case IND_SIGNAL: return field == IND_SIGNAL_NAME;
+    case IND_JOINT: return field == IND_JOINT_NAME;
+    case IND_SIDING:
+        return field == IND_SIDING_NAME || field == IND_SIDING_UP_SIGNAL
+            || field == IND_SIDING_DOWN_SIGNAL;
+    default: return 0;
+    }
+}
+
+/* What is wrong with the bytes of a name's field. Used are those before the
+ * first zero. */
+typedef struct {
+    uint32_t used;
+    int low;
+    int high;
+    int space_first;
+    int space_last;
+    int after_zero;
+} name_faults;
+
+static name_faults faults_of_name(const uint8_t *name)
+{
+    name_faults seen = { 0, 0, 0, 0, 0, 0 };
+    while (seen.used < IND_NAME_SIZE && name[seen.used] != 0)
+        seen.used++;
+    for (uint32_t i = 0; i < IND_NAME_SIZE; i++) {
+        seen.low |= i < seen.used && name[i] < IND_SPACE;
+        seen.high |= i < seen.used && name[i] > IND_NAME_LARGEST;
+        seen.after_zero |= i > seen.used && name[i] != 0;
+    }
+    seen.space_first = name[0] == IND_SPACE;
+    seen.space_last = seen.used > 0 && name[seen.used - 1] == IND_SPACE;
+    return seen;
+}
+
+/* How a refused name fails, where it does so in one way alone. */
+static const char *name_fault(const uint8_t *name)
+{
+    name_faults seen = faults_of_name(name);
+    int lone = seen.used == 1 && seen.space_first;
+    int ways = seen.low + seen.high + seen.after_zero + seen.space_first
+        + (seen.space_last && !lone);
+    if (ways > 1)
+        return "";
+    if (seen.used == 0)
+        return seen.after_zero ? "_zero_first" : "_empty";
+    if (seen.after_zero)
+        return "_after_zero";
+    if (seen.low)
+        return "_low_byte";
+    if (seen.high)
+        return "_high_byte";
+    if (lone)
+        return "_lone_space";
+    if (seen.space_first)
+        return "_space_first";
+    return seen.used == IND_NAME_SIZE ? "_full_space_last" : "_space_last";
+}
+
+/* A refused field of a record of this kind. */
+static void name_field(const uint8_t *record, ind_kind kind, uint32_t field,
+                       char *name)
+{
+    const char *way = is_name(kind, field) ? name_fault(record + field) : "";
+    snprintf(name, PLACE_ROOM, "%s%s+%lu", kind_name(kind), way,
+             (unsigned long)field);
+}
+
 static void name_record_place(const stored *file, const ind_layout *layout,
                               ind_answer answer, char *name)
 {
@@ -105,7 +177,7 @@ static void name_record_place(const stored *file, const ind_layout *layout,
     }
     field = answer.place - record.start;
     if (!is_member(file->bytes, record))
-        name_part(name, kind_name(kind), field);
+        name_field(file->bytes + record.start, kind, field, name);
     else if (answer.number == IND_AGREEMENT)
         name_part(name, sequence_name(file->bytes, before, record.start),
                   field);
@@ -187,11 +259,30 @@ static int of_application(uint32_t question)
         || question == ASK_ROUTES || question == ASK_HEADER2;
 }
 
+/* An answered record that has a name: how many bytes the name has. */
+static void name_named_record(const asked *ask, char *name)
+{
+    const stored *file = &ask->files[0];
+    ind_record found =
+        ind_record_at(file->bytes, file->length, ask->numbers[0]);
+    uint32_t bytes;
+    switch (found.kind) {
+    case IND_SIGNAL: bytes = found.signal.name_bytes; break;
+    case IND_JOINT: bytes = found.joint.name_bytes; break;
+    case IND_SIDING: bytes = found.siding.name_bytes; break;
+    default: return;
+    }
+    snprintf(name, PLACE_ROOM, "%s_%lu", kind_name(found.kind),
+             (unsigned long)bytes);
+}
+
 static void name_place(const asked *ask, ind_answer answer, char *name)
 {
     uint32_t which = ask->question == ASK_PAIR && answer.file == IND_FILE_X2;
     const stored *file = &ask->files[which];
     strcpy(name, "0");
+    if (ask->question == ASK_RECORD && answer.number == IND_ACCEPTED)
+        name_named_record(ask, name);
     if (answer.number <= IND_LENGTH || answer.number == IND_OUT_OF_RANGE
         || answer.number >= IND_STEPS
         || (ask->question == ASK_COORDINATE

@@ -1,6 +1,6 @@
 /* 01's 'Yard examples', the roundings of 'Readings that look right', the
- * headers and the track of the example files, and balise groups by 02's ticket
- * 2, each asserted of the core. */
+ * headers and the track of the example files, balise groups by 02's ticket 2
+ * and names by its ticket 10, each asserted of the core. */
 #include <stdio.h>
 #include <string.h>
 
@@ -45,6 +45,23 @@ enum {
     G_END_ENTRY = 28,
     G_BALISE_GROUP = 33,
     G_COUNT = 5
+};
+
+/* A line from a start boundary over a signal and a joint to an end boundary,
+ * and a siding. */
+enum {
+    N_START = 41,
+    N_END = 53,
+    N_SIGNAL = 65,
+    N_JOINT = 84,
+    N_SIDING = 102,
+    N_LENGTH = 138,
+    N_START_ENTRY = 24,
+    N_END_COUNT = 27,
+    N_END_ENTRY = 28,
+    N_SIGNAL_GROUP = 35,
+    N_JOINT_GROUP = 37,
+    N_SIDING_GROUP = 39
 };
 
 enum {
@@ -158,6 +175,40 @@ static void make_loose_g(stored *file)
     put_four(file->bytes, G_ONE + IND_BALISE_PREVIOUS, 0);
     put_four(file->bytes, G_THREE + IND_BALISE_PREVIOUS, 0);
     put_four(file->bytes, G_FOUR + IND_BALISE_PREVIOUS, 0);
+    seal(file);
+}
+
+static void put_n_name(stored *file, uint32_t place, const char *name)
+{
+    memcpy(file->bytes + place, name, IND_NAME_SIZE);
+}
+
+/* The line over a signal and a joint: where a name is due, it is one letter,
+ * and the others are empty. */
+static void make_n(stored *file)
+{
+    uint8_t *bytes = file->bytes, *signal = bytes + N_SIGNAL,
+            *joint = bytes + N_JOINT, *siding = bytes + N_SIDING;
+    begin_yard(file, N_LENGTH);
+    bytes[N_END_COUNT] = 1;
+    put_two(bytes, N_SIGNAL_GROUP, N_SIGNAL);
+    put_two(bytes, N_JOINT_GROUP, N_JOINT);
+    put_two(bytes, N_SIDING_GROUP, N_SIDING);
+    put_boundary(bytes, N_START_ENTRY, N_START, IND_DOWN_START, N_SIGNAL);
+    put_boundary(bytes, N_END_ENTRY, N_END, IND_DOWN_END, N_JOINT);
+    signal[IND_TYPE_PLACE] = IND_SIGNAL_TYPE;
+    put_two(signal, IND_SIGNAL_PREVIOUS, N_START);
+    put_two(signal, IND_SIGNAL_NEXT, N_JOINT);
+    signal[IND_SIGNAL_NAME] = 'X';
+    signal[IND_SIGNAL_TRACK] = 1;
+    signal[IND_SIGNAL_BYTE] = IND_SIGNAL_LEAST_TYPE;
+    joint[IND_TYPE_PLACE] = IND_JOINT_TYPE;
+    put_two(joint, IND_JOINT_PREVIOUS, N_SIGNAL);
+    put_two(joint, IND_JOINT_NEXT, N_END);
+    joint[IND_JOINT_TRACK] = 1;
+    siding[IND_TYPE_PLACE] = IND_SIDING_TYPE;
+    siding[IND_SIDING_NAME] = 'G';
+    siding[IND_SIDING_TRACK] = 1;
     seal(file);
 }
 
@@ -381,6 +432,169 @@ static void member_link_examples(void)
            "3 has a previous and 1 has none: 9 at 82");
 }
 
+/* A field's eight bytes and how many of them are a name. */
+typedef struct {
+    char field[IND_NAME_SIZE + 1];
+    uint32_t bytes;
+    const char *sentence;
+} name_example;
+
+static const name_example names[] = {
+    { "", 0, "no byte: an empty name, where it may be empty" },
+    { "X", 1, "one byte" },
+    { "-", 1, "a lone '-'" },
+    { "!", 1, "0x21 alone" },
+    { "~", 1, "0x7E alone" },
+    { "X 1", 3, "a space inside" },
+    { "A  B", 4, "two spaces in a row" },
+    { "A     B", 7, "five spaces in a row" },
+    { "ABCDEFGH", 8, "a full field without a zero" },
+    { "A      H", 8, "a full field with spaces inside" },
+    { "ABCDEF H", 8, "a full field, its last but one byte a space" },
+    { "~~~~~~~~", 8, "a full field of 0x7E" },
+    { "A ", IND_NO_NAME, "a space after 'A'" },
+    { " A", IND_NO_NAME, "a space before 'A'" },
+    { " A ", IND_NO_NAME, "a space before and after 'A'" },
+    { " ", IND_NO_NAME, "a lone space" },
+    { "  ", IND_NO_NAME, "two spaces alone" },
+    { "        ", IND_NO_NAME, "eight spaces" },
+    { "ABCDEFG ", IND_NO_NAME, "a space in the last byte of a full field" },
+    { "A      ", IND_NO_NAME, "six spaces after 'A'" },
+    { " BCDEFGH", IND_NO_NAME, "a space in the first byte of a full field" },
+    { "A\0B", IND_NO_NAME, "a byte after a zero" },
+    { "A\0\0\0\0\0\0B", IND_NO_NAME, "a last byte after zeros" },
+    { "A\0 ", IND_NO_NAME, "a space after a zero" },
+    { "\0A", IND_NO_NAME, "a zero before 'A'" },
+    { "\0\0\0\0\0\0\0 ", IND_NO_NAME, "zeros and a space" },
+    { "\x1F", IND_NO_NAME, "0x1F alone" },
+    { "A\x1F" "B", IND_NO_NAME, "0x1F inside" },
+    { "ABCDEFG\x1F", IND_NO_NAME, "0x1F last" },
+    { "\x01", IND_NO_NAME, "0x01 alone" },
+    { "\x7F", IND_NO_NAME, "0x7F alone" },
+    { "A\x7F" "B", IND_NO_NAME, "0x7F inside" },
+    { "ABCDEFG\x7F", IND_NO_NAME, "0x7F last" },
+    { "A\x80", IND_NO_NAME, "0x80 last" },
+    { "\xC1\xC2", IND_NO_NAME, "letters with their high bits set" },
+    { "\xFF\xFF\xFF\xFF\xFF\xFF\xFF\xFF", IND_NO_NAME, "ones" }
+};
+
+/* The five names of the line, and whether each may be empty. */
+static const struct {
+    uint32_t place;
+    int may_be_empty;
+} name_fields[] = {
+    { N_SIGNAL + IND_SIGNAL_NAME, 0 },
+    { N_JOINT + IND_JOINT_NAME, 1 },
+    { N_SIDING + IND_SIDING_NAME, 0 },
+    { N_SIDING + IND_SIDING_UP_SIGNAL, 1 },
+    { N_SIDING + IND_SIDING_DOWN_SIGNAL, 1 }
+};
+
+/* The example in each of the five fields in turn: accepted, or 5 at the
+ * field's first byte. */
+static int name_judged(const name_example *example)
+{
+    static stored n;
+    int right = 1;
+    for (size_t i = 0; i < sizeof name_fields / sizeof *name_fields; i++) {
+        uint32_t place = name_fields[i].place;
+        int taken = example->bytes != IND_NO_NAME
+            && (example->bytes > 0 || name_fields[i].may_be_empty);
+        make_n(&n);
+        put_n_name(&n, place, example->field);
+        seal(&n);
+        right = right
+            && says(ind_x2(n.bytes, n.length), taken ? 0 : IND_FIELD,
+                    taken ? 0 : place);
+    }
+    return right;
+}
+
+/* The example as each of the five names, an empty one where it may be: the
+ * records say where it stands and how many bytes it has. */
+static int name_read(const name_example *example)
+{
+    static stored n;
+    ind_signal signal;
+    ind_joint joint;
+    ind_siding siding;
+    /* Where a name is due, the line's own of one letter stands for none. */
+    uint32_t bytes = example->bytes, named = bytes > 0 ? bytes : 1;
+    if (bytes == IND_NO_NAME)
+        return 1;
+    make_n(&n);
+    for (size_t i = 0; i < sizeof name_fields / sizeof *name_fields; i++)
+        if (bytes > 0 || name_fields[i].may_be_empty)
+            put_n_name(&n, name_fields[i].place, example->field);
+    seal(&n);
+    signal = ind_record_at(n.bytes, n.length, N_SIGNAL).signal;
+    joint = ind_record_at(n.bytes, n.length, N_JOINT).joint;
+    siding = ind_record_at(n.bytes, n.length, N_SIDING).siding;
+    return signal.name == N_SIGNAL + IND_SIGNAL_NAME
+        && signal.name_bytes == named && joint.name == N_JOINT + IND_JOINT_NAME
+        && joint.name_bytes == bytes
+        && siding.name == N_SIDING + IND_SIDING_NAME
+        && siding.name_bytes == named
+        && siding.up_signal == N_SIDING + IND_SIDING_UP_SIGNAL
+        && siding.up_signal_bytes == bytes
+        && siding.down_signal == N_SIDING + IND_SIDING_DOWN_SIGNAL
+        && siding.down_signal_bytes == bytes;
+}
+
+/* Whether a field is a name of so many bytes, as the rule reads. */
+static int is_name_of(const uint8_t *field, uint32_t bytes)
+{
+    for (uint32_t i = 0; i < IND_NAME_SIZE; i++)
+        if (i < bytes ? field[i] < 0x20 || field[i] > 0x7E : field[i] != 0)
+            return 0;
+    return bytes == 0 || (field[0] != 0x20 && field[bytes - 1] != 0x20);
+}
+
+enum {
+    EDGES = 6,
+    /* EDGES to the power of IND_NAME_SIZE. */
+    EDGE_FIELDS = 1679616
+};
+
+/* The field of a number: to each digit an edge of the rule. */
+static void put_edges(uint8_t *field, uint32_t number)
+{
+    static const uint8_t edges[EDGES] = { 0x00, 0x1F, 0x20, 0x7E, 0x7F, 0x80 };
+    for (uint32_t i = 0; i < IND_NAME_SIZE; i++) {
+        field[i] = edges[number % EDGES];
+        number /= EDGES;
+    }
+}
+
+/* How many bytes the name of a field has by the rule, IND_NO_NAME where it is
+ * none of any number. */
+static uint32_t name_bytes_due(const uint8_t *field)
+{
+    uint32_t bytes = 0;
+    while (bytes <= IND_NAME_SIZE && !is_name_of(field, bytes))
+        bytes++;
+    return bytes <= IND_NAME_SIZE ? bytes : (uint32_t)IND_NO_NAME;
+}
+
+static int edge_fields_right(void)
+{
+    uint8_t field[IND_NAME_SIZE];
+    for (uint32_t number = 0; number < EDGE_FIELDS; number++) {
+        put_edges(field, number);
+        if (ind_name_bytes(field, 0) != name_bytes_due(field))
+            return 0;
+    }
+    return 1;
+}
+
+static void name_examples(void)
+{
+    for (size_t i = 0; i < sizeof names / sizeof *names; i++)
+        expect(name_judged(&names[i]) && name_read(&names[i]),
+               names[i].sentence);
+    expect(edge_fields_right(), "every field of 00, 1F, 20, 7E, 7F and 80");
+}
+
 static int last_offset_gives(uint32_t last, uint32_t number, uint32_t place)
 {
     static stored file;
@@ -417,16 +631,68 @@ static int list_prints(const stored *y, const char *due)
     return printed(kept, due);
 }
 
-/* A question about one file, all its numbers 0. */
-static int answer_prints(uint32_t question, const stored *file,
-                         const char *due)
+/* A question about one file, its first number given and all others 0. */
+static int asked_prints(uint32_t question, uint32_t number,
+                        const stored *file, const char *due)
 {
-    posed ask = { question, { 0 }, { file->bytes, NULL }, { file->length, 0 } };
+    posed ask = { question,
+                  { number },
+                  { file->bytes, NULL },
+                  { file->length, 0 } };
     FILE *kept = tmpfile();
     if (kept == NULL)
         return 0;
     print_answer(kept, &ask);
     return printed(kept, due);
+}
+
+static int answer_prints(uint32_t question, const stored *file,
+                         const char *due)
+{
+    return asked_prints(question, 0, file, due);
+}
+
+/* A name stands with the number of its bytes after it. */
+static void name_line_examples(void)
+{
+    static stored n;
+    make_n(&n);
+    put_n_name(&n, N_SIGNAL + IND_SIGNAL_NAME, "X 1\0\0\0\0");
+    put_n_name(&n, N_SIDING + IND_SIDING_UP_SIGNAL, "-\0\0\0\0\0\0");
+    put_three(n.bytes, N_SIDING + IND_SIDING_UP_BALISE, IND_NO_BALISE);
+    seal(&n);
+    expect(asked_prints(ASK_RECORD, N_SIGNAL, &n, "answer 0 0\n"
+                                                  "kind signal\n"
+                                                  "previous 41\n"
+                                                  "next 84\n"
+                                                  "name X 1\n"
+                                                  "name_bytes 3\n"
+                                                  "position 0\n"
+                                                  "track 1\n"
+                                                  "direction none\n"
+                                                  "type 1\n"),
+           "a signal with a space in its name");
+    expect(asked_prints(ASK_RECORD, N_JOINT, &n, "answer 0 0\n"
+                                                 "kind joint\n"
+                                                 "previous 65\n"
+                                                 "next 53\n"
+                                                 "name -\n"
+                                                 "name_bytes 0\n"
+                                                 "position 0\n"
+                                                 "track 1\n"),
+           "an unnamed joint");
+    expect(asked_prints(ASK_RECORD, N_SIDING, &n, "answer 0 0\n"
+                                                  "kind siding\n"
+                                                  "name G\n"
+                                                  "name_bytes 1\n"
+                                                  "track 1\n"
+                                                  "up_balise -\n"
+                                                  "up_signal -\n"
+                                                  "up_signal_bytes 1\n"
+                                                  "down_balise 0\n"
+                                                  "down_signal -\n"
+                                                  "down_signal_bytes 0\n"),
+           "a siding: the exit signal '-', and none");
 }
 
 static void track_example(void)
@@ -543,6 +809,8 @@ int command_self(void)
     link_examples();
     sequence_examples();
     member_link_examples();
+    name_examples();
+    name_line_examples();
     offset_examples();
     track_example();
     header1_examples();

@@ -20,6 +20,7 @@
 #include "geography.h"
 #include "tracks.h"
 #include "tables.h"
+#include "name.h"
 #include "layout.h"
 #include "application.h"
 #include "record.h"

@@ -1,7 +1,9 @@
 /* 01, X.2's 'Fields' and 'Agreement', with what 02's ticket 2 says of balise
- * groups. A record's fault is given as the field's place in the record. */
+ * groups and its ticket 10 of names. A record's fault is given as the field's
+ * place in the record. */
 #include "fields.h"
 
+#include "name.h"
 #include "opening.h"
 
 static int all_zero(const uint8_t *bytes, uint32_t from, uint32_t size)
@@ -11,38 +13,18 @@ static int all_zero(const uint8_t *bytes, uint32_t from, uint32_t size)
     return from == size;
 }
 
-/* A byte in each of a name's eight, and the high bit of each. */
-#define IN_EACH(byte) (UINT64_C(0x0101010101010101) * (byte))
-#define HIGH_BITS IN_EACH(0x80)
+/* Whether a name may be empty: a signal's and a siding's may not, a joint's
+ * and those of a siding's two exit signals may. */
+typedef enum {
+    NOT_EMPTY,
+    MAY_BE_EMPTY
+} emptiness;
 
-/* The high bit of each byte that is at least so much, where none has its high
- * bit set. */
-static uint64_t at_least(uint64_t bytes, uint32_t least)
+static int name_right(const uint8_t *record, uint32_t field,
+                      emptiness allowed)
 {
-    return (bytes + IN_EACH(0x80 - least)) & HIGH_BITS;
-}
-
-/* One or more bytes 0x21 to 0x7E, then only 0x00: no byte is above 0x7E, each
- * that is not 0 is at least 0x21, and the first alone has no such one before
- * it. */
-static int eight_right(uint64_t bytes)
-{
-    uint64_t used = at_least(bytes, 1);
-    return ((bytes | at_least(bytes, IND_NAME_LARGEST + 1)) & HIGH_BITS) == 0
-        && used == at_least(bytes, IND_NAME_LEAST)
-        && (used & ~(used << IND_BITS_PER_BYTE)) == 0x80;
-}
-
-static int name_right(const uint8_t *name)
-{
-    return eight_right(ind_eight(name, 0));
-}
-
-/* A siding's exit signal may have no name at all. */
-static int exit_name_right(const uint8_t *name)
-{
-    uint64_t bytes = ind_eight(name, 0);
-    return bytes == 0 || eight_right(bytes);
+    uint64_t bytes = ind_eight(record, field);
+    return ind_is_name(bytes) && (bytes != 0 || allowed == MAY_BE_EMPTY);
 }
 
 static int code_right(const uint8_t *code)
@@ -173,7 +155,7 @@ static uint32_t signal_fault(const uint8_t *signal)
 {
     if (signal[IND_TYPE_PLACE] != IND_SIGNAL_TYPE)
         return IND_TYPE_PLACE;
-    if (!name_right(signal + IND_SIGNAL_NAME))
+    if (!name_right(signal, IND_SIGNAL_NAME, NOT_EMPTY))
         return IND_SIGNAL_NAME;
     if (!position_right(signal, IND_SIGNAL_POSITION))
         return IND_SIGNAL_POSITION;
@@ -188,7 +170,7 @@ static uint32_t joint_fault(const uint8_t *joint)
 {
     if (joint[IND_TYPE_PLACE] != IND_JOINT_TYPE)
         return IND_TYPE_PLACE;
-    if (!name_right(joint + IND_JOINT_NAME))
+    if (!name_right(joint, IND_JOINT_NAME, MAY_BE_EMPTY))
         return IND_JOINT_NAME;
     if (!position_right(joint, IND_JOINT_POSITION))
         return IND_JOINT_POSITION;
@@ -201,13 +183,13 @@ static uint32_t siding_fault(const uint8_t *siding)
 {
     if (siding[IND_TYPE_PLACE] != IND_SIDING_TYPE)
         return IND_TYPE_PLACE;
-    if (!name_right(siding + IND_SIDING_NAME))
+    if (!name_right(siding, IND_SIDING_NAME, NOT_EMPTY))
         return IND_SIDING_NAME;
     if (siding[IND_SIDING_TRACK] == 0)
         return IND_SIDING_TRACK;
-    if (!exit_name_right(siding + IND_SIDING_UP_SIGNAL))
+    if (!name_right(siding, IND_SIDING_UP_SIGNAL, MAY_BE_EMPTY))
         return IND_SIDING_UP_SIGNAL;
-    if (!exit_name_right(siding + IND_SIDING_DOWN_SIGNAL))
+    if (!name_right(siding, IND_SIDING_DOWN_SIGNAL, MAY_BE_EMPTY))
         return IND_SIDING_DOWN_SIGNAL;
     return IND_NO_FAULT;
 }

@@ -1,5 +1,5 @@
 /* 01, X.2's 'Fields' and 'Agreement', with what 02's ticket 2 says of balise
- * groups. */
+ * groups and its ticket 10 of names. */
 #ifndef IND_FIELDS_H
 #define IND_FIELDS_H
 

@@ -2,6 +2,7 @@
 #include "record.h"
 
 #include "application.h"
+#include "name.h"
 
 static ind_boundary read_boundary(const uint8_t *file, uint32_t start)
 {
@@ -63,6 +64,7 @@ static ind_signal read_signal(const uint8_t *file, uint32_t start)
         ind_two(file, start + IND_SIGNAL_PREVIOUS),
         ind_two(file, start + IND_SIGNAL_NEXT),
         start + IND_SIGNAL_NAME,
+        ind_name_bytes(file, start + IND_SIGNAL_NAME),
         ind_four(file, start + IND_SIGNAL_POSITION),
         file[start + IND_SIGNAL_TRACK],
         value >> IND_SIGNAL_DIRECTION_SHIFT,
@@ -77,6 +79,7 @@ static ind_joint read_joint(const uint8_t *file, uint32_t start)
         ind_two(file, start + IND_JOINT_PREVIOUS),
         ind_two(file, start + IND_JOINT_NEXT),
         start + IND_JOINT_NAME,
+        ind_name_bytes(file, start + IND_JOINT_NAME),
         ind_four(file, start + IND_JOINT_POSITION),
         file[start + IND_JOINT_TRACK]
     };
@@ -87,11 +90,14 @@ static ind_siding read_siding(const uint8_t *file, uint32_t start)
 {
     ind_siding siding = {
         start + IND_SIDING_NAME,
+        ind_name_bytes(file, start + IND_SIDING_NAME),
         file[start + IND_SIDING_TRACK],
         ind_three(file, start + IND_SIDING_UP_BALISE),
         start + IND_SIDING_UP_SIGNAL,
+        ind_name_bytes(file, start + IND_SIDING_UP_SIGNAL),
         ind_three(file, start + IND_SIDING_DOWN_BALISE),
-        start + IND_SIDING_DOWN_SIGNAL
+        start + IND_SIDING_DOWN_SIGNAL,
+        ind_name_bytes(file, start + IND_SIDING_DOWN_SIGNAL)
     };
     return siding;
 }

@@ -6,7 +6,8 @@
 #include "tables.h"
 
 /* Fields in the order of tables 6 to 12. Names and messages are given as
- * their places in the file. */
+ * their places in the file and how many bytes they have; an empty name has 0,
+ * and its place is that of its field. */
 typedef struct {
     uint32_t type;
     uint32_t link;
@@ -66,6 +67,7 @@ typedef struct {
     uint32_t previous;
     uint32_t next;
     uint32_t name;
+    uint32_t name_bytes;
     uint32_t position;
     uint32_t track;
     uint32_t direction;
@@ -76,17 +78,21 @@ typedef struct {
     uint32_t previous;
     uint32_t next;
     uint32_t name;
+    uint32_t name_bytes;
     uint32_t position;
     uint32_t track;
 } ind_joint;
 
 typedef struct {
     uint32_t name;
+    uint32_t name_bytes;
     uint32_t track;
     uint32_t up_balise;
     uint32_t up_signal;
+    uint32_t up_signal_bytes;
     uint32_t down_balise;
     uint32_t down_signal;
+    uint32_t down_signal_bytes;
 } ind_siding;
 
 /* The kind says which of the parts holds the record; the others are 0. */

@@ -29,7 +29,7 @@ enum {
 /* Names: object names of 8 bytes, and the station name's two-byte codes. */
 enum {
     IND_NAME_SIZE = 8,
-    IND_NAME_LEAST = 0x21,
+    IND_SPACE = 0x20,
     IND_NAME_LARGEST = 0x7E,
     IND_CODE_SIZE = 2,
     IND_CODE_FIRST_LEAST = 0x81,

@@ -1,4 +1,5 @@
-/* Damage aimed at X.2: layout, fields, agreement, links, balise groups. */
+/* Damage aimed at X.2: layout, fields, names, agreement, links, balise
+ * groups. */
 #include "damage.h"
 
 #include <string.h>
@@ -154,10 +155,71 @@ static void swap_links(stored *file, ind_object record)
     put_two(file->bytes, last, kept);
 }
 
-static void poke_name(source *from, uint8_t *name, uint32_t size)
+/* How many bytes of a field stand before its first zero. */
+static uint32_t bytes_used(const uint8_t *name)
+{
+    uint32_t used = 0;
+    while (used < IND_NAME_SIZE && name[used] != 0)
+        used++;
+    return used;
+}
+
+/* A byte behind a name and the zero after it. */
+static void poke_after_zero(source *from, uint8_t *name)
+{
+    static const uint8_t behind[] = { 0x01, 0x20, 0x41, 0x7E, 0x80 };
+    uint32_t after = bytes_used(name) + 1;
+    if (after < IND_NAME_SIZE)
+        name[after + draw(from, IND_NAME_SIZE - after)] = ONE_OF(from, behind);
+}
+
+/* A space first or last, alone, in the last byte of a full field, after the
+ * name or in every byte. */
+static void poke_space(source *from, uint8_t *name)
+{
+    uint32_t used = bytes_used(name);
+    switch (draw(from, 6)) {
+    case 0: name[0] = IND_SPACE; break;
+    case 1: name[used > 0 ? used - 1 : 0] = IND_SPACE; break;
+    case 2:
+        memset(name, 0, IND_NAME_SIZE);
+        name[0] = IND_SPACE;
+        break;
+    case 3:
+        memset(name + used, 0x41, IND_NAME_SIZE - used);
+        name[IND_NAME_SIZE - 1] = IND_SPACE;
+        break;
+    case 4: name[used < IND_NAME_SIZE ? used : 0] = IND_SPACE; break;
+    default: memset(name, IND_SPACE, IND_NAME_SIZE); break;
+    }
+}
+
+/* A name: none, a full one, a space where none may stand, a byte after the
+ * end, or a byte at the edges at any place. */
+static void poke_name(source *from, uint8_t *name)
+{
+    static const uint8_t edges[] = { 0x00, 0x01, 0x1F, 0x20, 0x21, 0x7E,
+                                     0x7F, 0x80, 0xFF };
+    uint32_t used = bytes_used(name);
+    switch (draw(from, 9)) {
+    case 0: memset(name, 0, IND_NAME_SIZE); break;
+    case 1: memset(name + used, 0x41, IND_NAME_SIZE - used); break;
+    case 2:
+    case 3:
+    case 4: poke_space(from, name); break;
+    case 5: poke_after_zero(from, name); break;
+    case 6: name[draw(from, used)] = ONE_OF(from, edges); break;
+    default: name[draw(from, IND_NAME_SIZE)] = ONE_OF(from, edges); break;
+    }
+}
+
+/* The station name as any bytes: none, a full one, or other bytes first, last
+ * or anywhere. */
+static void poke_station_bytes(source *from, uint8_t *name)
 {
     static const uint8_t edges[] = { 0x00, 0x20, 0x21, 0x7E, 0x7F, 0x80,
                                      0xFF };
+    const uint32_t size = IND_STATION_NAME_SIZE;
     switch (draw(from, 6)) {
     case 0: memset(name, 0, size); break;
     case 1: name[0] = ONE_OF(from, edges); break;
@@ -177,7 +239,7 @@ static void poke_station_name(source *from, uint8_t *name)
     uint32_t code = IND_CODE_SIZE
         * draw(from, IND_STATION_NAME_SIZE / IND_CODE_SIZE);
     switch (draw(from, 4)) {
-    case 0: poke_name(from, name, IND_STATION_NAME_SIZE); break;
+    case 0: poke_station_bytes(from, name); break;
     case 1: name[once_in(from, 2) ? 0 : code] = ONE_OF(from, firsts); break;
     case 2: name[1] = ONE_OF(from, seconds); break;
     default: name[code + 1] = ONE_OF(from, seconds); break;
@@ -243,7 +305,7 @@ static void poke_field(source *from, stored *file, const ind_layout *layout,
         break;
     case HOLDS_MESSAGE: poke_message(from, bytes); break;
     case HOLDS_NAME:
-        poke_name(from, bytes + poked.place, IND_NAME_SIZE);
+        poke_name(from, bytes + poked.place);
         break;
     default:
         bytes[poked.place] = edge_byte(from, poked.holds);
@@ -263,6 +325,26 @@ static void poke_record(source *from, stored *file, const ind_layout *layout)
         field poked = some_field(from, record.kind);
         poke_field(from, file, layout, record, poked);
     }
+}
+
+/* A name of some signal, joint or siding. Any record, where there is none of
+ * these, which stand last. */
+static void poke_some_name(source *from, stored *file,
+                           const ind_layout *layout)
+{
+    ind_object record;
+    field poked;
+    if (layout->from[IND_SIGNAL] == layout->end) {
+        poke_record(from, file, layout);
+        return;
+    }
+    do
+        record = some_record(from, file, layout);
+    while (record.kind < IND_SIGNAL);
+    do
+        poked = some_field(from, record.kind);
+    while (poked.holds != HOLDS_NAME);
+    poke_name(from, file->bytes + record.start + poked.place);
 }
 
 /* A header boundary's track: none, or another than its record's. */
@@ -459,7 +541,7 @@ void poke_application(source *from, stored *file)
     ind_layout layout;
     ind_application_layout(file->bytes, file->length - IND_CHECKSUM_SIZE,
                            &layout);
-    switch (draw(from, 20)) {
+    switch (draw(from, 23)) {
     case 0: damage_opening(from, file); break;
     case 1:
         poke_station_name(from, file->bytes + IND_STATION_NAME_PLACE);
@@ -470,6 +552,9 @@ void poke_application(source *from, stored *file)
     case 5:
     case 6:
     case 7: poke_group(from, file, &layout); break;
+    case 8:
+    case 9:
+    case 10: poke_some_name(from, file, &layout); break;
     default: poke_record(from, file, &layout); break;
     }
 }

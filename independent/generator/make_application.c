@@ -61,20 +61,30 @@ static void put_stand(source *from, const stored *geography, uint8_t *track,
              once_in(from, 3) ? end : (uint32_t)draw_between(from, 0, end));
 }
 
+/* A name's byte that is no space. */
+static uint8_t some_letter(source *from)
+{
+    if (once_in(from, 8))
+        return once_in(from, 2) ? IND_SPACE + 1 : IND_NAME_LARGEST;
+    return (uint8_t)draw_between(from, IND_SPACE + 1, IND_NAME_LARGEST);
+}
+
+/* A name of one to eight bytes, one in three with spaces inside. */
 static void put_name(source *from, uint8_t *name)
 {
     uint32_t used = once_in(from, 4) ? IND_NAME_SIZE
                                      : 1 + draw(from, IND_NAME_SIZE);
+    int spaced = once_in(from, 3);
     for (uint32_t i = 0; i < IND_NAME_SIZE; i++) {
-        uint32_t letter = (uint32_t)draw_between(from, IND_NAME_LEAST,
-                                                 IND_NAME_LARGEST);
-        if (once_in(from, 8))
-            letter = once_in(from, 2) ? IND_NAME_LEAST : IND_NAME_LARGEST;
-        name[i] = i < used ? (uint8_t)letter : 0;
+        int inside = i > 0 && i + 1 < used;
+        name[i] = i < used ? some_letter(from) : 0;
+        if (spaced && inside && once_in(from, 2))
+            name[i] = IND_SPACE;
     }
 }
 
-static void put_exit_name(source *from, uint8_t *name)
+/* A name that may be empty, and is one time in three. */
+static void put_optional_name(source *from, uint8_t *name)
 {
     if (once_in(from, 3))
         for (uint32_t i = 0; i < IND_NAME_SIZE; i++)
@@ -186,7 +196,7 @@ static void put_signal(source *from, const stored *geography, uint8_t *record)
 static void put_joint(source *from, const stored *geography, uint8_t *record)
 {
     record[IND_TYPE_PLACE] = IND_JOINT_TYPE;
-    put_name(from, record + IND_JOINT_NAME);
+    put_optional_name(from, record + IND_JOINT_NAME);
     put_stand(from, geography, record + IND_JOINT_TRACK,
               record + IND_JOINT_POSITION);
 }
@@ -203,9 +213,9 @@ static void put_siding(source *from, const stored *geography, uint8_t *record)
     put_name(from, record + IND_SIDING_NAME);
     put_stand(from, geography, record + IND_SIDING_TRACK, unused);
     put_three(record, IND_SIDING_UP_BALISE, exit_balise(from));
-    put_exit_name(from, record + IND_SIDING_UP_SIGNAL);
+    put_optional_name(from, record + IND_SIDING_UP_SIGNAL);
     put_three(record, IND_SIDING_DOWN_BALISE, exit_balise(from));
-    put_exit_name(from, record + IND_SIDING_DOWN_SIGNAL);
+    put_optional_name(from, record + IND_SIDING_DOWN_SIGNAL);
 }
 
 static void put_record(const object *made, const stored *geography,

@@ -7,6 +7,7 @@ ghost use Rattle.x2_verdict.specs.Questions.{recordOf};
 ghost use Rattle.x2_verdict.specs.Answers.{recordAnswer};
 use crate::geography_answers::answered;
 use crate::geography_answers::refused;
+use names::Name;
 use text::head;
 use text::line;
 use text::lines;
@@ -155,10 +156,17 @@ fn facing_line(facing: Facing) {
     }
 }
 
+// An object's own name, and how many bytes it has; a name of no bytes is a dash, and so is one that is a dash.
+fn named_lines(f: &[u8], name: Name) {
+    name_line(b"name", f, name);
+    line(b"name_bytes", name.bytes);
+}
+
 fn signal_lines(f: &[u8], s: Signal) {
     kind_line(b"signal");
     link_lines(s.previous, s.next);
-    name_line(b"name", f, s.name);
+    let name = s.name;
+    named_lines(f, name);
     place_lines(s.position, s.track);
     let facing = s.direction;
     facing_line(facing);
@@ -169,7 +177,8 @@ fn signal_lines(f: &[u8], s: Signal) {
 fn joint_lines(f: &[u8], j: Joint) {
     kind_line(b"joint");
     link_lines(j.previous, j.next);
-    name_line(b"name", f, j.name);
+    let name = j.name;
+    named_lines(f, name);
     place_lines(j.position, j.track);
 }
 
@@ -184,12 +193,17 @@ fn exit_line(name: &[u8], n: usize) {
 
 fn siding_lines(f: &[u8], s: Siding) {
     kind_line(b"siding");
-    name_line(b"name", f, s.name);
+    let name = s.name;
+    named_lines(f, name);
     line(b"track", s.track);
     exit_line(b"up_balise", s.up_balise);
-    name_line(b"up_signal", f, s.up_signal);
+    let up = s.up_signal;
+    name_line(b"up_signal", f, up);
+    line(b"up_signal_bytes", up.bytes);
     exit_line(b"down_balise", s.down_balise);
-    name_line(b"down_signal", f, s.down_signal);
+    let down = s.down_signal;
+    name_line(b"down_signal", f, down);
+    line(b"down_signal_bytes", down.bytes);
 }
 
 fn record_lines(f: &[u8], r: Record) {

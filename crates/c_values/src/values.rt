@@ -9,6 +9,7 @@ ghost use Rattle.c_values.specs.Words.{valueWords};
 use crate::words::signed_word;
 use crate::words::word;
 use envelope::Header;
+use names::Name;
 use route_walks::Tally;
 use x1_questions::Coordinate;
 use x1_records::Point;
@@ -179,18 +180,19 @@ fn balise_words(b: Balise) -> [u32; RECORD_VALUES]
 fn signal_words(s: Signal) -> [u32; RECORD_VALUES]
     ensures { λ r. ⌜ r ≡ valueWords (recordValues (Record.Signal s)) ⌝ }
 {
+    let name: Name = s.name;
     let facing = s.direction;
     let duty = s.duty;
     [
         word(SIGNAL),
         word(s.previous),
         word(s.next),
-        word(s.name),
+        word(name.place),
+        word(name.bytes),
         word(s.position),
         word(s.track),
         word(facing.number()),
         word(duty.number()),
-        0,
         0,
         0,
         0,
@@ -201,14 +203,15 @@ fn signal_words(s: Signal) -> [u32; RECORD_VALUES]
 fn joint_words(j: Joint) -> [u32; RECORD_VALUES]
     ensures { λ r. ⌜ r ≡ valueWords (recordValues (Record.Joint j)) ⌝ }
 {
+    let name: Name = j.name;
     [
         word(JOINT),
         word(j.previous),
         word(j.next),
-        word(j.name),
+        word(name.place),
+        word(name.bytes),
         word(j.position),
         word(j.track),
-        0,
         0,
         0,
         0,
@@ -221,17 +224,20 @@ fn joint_words(j: Joint) -> [u32; RECORD_VALUES]
 fn siding_words(s: Siding) -> [u32; RECORD_VALUES]
     ensures { λ r. ⌜ r ≡ valueWords (recordValues (Record.Siding s)) ⌝ }
 {
+    let name: Name = s.name;
+    let up: Name = s.up_signal;
+    let down: Name = s.down_signal;
     [
         word(SIDING),
-        word(s.name),
+        word(name.place),
+        word(name.bytes),
         word(s.track),
         word(s.up_balise),
-        word(s.up_signal),
+        word(up.place),
+        word(up.bytes),
         word(s.down_balise),
-        word(s.down_signal),
-        0,
-        0,
-        0,
+        word(down.place),
+        word(down.bytes),
         0,
         0,
     ]

@@ -14,7 +14,7 @@ use Rattle.x1_theorems.proofs.Asked as survey
 use Rattle.x1_theorems.proofs.Coordinates.{coordinate-nearest, coordinate-only-one}
 use Rattle.x2_theorems.proofs.Numbers as x2
 use Rattle.x2_theorems.proofs.Asked as application
-use Rattle.x2_theorems.proofs.Values.{enums-kept}
+use Rattle.x2_theorems.proofs.Values.{enums-kept, names-read}
 use Rattle.pair_theorems.proofs.Whole.{pair-is}
 use Rattle.x2_layout.specs.Layout.{layoutOf}
 use Rattle.route_graph.proofs.Read.{object-read}
@@ -61,6 +61,7 @@ accepts = record {
   second-header = application.header-asked;
   record-there = application.record-asked;
   enums = enums-kept;
+  names = names-read;
   track-back = λ f out. track-back out f;
   point-back = λ f out. point-back out f;
   position-back = λ f out. coordinate-back out f;

@@ -35,7 +35,7 @@ use Rattle.x2_theorems.specs.Checks.{checks as x2Checks}
 use Rattle.x2_verdict.specs.Questions.{namedHeaderOf, recordOf}
 use Rattle.x2_verdict.specs.Answers.{namedHeaderAnswer, recordAnswer}
 use Rattle.x2_theorems.specs.Asked as application
-use Rattle.x2_theorems.specs.Values.{EnumsKept}
+use Rattle.x2_theorems.specs.Values.{EnumsKept, NamesRead}
 use Rattle.pair.specs.Pair.{pairOf}
 use Rattle.pair_theorems.specs.Faults.{PairAnswered}
 use Rattle.route_graph.specs.Objects.{objectAt}
@@ -127,6 +127,10 @@ pub record Accepts : Type 0 where
   -- what an enum stands for is the number that is stored; every byte of a file is below 256
   pub enums : (f : List ℕ) → ((i : ℕ) → getD f i 0 < 256) → x2Verdict f ≡ verdict.Accepted → (at : ℕ)
       → List·Memᴰ at (starts f (layoutOf f)) → EnumsKept f at (recordAt f (kindAt (layoutOf f) at) at)
+  -- what a record has for a name is the name that stands there, with as many bytes as the rule says
+  -- 02: Ticket10.7
+  pub names : (f : List ℕ) → x2Verdict f ≡ verdict.Accepted → (at : ℕ)
+      → List·Memᴰ at (starts f (layoutOf f)) → NamesRead f at (recordAt f (kindAt (layoutOf f) at) at)
   -- each value of an answer comes back from its four bytes in a C caller's output, read as unsigned or signed
   pub track-back : (f out : List ℕ) (i : ℕ) → AnswerBack trackSigned (trackAnswer (trackOf f i)) out
   pub point-back : (f out : List ℕ) (i j : ℕ) → AnswerBack pointSigned (pointAnswer (pointOf f i j)) out

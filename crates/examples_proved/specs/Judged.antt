@@ -8,7 +8,7 @@ use Rattle.octets.specs.Octets.{numAt, signed, signedAt}
 use Rattle.verdict.specs.Reasons.{numberIn, placeIn, pairNumberIn, pairPlaceIn, pairFileIn}
 use Rattle.verdict.specs.Facts.{firstFault}
 use Rattle.verdict.specs.Walk.{walk, startsFrom}
-use Rattle.names.specs.Names.{bytesBetween, lead, nameLength, objectName, codeCount, codes, stationName}
+use Rattle.names.specs.Names.{bytesBetween, lead, nameLength, isName, objectName, codeCount, codes, stationName}
 use Rattle.x1_layout.specs.Layout as x1-layout
 use Rattle.x1_verdict.specs.Fields as x1-fields
 use Rattle.x1_verdict.specs.Agreement as x1-agreement
@@ -92,7 +92,7 @@ table =
 -- THEOREM: every case of the table holds.
 pub judged : All table
 unfolding checksumOf checksumFrom byteStep bitSteps bitStep step numAt signed signedAt flatMap firstFault walk startsFrom bytesBetween
-    lead nameLength objectName codeCount codes stationName x1-layout.entries x1-layout.dueAt x1-layout.layoutFacts x1-fields.allPoints
+    lead nameLength isName objectName codeCount codes stationName x1-layout.entries x1-layout.dueAt x1-layout.layoutFacts x1-fields.allPoints
     x1-fields.fieldFacts x1-agreement.pointsOf x1-agreement.trackAgrees x1-agreement.agreementFacts x1.checkFacts x1.facts firstWhere
     findTrack layoutOf madeOf groupsFrom nextStart nextField groupEnd groupEnds baliseBytes walkLayout madeFacts oneGroup groupFacts
     x2-layout.indexes x2-layout.offsetsLayout x2-layout.layoutFacts kindAt sizeOf isStart x2-fields.entriesFields x2-kinds.messageFields

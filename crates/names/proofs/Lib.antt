@@ -1,3 +1,5 @@
+pub mod Cases
 pub mod Counts
 pub mod Names
 pub mod Spelling
+pub mod Written

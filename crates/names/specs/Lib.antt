@@ -1,2 +1,4 @@
+pub mod Base
+pub mod Cases
 pub mod Names
-pub mod inner
+pub mod Written

@@ -1,8 +1,8 @@
--- Names (01, 'X.2, fixed application', 'Fields'): the 8 bytes of an object's name and the 16 bytes of a station's name, at a place p.
--- Each rule stands here twice: as a claim, which can be computed, and as a record of plain facts with the numbers that 01 prints.
--- proofs/Names has the theorems that the two say the same. Past the end of the file a byte counts as 0.
+-- Names (01, 'X.2, fixed application', 'Fields'; of objects by 02, ticket 10): the 8 bytes of an object's name and the 16 bytes of a
+-- station's name, at a place p. Each rule stands here twice: as a claim, which can be computed, and as a record of plain facts with the
+-- numbers that the papers print. proofs/Names has the theorems that the two say the same. Past the end of the file a byte counts as 0.
 -- `lead` counts down how many numbers there are at most.
-use Prim.Native.Nat.{ℕ, zero, suc, _+_, _*_, _≤_, _<_}
+use Prim.Native.Nat.{ℕ, zero, suc, _+_, _-_, _*_, _≤_, _<_}
 use mathlib.Core.Path.{_≡_}
 use mathlib.Core.Bool.{cond}
 use mathlib.Core.List.{List}
@@ -12,20 +12,31 @@ use Rattle.octets.specs.Octets.{numAt}
 use Rattle.rules.specs.Rules.{liesBetween}
 use Rattle.verdict.specs.declared.Reason.the-variants.{Field}
 use Rattle.verdict.specs.declared.Rule.the-variants as rule
-use Rattle.verdict.specs.Facts.{Claim, atMost, both, either, every, Fact, fact}
+use Rattle.verdict.specs.Facts.{Claim, test, same, atMost, both, either, denied, every, Fact, fact}
 use Rattle.verdict.specs.Walk.{startsFrom}
+use Rattle.names.specs.declared.Name.{Name}
+use Rattle.names.specs.declared.Naming.{Naming}
+use Rattle.names.specs.declared.Naming.the-variants.{Bytes, NoName}
 
 -- ---- sizes and ranges
 
--- an object's name: how many bytes it has room for, and the least and the greatest of its bytes
+-- an object's name: how many bytes it has room for; the least of its bytes, which is a space and stands neither first nor last; the greatest
 abbrev pub objectBytes : ℕ
 objectBytes = 8
 
-abbrev pub leastByte : ℕ
-leastByte = 0x21
+abbrev pub space : ℕ
+space = 0x20
 
 abbrev pub greatestByte : ℕ
 greatestByte = 0x7E
+
+-- the least number of bytes of a name, by whether its user allows it to be empty
+-- 02: Ticket10.4
+abbrev pub mayBeEmpty : ℕ
+mayBeEmpty = 0
+
+abbrev pub notEmpty : ℕ
+notEmpty = 1
 
 -- a station's name: how many bytes and how many codes it has room for
 abbrev pub stationBytes : ℕ
@@ -64,24 +75,65 @@ pub record Counted (n top r : ℕ) : Type 0 where
 
 -- ---- names of 8 bytes
 
--- how many bytes the name at p has
+-- how many bytes the name at p has: those before the first 0x00
 unfoldable pub nameLength : List ℕ → ℕ → ℕ
 nameLength f p = lead (λ k. byteAfter f p k) objectBytes
 
--- `least` or more bytes 0x21 to 0x7E, then only 0x00 up to the eighth
-unfoldable pub objectName : List ℕ → ℕ → ℕ → Claim
-objectName f p least =
-    both (atMost least (nameLength f p))
-    (both (bytesBetween f p 0 (nameLength f p) leastByte greatestByte) (zeros f p (nameLength f p) objectBytes))
+-- a byte is not 0x20
+abbrev pub noSpace : ℕ → Claim
+noSpace b = denied (same b space)
 
--- the same in plain facts: the name has `count` bytes
+-- the first `count` bytes are 0x20 to 0x7E, the first and the last of them not 0x20, and the rest up to the eighth are 0x00
+unfoldable pub isName : List ℕ → ℕ → ℕ → Claim
+isName f p count =
+    both (bytesBetween f p 0 count space greatestByte)
+    (both (noSpace (byteAfter f p 0)) (both (noSpace (byteAfter f p (count - 1))) (zeros f p count objectBytes)))
+
+-- what the 8 bytes at p are: a name of so many bytes, or none
+-- 02: Ticket10.2
+unfoldable pub namingOf : List ℕ → ℕ → Naming
+namingOf f p = cond (test (isName f p (nameLength f p))) (Bytes (nameLength f p)) NoName
+
+-- how many bytes the name has; 0 where there is none
+abbrev pub bytesIn : Naming → ℕ
+bytesIn (Bytes n) = n
+bytesIn NoName = 0
+
+-- the same as one number: one more than a name has room for where there is none
+abbrev pub countIn : Naming → ℕ
+countIn (Bytes n) = n
+countIn NoName = objectBytes + 1
+
+-- the name at p: its place, and how many bytes it has
+unfoldable pub nameAt : List ℕ → ℕ → Name
+nameAt f p = record { place = p; bytes = bytesIn (namingOf f p) }
+
+-- a name of `least` or more bytes
+unfoldable pub objectName : List ℕ → ℕ → ℕ → Claim
+objectName f p least = both (atMost least (nameLength f p)) (isName f p (nameLength f p))
+
+-- the same in plain facts: the 8 bytes at p are a name of `count` bytes
+-- 02: Ticket10.1, Ticket10.2, Ticket10.3
+pub record IsName (f : List ℕ) (p count : ℕ) : Type 0 where
+  pub room : count ≤ 8
+  pub bytes : (k : ℕ) → k < count → (0x20 ≤ byteAfter f p k) × (byteAfter f p k ≤ 0x7E)
+  pub first : 0 < count → byteAfter f p 0 ≡ 0x20 → ⊥
+  pub last : 0 < count → byteAfter f p (count - 1) ≡ 0x20 → ⊥
+  pub rest : (k : ℕ) → count ≤ k → k < 8 → byteAfter f p k ≡ 0
+
+-- a right answer to what they are
+-- 02: Ticket10.2
+abbrev pub IsNaming : List ℕ → ℕ → Naming → Type 0
+IsNaming f p (Bytes n) = IsName f p n
+IsNaming f p NoName = (n : ℕ) → IsName f p n → ⊥
+
+-- they are a name of at least so many bytes: mayBeEmpty or notEmpty
 -- 01: X2.fields.15
+-- 02: Ticket10.4, Ticket10.8
 pub record ObjectName (f : List ℕ) (p least : ℕ) : Type 0 where
   pub count : ℕ
   pub enough : least ≤ count
-  pub room : count ≤ 8
-  pub bytes : (k : ℕ) → k < count → (0x21 ≤ byteAfter f p k) × (byteAfter f p k ≤ 0x7E)
-  pub rest : (k : ℕ) → count ≤ k → k < 8 → byteAfter f p k ≡ 0
+  pub name : IsName f p count
 
 -- ---- station name
 

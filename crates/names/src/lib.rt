@@ -1,24 +1,32 @@
-// Names (01, 'X.2, fixed application'): the 8 bytes of an object's name and the 16 bytes of a station's name. `place` is the first byte of
-// the name, `start` where its record starts. A byte past the end of the file counts as 0.
+// Names (01, 'X.2, fixed application'; of objects by 02, ticket 10): the 8 bytes of an object's name and the 16 bytes of a station's name.
+// `place` is the first byte of the name, `start` where its record starts. A byte past the end of the file counts as 0.
 ghost use mathlib.Core.Path.{_≡_};
 ghost use mathlib.Core.List.{[], _∷_};
-ghost use Prim.Native.Nat.{_*_, _-_, min, _≤_};
+ghost use Prim.Native.Nat.{_+_, _*_, _-_, min, _≤_};
 ghost use lib.ListN.{length};
 ghost use Rattle.verdict.specs.Facts.{judge, test};
-ghost use Rattle.names.specs.Names.{objectBytes, stationCodes, byteAfter, zeros, lead, Counted, nameLength, codeCount, stationBytes, stationNameLength, isCode, codes, objectName, objectNameFact, stationNameFact};
-ghost use Rattle.names.specs.inner.Letters.{Letters};
+ghost use Rattle.names.specs.Names.{objectBytes, stationCodes, byteAfter, zeros, lead, Counted, codeCount, stationBytes, stationNameLength, isCode, codes, namingOf, countIn, nameAt, objectName, objectNameFact, stationNameFact};
+ghost use Rattle.names.specs.Written.{fieldAt};
 use octets::byte_after;
 use verdict::Judged;
 use verdict::Reason;
 use verdict::Rule;
 use verdict::also_fact;
 
-// An object's name: how many bytes it has room for, and the least and the greatest of its bytes.
+// An object's name: how many bytes it has room for; the least of its bytes, which is a space and stands neither first nor last; the greatest.
 const OBJECT_BYTES: usize = 8;
 
-const LEAST_BYTE: u8 = 0x21;
+const SPACE: u8 = 0x20;
 
 const GREATEST_BYTE: u8 = 0x7E;
+
+// In place of how many bytes a name has: there is no name. It is a number that no name has.
+const NONE: usize = OBJECT_BYTES + 1;
+
+// The least number of bytes of a name, by whether its user allows it to be empty.
+pub const MAY_BE_EMPTY: usize = 0;
+
+pub const NOT_EMPTY: usize = 1;
 
 // A station's name: how many bytes and how many codes it has room for.
 const STATION_BYTES: usize = 16;
@@ -40,33 +48,30 @@ const AFTER_GAP: usize = 0x80;
 
 const SECOND_GREATEST: usize = 0xFE;
 
-// Of the first `top` steps at a place, each of `step` bytes, how many stand before the first that begins with a zero.
-fn steps(f: &[u8], place: usize, step: usize, top: usize) -> usize
-    requires { ⌜ (step ≤ 2) × (top ≤ 8) ⌝ }
-    ensures { λ r. ⌜ Counted (lead (λ k. byteAfter (now (f .entry)) place (step * k)) top) top r ⌝ }
+// What the 8 bytes of a field are: a name of so many bytes, 0 where it is empty, or no name.
+pub enum Naming {
+    Bytes(usize),
+    NoName,
+}
+
+// The name of an object in a file: where its first byte stands, and how many bytes it has, 0 for none.
+pub struct Name {
+    pub place: usize,
+    pub bytes: usize,
+}
+
+// How many codes the name of a station at a place has: those before the first that begins with a zero.
+fn code_count(f: &[u8], place: usize) -> usize
+    ensures { λ r. ⌜ Counted (codeCount (now (f .entry)) place) stationCodes r ⌝ }
 {
     let mut n = 0;
-    while n < top {
-        if byte_after(f, place, step * n) == 0 {
+    while n < STATION_CODES {
+        if byte_after(f, place, CODE_BYTES * n) == 0 {
             return n;
         }
         n = n + 1;
     }
     n
-}
-
-// How many bytes the name of an object at a place has.
-pub fn name_length(f: &[u8], place: usize) -> usize
-    ensures { λ r. ⌜ Counted (nameLength (now (f .entry)) place) objectBytes r ⌝ }
-{
-    steps(f, place, 1, OBJECT_BYTES)
-}
-
-// How many codes the name of a station at a place has.
-fn code_count(f: &[u8], place: usize) -> usize
-    ensures { λ r. ⌜ Counted (codeCount (now (f .entry)) place) stationCodes r ⌝ }
-{
-    steps(f, place, CODE_BYTES, STATION_CODES)
 }
 
 // How many bytes the name of a station at a place has, without its closing zeros.
@@ -88,25 +93,6 @@ fn inside(f: &[u8], place: usize, bytes: usize) -> usize
         return left;
     }
     bytes
-}
-
-// How many of the first eight bytes at a place are 0x21 to 0x7E before the first that is not.
-fn letters(f: &[u8], place: usize) -> usize
-    ensures { λ r. ⌜ Letters (now (f .entry)) place r ⌝ }
-{
-    let top = inside(f, place, OBJECT_BYTES);
-    let mut n = 0;
-    while n < top {
-        let b = f[place + n];
-        if b < LEAST_BYTE {
-            return n;
-        }
-        if b > GREATEST_BYTE {
-            return n;
-        }
-        n = n + 1;
-    }
-    n
 }
 
 // Whether each byte at a place, from one up to another, is 0x00.
@@ -148,35 +134,100 @@ fn codes(f: &[u8], place: usize, n: usize) -> bool
     ok
 }
 
-// The 8 bytes at a place are an object's name, where the file ends inside them: those past its end count as 0.
-fn is_cut_name(f: &[u8], place: usize, least: usize) -> bool
-    ensures { λ r. ⌜ r ≡ test (objectName (now (f .entry)) place least) ⌝ }
+// The byte that stands k bytes after a place.
+fn octet(f: &[u8], place: usize, k: usize) -> u8
+    ensures { λ r. ⌜ r ≡ byteAfter (now (f .entry)) place k ⌝ }
 {
-    let n = letters(f, place);
-    let ended = zeros(f, place, n, OBJECT_BYTES);
-    (least <= n) & ended
+    byte_after(f, place, k) as u8
 }
 
-// The 8 bytes at a place are an object's name: `least` or more bytes 0x21 to 0x7E, then only 0x00.
-pub fn is_name(f: &[u8], place: usize, least: usize) -> bool
-    ensures { λ r. ⌜ r ≡ test (objectName (now (f .entry)) place least) ⌝ }
+// The 8 bytes of a field that the file may end in: those past its end are 0.
+fn cut_field(f: &[u8], place: usize) -> [u8; OBJECT_BYTES]
+    ensures { λ r. ⌜ r ≡ fieldAt (now (f .entry)) place ⌝ }
 {
-    if inside(f, place, OBJECT_BYTES) < OBJECT_BYTES {
-        return is_cut_name(f, place, least);
-    }
+    [
+        octet(f, place, 0),
+        octet(f, place, 1),
+        octet(f, place, 2),
+        octet(f, place, 3),
+        octet(f, place, 4),
+        octet(f, place, 5),
+        octet(f, place, 6),
+        octet(f, place, 7),
+    ]
+}
+
+// The rule, on 8 bytes that lie inside the file: so many bytes 0x20 to 0x7E, neither the first nor the last of them 0x20, then only 0x00. It
+// answers how many, or NONE. One pass: a byte of the name has only such before it, and the first 0x00 does not follow a space.
+fn spelt(f: &[u8], place: usize) -> usize
+    requires { ⌜ place + objectBytes ≤ length (now f) ⌝ }
+    ensures { λ r. ⌜ r ≡ countIn (namingOf (now (f .entry)) place) ⌝ }
+{
+    let first = f[place];
     let mut ok = true;
     let mut before = true;
+    let mut spaced = false;
     let mut n = 0;
     let mut k = 0;
     while k < OBJECT_BYTES {
         let b = f[place + k];
-        let letter = (LEAST_BYTE <= b) & (b <= GREATEST_BYTE);
-        ok = ok & ((b == 0) | (letter & before));
+        let letter = (SPACE <= b) & (b <= GREATEST_BYTE);
+        ok = ok & (((b == 0) & !spaced) | (letter & before));
         before = letter;
+        spaced = b == SPACE;
         n = n + letter as usize;
         k = k + 1;
     }
-    (least <= n) & ok
+    if ok & ((first != SPACE) & !spaced) {
+        return n;
+    }
+    NONE
+}
+
+// How many bytes the name has that the 8 bytes at a place are, or NONE.
+fn count_at(f: &[u8], place: usize) -> usize
+    ensures { λ r. ⌜ r ≡ countIn (namingOf (now (f .entry)) place) ⌝ }
+{
+    if inside(f, place, OBJECT_BYTES) < OBJECT_BYTES {
+        let field = cut_field(f, place);
+        return spelt(&field, 0);
+    }
+    spelt(f, place)
+}
+
+// What the 8 bytes at a place are: a name of so many bytes, or none.
+pub fn name_in(f: &[u8], place: usize) -> Naming
+    ensures { λ r. ⌜ r ≡ namingOf (now (f .entry)) place ⌝ }
+{
+    let n = count_at(f, place);
+    if n < NONE {
+        return Naming::Bytes(n);
+    }
+    Naming::NoName
+}
+
+// The name of an object at a place.
+pub fn name_at(f: &[u8], place: usize) -> Name
+    ensures { λ r. ⌜ r ≡ nameAt (now (f .entry)) place ⌝ }
+{
+    match name_in(f, place) {
+        Naming::Bytes(n) => Name {
+            place: place,
+            bytes: n,
+        },
+        Naming::NoName => Name {
+            place: place,
+            bytes: 0,
+        },
+    }
+}
+
+// The 8 bytes at a place are an object's name of `least` or more bytes: MAY_BE_EMPTY or NOT_EMPTY.
+pub fn is_name(f: &[u8], place: usize, least: usize) -> bool
+    ensures { λ r. ⌜ r ≡ test (objectName (now (f .entry)) place least) ⌝ }
+{
+    let n = count_at(f, place);
+    (least <= n) & (n < NONE)
 }
 
 // The same, as a fact.

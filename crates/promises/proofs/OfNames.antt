@@ -2,8 +2,10 @@
 use mathlib.Core.Path.{refl}
 use Rattle.promises.specs.Determined.{Determined}
 use Rattle.promises.proofs.Equations.{by-equation, by-part}
-use Rattle.names.proofs.name_length.Kinds as name-length-kinds
-use Rattle.names.proofs.name_length.Reads as name-length-reads
+use Rattle.names.proofs.name_in.Kinds as name-in-kinds
+use Rattle.names.proofs.name_in.Reads as name-in-reads
+use Rattle.names.proofs.name_at.Kinds as name-at-kinds
+use Rattle.names.proofs.name_at.Reads as name-at-reads
 use Rattle.names.proofs.is_name.Kinds as is-name-kinds
 use Rattle.names.proofs.is_name.Reads as is-name-reads
 use Rattle.names.proofs.object_name.Kinds as object-name-kinds
@@ -13,8 +15,11 @@ use Rattle.names.proofs.station_name.Reads as station-name-reads
 use Rattle.names.proofs.station_name_length.Kinds as station-name-length-kinds
 use Rattle.names.proofs.station_name_length.Reads as station-name-length-reads
 
-pub name-length-determined : Determined 1 name-length-kinds.ps name-length-kinds.r name-length-reads.Pre name-length-reads.Post
-name-length-determined κs a = by-part (λ x p. p .is) (λ v w. refl)
+pub name-in-determined : Determined 1 name-in-kinds.ps name-in-kinds.r name-in-reads.Pre name-in-reads.Post
+name-in-determined κs a = by-equation (λ v w. refl)
+
+pub name-at-determined : Determined 1 name-at-kinds.ps name-at-kinds.r name-at-reads.Pre name-at-reads.Post
+name-at-determined κs a = by-equation (λ v w. refl)
 
 pub is-name-determined : Determined 1 is-name-kinds.ps is-name-kinds.r is-name-reads.Pre is-name-reads.Post
 is-name-determined κs a = by-equation (λ v w. refl)

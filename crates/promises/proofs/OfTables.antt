@@ -10,6 +10,8 @@ use Rattle.tables.proofs.number_of.Kinds as number-of-kinds
 use Rattle.tables.proofs.number_of.Reads as number-of-reads
 use Rattle.tables.proofs.signed_of.Kinds as signed-of-kinds
 use Rattle.tables.proofs.signed_of.Reads as signed-of-reads
+use Rattle.tables.proofs.name_of.Kinds as name-of-kinds
+use Rattle.tables.proofs.name_of.Reads as name-of-reads
 use Rattle.tables.proofs.bits_of.Kinds as bits-of-kinds
 use Rattle.tables.proofs.bits_of.Reads as bits-of-reads
 use Rattle.tables.proofs.number_is.Kinds as number-is-kinds
@@ -56,6 +58,9 @@ number-of-determined κs a = by-part (λ x p. p .is) (λ v w. refl)
 
 pub signed-of-determined : Determined 1 signed-of-kinds.ps signed-of-kinds.r signed-of-reads.Pre signed-of-reads.Post
 signed-of-determined κs a = by-part (λ x p. p .is) (λ v w. refl)
+
+pub name-of-determined : Determined 1 name-of-kinds.ps name-of-kinds.r name-of-reads.Pre name-of-reads.Post
+name-of-determined κs a = by-equation (λ v w. refl)
 
 pub bits-of-determined : Determined 0 bits-of-kinds.ps bits-of-kinds.r bits-of-reads.Pre bits-of-reads.Post
 bits-of-determined κs a = by-equation (λ v w. refl)

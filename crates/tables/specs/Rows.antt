@@ -78,6 +78,7 @@ pub record TableObeys (f : List ℕ) (at : ℕ) (t : List Row) : Type 0 where
 
 -- p is the place of a field of the table that has none of its values
 -- 01: No.5
+-- 02: Ticket10.8
 pub record RowAtFault (f : List ℕ) (at : ℕ) (t : List Row) (p : ℕ) : Type 0 where
   pub which : Row
   pub there : List·Memᴰ which t

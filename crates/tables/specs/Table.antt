@@ -8,6 +8,8 @@ use mathlib.Core.List.{List, [], _∷_, _++_}
 use lib.Dec.{eqb}
 use lib.IntN.{ℤ}
 use Rattle.octets.specs.Octets.{numAt, signedAt}
+use Rattle.names.specs.declared.Name.{Name}
+use Rattle.names.specs.Names.{nameAt}
 
 -- ---- what may stand in a field
 
@@ -66,6 +68,10 @@ valueOf f at r = numAt (r .width) f (at + r .offset)
 -- the same as a signed number
 abbrev pub signedOf : List ℕ → ℕ → Row → ℤ
 signedOf f at r = signedAt (r .width) f (at + r .offset)
+
+-- the name that stands there
+abbrev pub nameOf : List ℕ → ℕ → Row → Name
+nameOf f at r = nameAt f (at + r .offset)
 
 -- ---- the places of the links, in the table's order
 

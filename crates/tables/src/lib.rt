@@ -9,10 +9,12 @@ ghost use Rattle.octets.specs.Octets.{bytesOf, numAt, signedAt, Is, IsSigned};
 ghost use lib.IntN.{natAbs};
 ghost use Rattle.verdict.specs.Facts.{same, atMost, test, also, judge};
 ghost use Rattle.rules.specs.Rules.{liesBetween, isAmongFour, isAmongFive, isNumber, between};
-ghost use Rattle.names.specs.Names.{objectBytes, objectName};
+ghost use Rattle.names.specs.Names.{objectBytes, objectName, nameAt};
 ghost use Rattle.tables.specs.Rows.{fieldMark, valueFacts};
 ghost use Rattle.tables.specs.Table as table;
+use names::Name;
 use names::is_name;
+use names::name_at;
 use names::object_name;
 use octets::Width;
 use octets::distance_at;
@@ -64,6 +66,13 @@ pub fn signed_of(f: &[u8], at: u32, k: Field) -> i64
 {
     let width = k.1;
     signed_at(f, place_of(at, k), width)
+}
+
+// The name of a field: its place, and how many bytes it has.
+pub fn name_of(f: &[u8], at: u32, k: NameField) -> Name
+    ensures { λ r. ⌜ r ≡ nameAt (now (f .entry)) (at + k .0) ⌝ }
+{
+    name_at(f, name_place(at, k))
 }
 
 // Some bits of a number, as a number.

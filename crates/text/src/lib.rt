@@ -2,6 +2,7 @@
 ghost use mathlib.Core.Path.{_≡_};
 ghost use Prim.Native.Nat.{_<_};
 use libc::STDOUT_FILENO;
+use names::Name;
 use octets::byte_after;
 use octets::byte_at;
 use octets::distance;
@@ -129,13 +130,14 @@ fn write_hex_at(f: &[u8], place: usize, k: usize) {
     io::print_hex(STDOUT_FILENO, byte_after(f, place, k) as u64, BYTE_DIGITS);
 }
 
-// An object's name that stands at a place of the file; a dash for none.
-pub fn name_line(name: &[u8], f: &[u8], place: usize)
+// An object's name in the file; a dash for one of no bytes.
+pub fn name_line(name: &[u8], f: &[u8], shown: Name)
     ensures { λ r. ⌜ r ≡ tt ⌝ }
 {
     write(name);
     write(b" ");
-    let n = names::name_length(f, place);
+    let place = shown.place;
+    let n = shown.bytes;
     if n == 0 {
         write(b"-");
     }

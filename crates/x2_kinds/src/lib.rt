@@ -7,6 +7,8 @@ ghost use Rattle.verdict.specs.Facts.{allTests, judge};
 ghost use Rattle.tables.specs.Rows.{tableFacts};
 ghost use Rattle.x2_records.specs.Rows.{boundaryTable, turnoutTable, baliseTable, signalTable, jointTable, sidingTable};
 ghost use Rattle.x2_kinds.specs.KindFields.{messageFields, kindFields};
+use names::MAY_BE_EMPTY;
+use names::NOT_EMPTY;
 use octets::byte_at;
 use tables::among_five;
 use tables::among_four;
@@ -230,7 +232,7 @@ fn signal_obeys(f: &[u8], at: u32) -> bool
         return signal_fields(Judged::Accepted, f, at).is_accepted();
     }
     let entry = equals(f, at, Signal::ENTRY, Signal::TYPE);
-    let name = has_name(f, at, Signal::NAME, 1);
+    let name = has_name(f, at, Signal::NAME, NOT_EMPTY);
     let position = lies_between(f, at, Signal::POSITION, 0, POSITION_MOST);
     let track = lies_between(f, at, Signal::TRACK, 1, 255);
     let top = has_part(f, at, Signal::BYTE, Signal::TOP, 0, FACING_MOST);
@@ -244,7 +246,7 @@ fn signal_fields(v: Judged, f: &[u8], at: u32) -> Judged
     ensures { λ r. ⌜ r ≡ judge v (tableFacts (now (f .entry)) at signalTable) ⌝ }
 {
     let mut w = exactly(v, f, at, Signal::ENTRY, Signal::TYPE);
-    w = named(w, f, at, Signal::NAME, 1);
+    w = named(w, f, at, Signal::NAME, NOT_EMPTY);
     w = between(w, f, at, Signal::POSITION, 0, POSITION_MOST);
     w = between(w, f, at, Signal::TRACK, 1, 255);
     w = part(w, f, at, Signal::BYTE, Signal::TOP, 0, FACING_MOST);
@@ -260,7 +262,7 @@ fn joint_obeys(f: &[u8], at: u32) -> bool
         return joint_fields(Judged::Accepted, f, at).is_accepted();
     }
     let entry = equals(f, at, Joint::ENTRY, Joint::TYPE);
-    let name = has_name(f, at, Joint::NAME, 1);
+    let name = has_name(f, at, Joint::NAME, MAY_BE_EMPTY);
     let position = lies_between(f, at, Joint::POSITION, 0, POSITION_MOST);
     let track = lies_between(f, at, Joint::TRACK, 1, 255);
     entry & (name & (position & track))
@@ -271,7 +273,7 @@ fn joint_fields(v: Judged, f: &[u8], at: u32) -> Judged
     ensures { λ r. ⌜ r ≡ judge v (tableFacts (now (f .entry)) at jointTable) ⌝ }
 {
     let mut w = exactly(v, f, at, Joint::ENTRY, Joint::TYPE);
-    w = named(w, f, at, Joint::NAME, 1);
+    w = named(w, f, at, Joint::NAME, MAY_BE_EMPTY);
     w = between(w, f, at, Joint::POSITION, 0, POSITION_MOST);
     between(w, f, at, Joint::TRACK, 1, 255)
 }
@@ -284,10 +286,10 @@ fn siding_obeys(f: &[u8], at: u32) -> bool
         return siding_fields(Judged::Accepted, f, at).is_accepted();
     }
     let entry = equals(f, at, Siding::ENTRY, Siding::TYPE);
-    let name = has_name(f, at, Siding::NAME, 1);
+    let name = has_name(f, at, Siding::NAME, NOT_EMPTY);
     let track = lies_between(f, at, Siding::TRACK, 1, 255);
-    let up = has_name(f, at, Siding::UP_SIGNAL, 0);
-    let down = has_name(f, at, Siding::DOWN_SIGNAL, 0);
+    let up = has_name(f, at, Siding::UP_SIGNAL, MAY_BE_EMPTY);
+    let down = has_name(f, at, Siding::DOWN_SIGNAL, MAY_BE_EMPTY);
     entry & (name & (track & (up & down)))
 }
 
@@ -296,10 +298,10 @@ fn siding_fields(v: Judged, f: &[u8], at: u32) -> Judged
     ensures { λ r. ⌜ r ≡ judge v (tableFacts (now (f .entry)) at sidingTable) ⌝ }
 {
     let mut w = exactly(v, f, at, Siding::ENTRY, Siding::TYPE);
-    w = named(w, f, at, Siding::NAME, 1);
+    w = named(w, f, at, Siding::NAME, NOT_EMPTY);
     w = between(w, f, at, Siding::TRACK, 1, 255);
-    w = named(w, f, at, Siding::UP_SIGNAL, 0);
-    named(w, f, at, Siding::DOWN_SIGNAL, 0)
+    w = named(w, f, at, Siding::UP_SIGNAL, MAY_BE_EMPTY);
+    named(w, f, at, Siding::DOWN_SIGNAL, MAY_BE_EMPTY)
 }
 
 // A record of a kind.

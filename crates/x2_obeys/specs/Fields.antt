@@ -98,6 +98,7 @@ pub record SignalObeys (f : List ℕ) (at : ℕ) : Type 0 where
   -- 01: X2.fields.4
   pub entry : numAt 1 f (at + 0) ≡ 0xC3
   -- 01: X2.fields.15
+  -- 02: Ticket10.6
   pub name : ObjectName f (at + 5) 1
   -- 01: X2.fields.7
   pub position : numAt 4 f (at + 13) ≤ 2147483647
@@ -111,29 +112,32 @@ pub record SignalObeys (f : List ℕ) (at : ℕ) : Type 0 where
   -- 01: X2.fields.14
   pub low : Between 1 5 (numAt 1 f (at + 18) % 16)
 
--- Table 11.
+-- Table 11. The name may be empty.
 pub record JointObeys (f : List ℕ) (at : ℕ) : Type 0 where
   -- 01: X2.fields.4
   pub entry : numAt 1 f (at + 0) ≡ 0xC6
-  -- 01: X2.fields.15
-  pub name : ObjectName f (at + 5) 1
+  -- 02: Ticket10.1, Ticket10.5
+  pub name : ObjectName f (at + 5) 0
   -- 01: X2.fields.7
   pub position : numAt 4 f (at + 13) ≤ 2147483647
   -- 01: X2.fields.5
   pub track : Between 1 255 (numAt 1 f (at + 17))
 
--- Table 12. The exit signal names may be all zero, and the exit balises may be any.
+-- Table 12. The exit signal names may be empty, and the exit balises may be any.
 -- 01: X2.fields.18
 pub record SidingObeys (f : List ℕ) (at : ℕ) : Type 0 where
   -- 01: X2.fields.4
   pub entry : numAt 1 f (at + 0) ≡ 0xCC
   -- 01: X2.fields.15
+  -- 02: Ticket10.6
   pub name : ObjectName f (at + 1) 1
   -- 01: X2.fields.5
   pub track : Between 1 255 (numAt 1 f (at + 9))
   -- 01: X2.fields.16
+  -- 02: Ticket10.5
   pub up-signal : ObjectName f (at + 13) 0
   -- 01: X2.fields.16
+  -- 02: Ticket10.5
   pub down-signal : ObjectName f (at + 24) 0
 
 -- a record of a kind

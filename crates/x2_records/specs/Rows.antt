@@ -2,6 +2,7 @@
 -- what may stand in it (01, 'X.2, fixed application'). Everything else that is said of a field follows from its row.
 use Prim.Native.Nat.{ℕ, _-_}
 use mathlib.Core.List.{List, [], _∷_}
+use Rattle.names.specs.Names.{mayBeEmpty, notEmpty}
 use Rattle.tables.specs.Table.{Part, bits, Values, any, link, exactly, between, amongFour, amongFive, named, parts, Row, row}
 use Rattle.x2_records.specs.declared.Kind.{Kind}
 use Rattle.x2_records.specs.declared.Kind.the-variants as kind
@@ -161,7 +162,7 @@ abbrev pub signalNext : Row
 signalNext = row "next" 3 2 link
 
 abbrev pub signalName : Row
-signalName = row "name" 5 8 (named 1)
+signalName = row "name" 5 8 (named notEmpty)
 
 abbrev pub signalPosition : Row
 signalPosition = row "position" 13 4 positions
@@ -187,7 +188,7 @@ abbrev pub jointNext : Row
 jointNext = row "next" 3 2 link
 
 abbrev pub jointName : Row
-jointName = row "name" 5 8 (named 1)
+jointName = row "name" 5 8 (named mayBeEmpty)
 
 abbrev pub jointPosition : Row
 jointPosition = row "position" 13 4 positions
@@ -204,7 +205,7 @@ abbrev pub sidingEntry : Row
 sidingEntry = row "type" 0 1 (exactly place.sidingType)
 
 abbrev pub sidingName : Row
-sidingName = row "name" 1 8 (named 1)
+sidingName = row "name" 1 8 (named notEmpty)
 
 abbrev pub sidingTrack : Row
 sidingTrack = row "track" 9 1 tracks
@@ -214,14 +215,14 @@ abbrev pub sidingUpBalise : Row
 sidingUpBalise = row "up_balise" 10 3 any
 
 abbrev pub sidingUpSignal : Row
-sidingUpSignal = row "up_signal" 13 8 (named 0)
+sidingUpSignal = row "up_signal" 13 8 (named mayBeEmpty)
 
 -- 01: X2.fields.17
 abbrev pub sidingDownBalise : Row
 sidingDownBalise = row "down_balise" 21 3 any
 
 abbrev pub sidingDownSignal : Row
-sidingDownSignal = row "down_signal" 24 8 (named 0)
+sidingDownSignal = row "down_signal" 24 8 (named mayBeEmpty)
 
 abbrev pub sidingTable : List Row
 sidingTable = sidingEntry ∷ sidingName ∷ sidingTrack ∷ sidingUpBalise ∷ sidingUpSignal ∷ sidingDownBalise ∷ sidingDownSignal ∷ []

@@ -1,5 +1,6 @@
 -- What the bytes of a record mean: the standard's tables 6 to 12, a line for each field in the table's order. f is the file and `at` the
--- record's start; `numAt n f p` is the number of the n bytes at p. A name and a message are given by the place where they stand.
+-- record's start; `numAt n f p` is the number of the n bytes at p. A name is given by its place and how many bytes it has, a message by its
+-- place.
 -- A case is read from a number: `..Bits` says which bits of the byte it is, `..Of` which case it gives, and `..Number` which number the
 -- table gives each case. A number that the table does not have counts as its last one.
 use Prim.Native.Nat.{ℕ, _+_}
@@ -22,7 +23,7 @@ use Rattle.x2_records.specs.declared.signals.Duty.the-variants.{Entry, E
 use Rattle.x2_records.specs.declared.signals.Signal.{Signal}
 use Rattle.x2_records.specs.declared.joints.Joint.{Joint}
 use Rattle.x2_records.specs.declared.sidings.Siding.{Siding}
-use Rattle.tables.specs.Table.{bitsOf, valueOf, fieldPlace}
+use Rattle.tables.specs.Table.{bitsOf, valueOf, nameOf}
 use Rattle.x2_records.specs.Places as place
 use Rattle.x2_records.specs.Rows as row
 
@@ -151,7 +152,7 @@ unfoldable pub signalAt : List ℕ → ℕ → Signal
 signalAt f at = record {
   previous = valueOf f at row.signalPrevious;
   next = valueOf f at row.signalNext;
-  name = fieldPlace at row.signalName;
+  name = nameOf f at row.signalName;
   position = valueOf f at row.signalPosition;
   track = valueOf f at row.signalTrack;
   direction = facingOf (valueOf f at row.signalByte);
@@ -164,7 +165,7 @@ unfoldable pub jointAt : List ℕ → ℕ → Joint
 jointAt f at = record {
   previous = valueOf f at row.jointPrevious;
   next = valueOf f at row.jointNext;
-  name = fieldPlace at row.jointName;
+  name = nameOf f at row.jointName;
   position = valueOf f at row.jointPosition;
   track = valueOf f at row.jointTrack;
 }
@@ -173,10 +174,10 @@ jointAt f at = record {
 
 unfoldable pub sidingAt : List ℕ → ℕ → Siding
 sidingAt f at = record {
-  name = fieldPlace at row.sidingName;
+  name = nameOf f at row.sidingName;
   track = valueOf f at row.sidingTrack;
   «up_balise» = valueOf f at row.sidingUpBalise;
-  «up_signal» = fieldPlace at row.sidingUpSignal;
+  «up_signal» = nameOf f at row.sidingUpSignal;
   «down_balise» = valueOf f at row.sidingDownBalise;
-  «down_signal» = fieldPlace at row.sidingDownSignal;
+  «down_signal» = nameOf f at row.sidingDownSignal;
 }

@@ -1,10 +1,11 @@
 // Insulated rail joints (绝缘节): table 11.
 ghost use mathlib.Core.Path.{_≡_};
 ghost use Rattle.x2_records.specs.Tables.{jointAt};
+use names::Name;
 use octets::Width;
 use tables::Field;
 use tables::NameField;
-use tables::name_place;
+use tables::name_of;
 use tables::number_of;
 
 pub struct Joint {
@@ -12,8 +13,8 @@ pub struct Joint {
     pub previous: usize,
     // 下一个数据对象的字节偏移: the object after it
     pub next: usize,
-    // 绝缘节名称: where its name of 8 bytes stands
-    pub name: usize,
+    // 绝缘节名称: its name, which has no bytes where the joint has none
+    pub name: Name,
     // 绝缘节位置: its position, in centimetres
     pub position: usize,
     // 绝缘节所在轨道号: its track
@@ -48,7 +49,7 @@ impl Joint {
         Joint {
             previous: number_of(s, start, Self::PREVIOUS),
             next: number_of(s, start, Self::NEXT),
-            name: name_place(start, Self::NAME),
+            name: name_of(s, start, Self::NAME),
             position: number_of(s, start, Self::POSITION),
             track: number_of(s, start, Self::TRACK),
         }

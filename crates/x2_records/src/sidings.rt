@@ -1,25 +1,26 @@
 // Sidings (股道): table 12. A siding is no object of its track: it has no link and no position.
 ghost use mathlib.Core.Path.{_≡_};
 ghost use Rattle.x2_records.specs.Tables.{sidingAt};
+use names::Name;
 use octets::Width;
 use tables::Field;
 use tables::NameField;
-use tables::name_place;
+use tables::name_of;
 use tables::number_of;
 
 pub struct Siding {
-    // 股道名称: where its name of 8 bytes stands
-    pub name: usize,
+    // 股道名称: its name
+    pub name: Name,
     // 股道所在轨道号: its track
     pub track: usize,
     // 上行出站应答器编号: the number of the exit balise on the up side, Balise::NONE for none
     pub up_balise: usize,
-    // 上行出站信号机名称: where the name of the exit signal on the up side stands, 8 bytes, all 0 for none
-    pub up_signal: usize,
+    // 上行出站信号机名称: the name of the exit signal on the up side, of no bytes for none
+    pub up_signal: Name,
     // 下行出站应答器编号: the same of the down side
     pub down_balise: usize,
     // 下行出站信号机名称: the same of the down side
-    pub down_signal: usize,
+    pub down_signal: Name,
 }
 
 impl Siding {
@@ -50,12 +51,12 @@ impl Siding {
     {
         let start = at as u32;
         Siding {
-            name: name_place(start, Self::NAME),
+            name: name_of(s, start, Self::NAME),
             track: number_of(s, start, Self::TRACK),
             up_balise: number_of(s, start, Self::UP_BALISE),
-            up_signal: name_place(start, Self::UP_SIGNAL),
+            up_signal: name_of(s, start, Self::UP_SIGNAL),
             down_balise: number_of(s, start, Self::DOWN_BALISE),
-            down_signal: name_place(start, Self::DOWN_SIGNAL),
+            down_signal: name_of(s, start, Self::DOWN_SIGNAL),
         }
     }
 }

@@ -1,12 +1,13 @@
 // Signals (信号机): table 10. The signal byte has parts.
 ghost use mathlib.Core.Path.{_≡_};
 ghost use Rattle.x2_records.specs.Tables.{facingOf, facingNumber, dutyOf, dutyNumber, signalAt};
+use names::Name;
 use octets::Width;
 use tables::Bits;
 use tables::Field;
 use tables::NameField;
 use tables::bits_of;
-use tables::name_place;
+use tables::name_of;
 use tables::number_of;
 
 // 信号机方向: the direction that a signal is for, the top two bits of the signal byte.
@@ -90,8 +91,8 @@ pub struct Signal {
     pub previous: usize,
     // 下一个数据对象的字节偏移: the object after it
     pub next: usize,
-    // 信号机名称: where its name of 8 bytes stands
-    pub name: usize,
+    // 信号机名称: its name
+    pub name: Name,
     // 信号机位置: its position, in centimetres
     pub position: usize,
     // 信号机所在轨道号: its track
@@ -140,7 +141,7 @@ impl Signal {
         Signal {
             previous: number_of(s, start, Self::PREVIOUS),
             next: number_of(s, start, Self::NEXT),
-            name: name_place(start, Self::NAME),
+            name: name_of(s, start, Self::NAME),
             position: number_of(s, start, Self::POSITION),
             track: number_of(s, start, Self::TRACK),
             direction: Facing::of(byte),

@@ -14,6 +14,8 @@ use Rattle.verdict.specs.Answers.{answerNumber}
 use Rattle.verdict.proofs.Questions.{accepted-by, some-number}
 use Rattle.octets.specs.Octets.{numAt}
 use Rattle.rules.specs.Rules.{Between}
+use Rattle.names.specs.Names.{nameAt, namingOf, bytesIn}
+use Rattle.names.proofs.Names.{bytes-most}
 use Rattle.envelope.specs.Header.{headerIn}
 use Rattle.envelope.specs.Seal.{mostLength}
 use Rattle.x2_records.specs.declared.Kind.{Kind}
@@ -126,6 +128,9 @@ module _ (f : List ℕ) (bytes : (i : ℕ) → getD f i 0 < 256) where
   four : (i : ℕ) → numAt 4 f i < fourBytes
   four i = number-below 4 i
 
+  name : (p : ℕ) → bytesIn (namingOf f p) < fourBytes
+  name p = omega (arith, bytes-most f p)
+
   module _ (at : ℕ) (small : at ≤ mostLength) where
     boundary-below : AllBelow fourBytes (boundaryFields (boundaryAt f at))
     unfolding boundaryAt
@@ -133,7 +138,7 @@ module _ (f : List ℕ) (bytes : (i : ℕ) → getD f i 0 < 256) where
 
     -- of the record at a place of the file, whatever kind it is
     fields-below : (k : Kind) → AllBelow fourBytes (fieldsOf (recordAt f k at))
-    unfolding recordAt turnoutAt baliseAt signalAt jointAt sidingAt
+    unfolding recordAt turnoutAt baliseAt signalAt jointAt sidingAt nameAt
     fields-below kind.StartBoundary = (omega arith, boundary-below)
     fields-below kind.EndBoundary = (omega arith, boundary-below)
     fields-below kind.Turnout = (
@@ -144,9 +149,15 @@ module _ (f : List ℕ) (bytes : (i : ℕ) → getD f i 0 < 256) where
       omega arith,
       (two (at + 1), (two (at + 3), (three (at + 5), (one (at + 8), (nature-below (baliseAt f at .nature), (group-below (baliseAt f at .direction), (four (at + 10), (one (at + 14), (omega arith, (omega arith, (omega arith, tt))))))))))),
     )
-    fields-below kind.Signal = (omega arith, (two (at + 1), (two (at + 3), (omega arith, (four (at + 13), (one (at + 17), (facing-below (signalAt f at .direction), (duty-below (signalAt f at .duty), tt))))))))
-    fields-below kind.Joint = (omega arith, (two (at + 1), (two (at + 3), (omega arith, (four (at + 13), (one (at + 17), tt))))))
-    fields-below kind.Siding = (omega arith, (omega arith, (one (at + 9), (three (at + 10), (omega arith, (three (at + 21), (omega arith, tt)))))))
+    fields-below kind.Signal = (
+      omega arith,
+      (two (at + 1), (two (at + 3), (omega arith, (name (at + 5), (four (at + 13), (one (at + 17), (facing-below (signalAt f at .direction), (duty-below (signalAt f at .duty), tt)))))))),
+    )
+    fields-below kind.Joint = (omega arith, (two (at + 1), (two (at + 3), (omega arith, (name (at + 5), (four (at + 13), (one (at + 17), tt)))))))
+    fields-below kind.Siding = (
+      omega arith,
+      (omega arith, (name (at + 1), (one (at + 9), (three (at + 10), (omega arith, (name (at + 13), (three (at + 21), (omega arith, (name (at + 24), tt))))))))),
+    )
 
   -- where a record starts in an accepted file
   start-most : verdictOf f ≡ verdict.Accepted → (x : ℕ) → test (isStart f (layoutOf f) x) ≡ true → x ≤ mostLength

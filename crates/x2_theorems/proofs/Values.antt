@@ -1,4 +1,4 @@
--- On an accepted file every enum of a record goes back to the stored number.
+-- On an accepted file every enum of a record goes back to the stored number, and every name of a record is one by the rule.
 use Prim.Native.Nat.{ℕ, _+_, _*_, _≤_, _<_}
 use native.Mathlib.Omega.{arith}
 use mathlib.Core.Path.{_≡_, refl}
@@ -10,13 +10,15 @@ use Rattle.verdict.specs.declared.Verdict.the-variants.{Accepted}
 use Rattle.x2_records.specs.declared.Kind.{Kind}
 use Rattle.x2_records.specs.declared.Kind.the-variants as kind
 use Rattle.x2_records.specs.Records.{recordAt}
-use Rattle.x2_records.specs.Tables.{turnoutAt, baliseAt, signalAt, natureOf, groupDirectionOf, natureNumber, groupDirectionNumber}
+use Rattle.names.specs.Names.{nameAt, ObjectName}
+use Rattle.names.proofs.Names.{bytes-are}
+use Rattle.x2_records.specs.Tables.{turnoutAt, baliseAt, signalAt, jointAt, sidingAt, natureOf, groupDirectionOf, natureNumber, groupDirectionNumber}
 use Rattle.x2_theorems.proofs.RecordNumbers.{direction-kept, facing-kept, duty-kept}
 use Rattle.x2_layout.specs.Layout.{layoutOf}
 use Rattle.x2_layout.specs.Records.{kindAt, starts}
 use Rattle.x2_obeys.specs.Fields.{OneOfTwo, OneOfFour, RecordObeys}
 use Rattle.x2_verdict.specs.Facts.{verdictOf}
-use Rattle.x2_theorems.specs.Values.{EnumsKept}
+use Rattle.x2_theorems.specs.Values.{EnumsKept, NameRead, NamesRead}
 use Rattle.x2_verdict.proofs.Questions.{verdict-obeys}
 
 two-most : (x : ℕ) → OneOfTwo 0 1 x → x ≤ 1
@@ -51,3 +53,25 @@ kept f bytes kind.Siding at o = tt
 -- THEOREM: in an accepted file the enums of each record, put together again, are the byte that is stored
 pub enums-kept : (f : List ℕ) → ((i : ℕ) → getD f i 0 < 256) → verdictOf f ≡ Accepted → (at : ℕ) → List·Memᴰ at (starts f (layoutOf f)) → EnumsKept f at (recordAt f (kindAt (layoutOf f) at) at)
 enums-kept f bytes e at m = kept f bytes (kindAt (layoutOf f) at) at (verdict-obeys f e .fields .each-record at m)
+
+-- ---- names
+
+name-read : (f : List ℕ) (p least : ℕ) → ObjectName f p least → NameRead f p least (nameAt f p)
+unfolding nameAt
+name-read f p least o =
+    let e = bytes-are (o .name) in
+    record { place = refl; right = rw e (o .name); enough = rw e (o .enough) }
+
+named : (f : List ℕ) (k : Kind) (at : ℕ) → RecordObeys f k at → NamesRead f at (recordAt f k at)
+unfolding recordAt signalAt jointAt sidingAt
+named f kind.StartBoundary at o = tt
+named f kind.EndBoundary at o = tt
+named f kind.Turnout at o = tt
+named f kind.Balise at o = tt
+named f kind.Signal at o = name-read f (at + 5) 1 (o .name)
+named f kind.Joint at o = name-read f (at + 5) 0 (o .name)
+named f kind.Siding at o = (name-read f (at + 1) 1 (o .name), name-read f (at + 13) 0 (o .up-signal), name-read f (at + 24) 0 (o .down-signal))
+
+-- THEOREM (02, ticket 10): in an accepted file each name of a record is one by the rule, of as many bytes as the record says
+pub names-read : (f : List ℕ) → verdictOf f ≡ Accepted → (at : ℕ) → List·Memᴰ at (starts f (layoutOf f)) → NamesRead f at (recordAt f (kindAt (layoutOf f) at) at)
+names-read f e at m = named f (kindAt (layoutOf f) at) at (verdict-obeys f e .fields .each-record at m)

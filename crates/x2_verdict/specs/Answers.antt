@@ -44,7 +44,7 @@ boundaryFields b =
     ∷ []
 
 -- a record's kind by its number, 1 to 7 in stored order, and then its fields in the order of its table: a case by the table's number, a
--- name and a message by the place where it stands
+-- name by its place and how many bytes it has, a message by its place
 abbrev pub fieldsOf : Decoded → List ℕ
 fieldsOf (is.StartBoundary b) = 1 ∷ boundaryFields b
 fieldsOf (is.EndBoundary b) = 2 ∷ boundaryFields b
@@ -80,21 +80,25 @@ fieldsOf (is.Signal s) =
     5
     ∷ s .previous
     ∷ s .next
-    ∷ s .name
+    ∷ s .name .place
+    ∷ s .name .bytes
     ∷ s .position
     ∷ s .track
     ∷ facingNumber (s .direction)
     ∷ dutyNumber (s .duty)
     ∷ []
-fieldsOf (is.Joint j) = 6 ∷ j .previous ∷ j .next ∷ j .name ∷ j .position ∷ j .track ∷ []
+fieldsOf (is.Joint j) = 6 ∷ j .previous ∷ j .next ∷ j .name .place ∷ j .name .bytes ∷ j .position ∷ j .track ∷ []
 fieldsOf (is.Siding s) =
     7
-    ∷ s .name
+    ∷ s .name .place
+    ∷ s .name .bytes
     ∷ s .track
     ∷ s .«up_balise»
-    ∷ s .«up_signal»
+    ∷ s .«up_signal» .place
+    ∷ s .«up_signal» .bytes
     ∷ s .«down_balise»
-    ∷ s .«down_signal»
+    ∷ s .«down_signal» .place
+    ∷ s .«down_signal» .bytes
     ∷ []
 
 -- n values: the numbers given, and zeros after them

@@ -6,12 +6,13 @@ use Rattle.c_values.proofs.values.joint_words.Tie as tie
 
 returns : tie.Need-returns
 unfolding wordOf
-returns c = simp (c .word6 .ensures, c .before .word5 .ensures, c .before .before .word4 .ensures, c .before .before .before .word3 .ensures, c .before .before .before .before .word2 .ensures, c .before .before .before .before .before .word .ensures)
+returns c = simp (c .word7 .ensures, c .before .word6 .ensures, c .before .before .word5 .ensures, c .before .before .before .word4 .ensures, c .before .before .before .before .word3 .ensures, c .before .before .before .before .before .word2 .ensures, c .before .before .before .before .before .before .word .ensures)
 
 pub joint-words-spec : {M : Type 1} → statement M
 joint-words-spec =
     tie.close
     (tie.spec
+    (λ c κs. search needs)
     (λ c κs. search needs)
     (λ c κs. search needs)
     (λ c κs. search needs)

@@ -6,12 +6,13 @@ use Rattle.c_values.proofs.values.signal_words.Tie as tie
 
 returns : tie.Need-returns
 unfolding wordOf
-returns c = simp (c .word8 .ensures, c .before .number2 .ensures, c .before .before .word7 .ensures, c .before .before .before .number .ensures, c .before .before .before .before .word6 .ensures, c .before .before .before .before .before .word5 .ensures, c .before .before .before .before .before .before .word4 .ensures, c .before .before .before .before .before .before .before .word3 .ensures, c .before .before .before .before .before .before .before .before .word2 .ensures, c .before .before .before .before .before .before .before .before .before .word .ensures)
+returns c = simp (c .word9 .ensures, c .before .number2 .ensures, c .before .before .word8 .ensures, c .before .before .before .number .ensures, c .before .before .before .before .word7 .ensures, c .before .before .before .before .before .word6 .ensures, c .before .before .before .before .before .before .word5 .ensures, c .before .before .before .before .before .before .before .word4 .ensures, c .before .before .before .before .before .before .before .before .word3 .ensures, c .before .before .before .before .before .before .before .before .before .word2 .ensures, c .before .before .before .before .before .before .before .before .before .before .word .ensures)
 
 pub signal-words-spec : {M : Type 1} → statement M
 signal-words-spec =
     tie.close
     (tie.spec
+    (λ c κs. search needs)
     (λ c κs. search needs)
     (λ c κs. search needs)
     (λ c κs. search needs)
