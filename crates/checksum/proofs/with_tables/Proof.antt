@@ -8,7 +8,7 @@ use Rattle.checksum.proofs.with_tables.Tie as tie
 
 by-table-requires : tie.Need-by-table-requires
 unfolding byteStep bitSteps bitStep step
-by-table-requires c κs = right-tables _ _ refl refl tt tt tt tt
+by-table-requires c κs = right-tables _ _ refl refl refl refl tt tt tt tt tt tt
 
 pub with-tables-spec : {M : Type 1} → statement M
 with-tables-spec = tie.close (tie.spec by-table-requires (λ c. search needs))
