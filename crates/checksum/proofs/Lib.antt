@@ -7,3 +7,6 @@ pub mod ByTable
 pub mod Entries
 pub mod Walk
 pub mod Plain
+pub mod Sparse
+pub mod Passed
+pub mod Row

@@ -12,14 +12,14 @@ use lib.Bits.{bitXor, xor-lt, xor-shr, xor-self}
 use Rattle.checksum.specs.Checksum.{polynomial, width, ones, top, step, bitStep, bitSteps}
 use Rattle.checksum.proofs.Xor.{xor-four, xor-shift, xor-bits, xor-times}
 
-step-lt : (r : ℕ) → r < 2 ^ width → step r < 2 ^ width
+pub step-lt : (r : ℕ) → r < 2 ^ width → step r < 2 ^ width
 unfolding step
 step-lt r p =
     let off : top r * ones polynomial / 2 ^ width ≡ top r = omega arith in
     let up : r * 2 / 2 ^ width ≡ top r = omega arith in
     omega (arith, xor-shr (top r * ones polynomial) (r * 2) width ∙ ap₂ bitXor off up ∙ xor-self (top r))
 
-step-xor : (a b : ℕ) → a < 2 ^ width → b < 2 ^ width → step (bitXor a b) ≡ bitXor (step a) (step b)
+pub step-xor : (a b : ℕ) → a < 2 ^ width → b < 2 ^ width → step (bitXor a b) ≡ bitXor (step a) (step b)
 unfolding step
 step-xor a b p q =
     ap₂ bitXor
@@ -59,7 +59,7 @@ bits-xor (k ∷ ks) r q a b hr hq =
     ap (λ (x : ℕ). bitSteps ks x (bitXor a b)) (ap (bitStep (bitXor r q)) (xor-bits 1 k a b) ∙ bit-xor r q d e hr hq hd he)
     ∙ bits-xor ks (bitStep r d) (bitStep q e) a b (bit-lt r d hr hd) (bit-lt q e hq he)
 
-step-low : (r : ℕ) → r < 2 ^ (width - 1) → step r ≡ r * 2
+pub step-low : (r : ℕ) → r < 2 ^ (width - 1) → step r ≡ r * 2
 unfolding step
 step-low r p =
     let none : top r * ones polynomial ≡ 0 = omega arith in

@@ -1,7 +1,8 @@
 // The checksum of 6.6 (01, 'Bytes and checksum'). terms.rt has it as the page prints it, bit by bit. Here it goes sixteen bytes a turn, four
 // bytes a step, by tables of what each byte makes of an empty register once some empty bytes have followed. Of a turn's bytes the first four
 // meet the register, and twelve empty bytes follow them; the other twelve enter an empty register and need not wait for the first four.
-// What both make, joined, is what the sixteen make.
+// What both make, joined, is what the sixteen make. Of a long file only few bytes go so: reach.rt says how all others are taken away first.
+mod reach;
 mod table;
 mod terms;
 
@@ -10,6 +11,8 @@ ghost use Prim.Native.Nat.{ℕ, _+_, _%_, _≤_, _<_};
 ghost use lib.ListN.{length, take, drop};
 ghost use Rattle.checksum.specs.Checksum.{byteStep, checksumFrom, checksumOf, Checksum};
 ghost use Rattle.checksum.specs.inner.Table.{wordOf, inTurns, inFours, emptySteps, RightTable, RightTables};
+use reach::REACH;
+use reach::leave_few;
 use table::BYTES;
 use table::ENTRIES;
 use table::FAR;
@@ -27,6 +30,9 @@ const THREE_BYTES: u32 = 3 * BYTE;
 const STEP: usize = 4;
 
 const TURN: usize = 16;
+
+// From how many bytes on it takes less time to leave few of them first; measured.
+const MANY: usize = 768;
 
 // What a byte makes of an empty register once the empty bytes of a row of the table have followed: `row` more than those of its first row.
 fn entry(table: &[u32; ENTRIES], row: usize, byte: usize) -> u32
@@ -126,33 +132,46 @@ fn rest(near: &[u32; ENTRIES], register: u32, s: &[u8], at: usize) -> u32
     stepped
 }
 
-// What the bytes s make of the start value.
-fn by_table(near: &[u32; ENTRIES], far: &[u32; ENTRIES], s: &[u8]) -> u32
+// What the register becomes when the bytes s enter.
+fn by_table(near: &[u32; ENTRIES], far: &[u32; ENTRIES], register: u32, s: &[u8]) -> u32
     requires { ⌜ RightTables (now near) (now far) ⌝ }
-    ensures { λ r. ⌜ r ≡ checksumOf (now (s .entry)) ⌝ }
+    ensures { λ r. ⌜ r ≡ checksumFrom register (now (s .entry)) ⌝ }
 {
-    let turned = turns(near, far, START, s);
+    let turned = turns(near, far, register, s);
     let stepped = fours(near, turned, s, s.len() - s.len() % TURN);
     rest(near, stepped, s, s.len() - s.len() % STEP)
 }
 
-// Lays the tables, and answers by them what the bytes s make of the start value.
-fn with_tables(s: &[u8]) -> u32
-    ensures { λ r. ⌜ r ≡ checksumOf (now (s .entry)) ⌝ }
+// Lays the tables, and answers by them what the register becomes when the bytes s enter.
+fn with_tables(register: u32, s: &[u8]) -> u32
+    ensures { λ r. ⌜ r ≡ checksumFrom register (now (s .entry)) ⌝ }
 {
     let near = &NEAR;
     let far = &FAR;
-    by_table(near, far, s)
+    by_table(near, far, register, s)
 }
 
-// The checksum of the bytes s. Fewer than a turn enter bit by bit: no table is laid for them.
+// What the bytes s, many of them, make of the start value: what the few that are left of them make of an empty register.
+fn by_reach(s: &[u8]) -> u32
+    requires { ⌜ 341 ≤ length (now s) ⌝ }
+    ensures { λ r. ⌜ r ≡ checksumOf (now (s .entry)) ⌝ }
+{
+    let mut few = [0u8; REACH];
+    leave_few(s, &mut few);
+    with_tables(0, &few)
+}
+
+// The checksum of the bytes s. Fewer than a turn enter bit by bit: no table is laid for them. Of many, few are left first.
 pub fn of(s: &[u8]) -> usize
     ensures { λ r. ⌜ Checksum (now (s .entry)) r ⌝ }
 {
     if s.len() < TURN {
         return checksum_of(s) as usize;
     }
-    with_tables(s) as usize
+    if s.len() < MANY {
+        return with_tables(START, s) as usize;
+    }
+    by_reach(s) as usize
 }
 
 // The checksum of the first n bytes of s; of all of them where n is over their number.

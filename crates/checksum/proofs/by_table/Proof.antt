@@ -3,20 +3,20 @@ use mathlib.Core.Path.{ap, _∙_}
 use Prim.Native.Nat.{ℕ}
 use lib.ListN.{length, drop}
 use borrow.Author.Needs.{needs}
-use Rattle.checksum.specs.Checksum.{start, checksumFrom, checksumOf}
+use Rattle.checksum.specs.Checksum.{checksumFrom}
 use Rattle.checksum.specs.inner.Table.{inTurns}
 use Rattle.checksum.proofs.Walk.{from-take}
 use Rattle.checksum.proofs.by_table.Statement.{statement}
 use Rattle.checksum.proofs.by_table.Tie as tie
 
 returns : tie.Need-returns
-unfolding checksumOf
 returns c =
-    let s = c .before .before .before .before .args .s .now in
+    let a = c .before .before .before .before .args in
+    let s = a .s .now in
     c .rest .ensures
     ∙ c .before .fours .ensures
     ∙ ap (λ (r : ℕ). checksumFrom r (drop (inTurns (length s)) s)) (c .before .before .turns .ensures)
-    ∙ from-take (inTurns (length s)) s start
+    ∙ from-take (inTurns (length s)) s (a .register)
 
 pub by-table-spec : {M : Type 1} → statement M
 by-table-spec = tie.close
