@@ -12,7 +12,7 @@
 enum { STACK = 1 << 20, FILLED = 0xA5, LARGEST = 65535, FIRST_START = 41, FORKS = 600, WORDS = 8192, OUTPUT = 128 };
 
 /* What yard.h allows, in bytes. */
-enum { ON_X1 = 10 << 10, ON_X2 = 20 << 10, ON_PAIR = 22 << 10, ON_ROUTES = 250 << 10 };
+enum { ON_X1 = 14 << 10, ON_X2 = 22 << 10, ON_PAIR = 25 << 10, ON_ROUTES = 250 << 10 };
 
 static unsigned char stack[STACK];
 static ucontext_t caller, called;

@@ -8,7 +8,7 @@
  *   pointer may be null, and the answer is that of any other pointer. Otherwise it points to so many bytes, which no one changes during the
  *   call; an output overlaps no other argument.
  * - No byte outside these is read or written. Nothing is kept between calls and nothing is shared, so that calls may run at the same time.
- *   There is no heap, and every call returns. A call takes at most 10 KB of stack on an X.1, 20 KB on an X.2 and 22 KB on a pair; routes
+ *   There is no heap, and every call returns. A call takes at most 14 KB of stack on an X.1, 22 KB on an X.2 and 25 KB on a pair; routes
  *   take at most 250 KB at limit 512, some 400 bytes for each turnout that a walk enters at the front. tools/stack measures it.
  * - A function other than yard_checksum returns one number, made of the answer's number, its file and its place: take it apart by
  *   YARD_NUMBER, YARD_FILE and YARD_PLACE. Number 0 is accepted or answered. Any other is a refusal, with the byte place that it is about.
