@@ -1,3 +1,4 @@
 pub mod Checks
 pub mod Starts
 pub mod Tracks
+pub mod Passing

@@ -12,6 +12,7 @@ use borrow.Author.Tests.{leb-true, leb-false, not-true, not-false}
 use Rattle.verdict.specs.declared.Judged.{Judged}
 use Rattle.verdict.specs.declared.Judged.the-variants.{Accepted}
 use Rattle.verdict.specs.Facts.{Fact, allTests, judge}
+use Rattle.verdict.specs.Walk.{startsFrom}
 use Rattle.verdict.specs.inner.Accepted.{isAccepted}
 use Rattle.verdict.proofs.Facts.{tests-then, tests-judged}
 use Rattle.verdict.proofs.Orders.{le-or-lt}
@@ -20,20 +21,20 @@ use Rattle.x1_layout.specs.Layout.{firstOf, lastOf}
 use Rattle.x1_verdict.specs.Agreement.{numberAgrees, pointAgrees, pointsOf, trackAgrees}
 use Rattle.x1_verdict.specs.inner.FirstOff.{pointsFrom, LaterOff, FirstOff}
 
-module _ (f : List ℕ) (size e : ℕ) (pos : 0 < size) where
-  -- a point that obeys is passed over, and past the last one there is none
-  point-over : (p : ℕ) → allTests (pointAgrees f size e p) ≡ true → (v : Judged) → judge v (pointsFrom f size e (p + size)) ≡ judge v (pointsFrom f size e p)
-  point-over p t v =
-      ⊎-elim
-      (λ (h : lastOf f e + size ≤ p).
-      judge-stop (λ _. size) (lastOf f e + size) (pointAgrees f size e) v (p + size) (omega arith) ∙ sym (judge-stop (λ _. size) (lastOf f e + size) (pointAgrees f size e) v p h))
-      (λ (h : p < lastOf f e + size).
-      passes-over (λ _. size) (lastOf f e + size) (pointAgrees f size e) (λ x. pos) v p (allTests (pointAgrees f size e p)) h refl (p + size) (ap not t) refl)
-      (le-or-lt (lastOf f e + size) p)
+-- a record that obeys is passed over, and past the end there is none
+pub record-over :
+    (size end : ℕ) (facts : ℕ → List Fact) → 0 < size → (p : ℕ) → allTests (facts p) ≡ true → (v : Judged)
+    → judge v (flatMap facts (startsFrom (λ _. size) end (p + size))) ≡ judge v (flatMap facts (startsFrom (λ _. size) end p))
+record-over size end facts pos p t v =
+    ⊎-elim
+    (λ (h : end ≤ p). judge-stop (λ _. size) end facts v (p + size) (omega arith) ∙ sym (judge-stop (λ _. size) end facts v p h))
+    (λ (h : p < end). passes-over (λ _. size) end facts (λ x. pos) v p (allTests (facts p)) h refl (p + size) (ap not t) refl)
+    (le-or-lt end p)
 
+module _ (f : List ℕ) (size e : ℕ) (pos : 0 < size) where
   -- the points between the first and the last one, from p on: one turn
   pub later-over : (p : ℕ) (t : Bool) → t ≡ allTests (pointAgrees f size e p) → not t ≡ false → (v : Judged) → judge v (pointsFrom f size e (p + size)) ≡ judge v (pointsFrom f size e p)
-  later-over p t i n = point-over p (sym i ∙ not-false t n)
+  later-over p t i n = record-over size (lastOf f e + size) (pointAgrees f size e) pos p (sym i ∙ not-false t n)
 
   -- the four ways out: at the first point, at a later one, at the last one, and past them all
   module _ (first : ℕ) (i : first ≡ firstOf f e) (t : Bool) (j : t ≡ allTests (pointAgrees f size e first)) where

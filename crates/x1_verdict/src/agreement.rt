@@ -143,12 +143,12 @@ fn is_above(v: Judged, f: &[u8], at: u32, before: u32, k: Field, place: usize) -
 
 // The frame of a track, read once for all its points: where the first and the last of them stand, where the track starts, and whether it
 // starts so far inside both ranges that no increment leads out of them.
-struct Frame {
-    first: u16,
-    last: u16,
-    latitude: i64,
-    longitude: i64,
-    roomy: bool,
+pub struct Frame {
+    pub first: u16,
+    pub last: u16,
+    pub latitude: i64,
+    pub longitude: i64,
+    pub roomy: bool,
 }
 
 // An increment has three bytes, and no number of three bytes reaches so far.
@@ -164,7 +164,7 @@ fn is_roomy(f: &[u8], e: u32) -> bool
 }
 
 // The frame of the entry at e.
-fn frame_of(f: &[u8], e: u32) -> Frame
+pub fn frame_of(f: &[u8], e: u32) -> Frame
     ensures { λ r. ⌜ FrameOf (now (f .entry)) e r ⌝ }
 {
     Frame {
@@ -179,7 +179,7 @@ fn frame_of(f: &[u8], e: u32) -> Frame
 // ---- the facts
 
 // The number of the entry at e is above that of the entry before it.
-fn number_obeys(f: &[u8], e: u32) -> bool
+pub fn number_obeys(f: &[u8], e: u32) -> bool
     ensures { λ r. ⌜ r ≡ allTests (numberAgrees (now (f .entry)) e) ⌝ }
 {
     if is_first(e) {
@@ -247,7 +247,7 @@ fn starts_right(v: Judged, f: &[u8], size: u8, first: u16, p: u32) -> Judged
 }
 
 // A point of a track obeys as every one of them has to.
-fn stay_obeys(f: &[u8], e: u32, t: Frame, p: u32) -> bool
+pub fn stay_obeys(f: &[u8], e: u32, t: Frame, p: u32) -> bool
     requires { ⌜ FrameOf (now f) e t ⌝ }
     ensures { λ r. ⌜ r ≡ allTests (stays (now (f .entry)) e p) ⌝ }
 {
@@ -304,7 +304,7 @@ fn ends_right(v: Judged, f: &[u8], e: u32, last: u16, p: u32) -> Judged
 }
 
 // One point of the entry at e obeys.
-fn point_obeys(f: &[u8], size: u8, e: u32, t: Frame, p: u32) -> bool
+pub fn point_obeys(f: &[u8], size: u8, e: u32, t: Frame, p: u32) -> bool
     requires { ⌜ FrameOf (now f) e t ⌝ }
     ensures { λ r. ⌜ r ≡ allTests (pointAgrees (now (f .entry)) size e p) ⌝ }
 {

@@ -20,7 +20,7 @@ use x1_records::ENTRIES;
 use x1_records::Track;
 
 // The fields of every entry: those of the first entry that does not obey are the verdict.
-fn entries_fields(v: Judged, f: &[u8]) -> Judged
+pub fn entries_fields(v: Judged, f: &[u8]) -> Judged
     ensures { λ r. ⌜ r ≡ judge v (flatMap (entryFields (now (f .entry))) (entries (now (f .entry)))) ⌝ }
 {
     let points = points_at(f);

@@ -3,6 +3,7 @@
 // track's entry, p for a point.
 mod agreement;
 mod fields;
+mod pass;
 pub mod verdicts;
 
 pub use agreement::sum_of;

@@ -3,6 +3,7 @@ ghost use mathlib.Core.Path.{_≡_};
 ghost use Rattle.x1_verdict.specs.Facts.{judgedOf, verdictOf};
 use crate::agreement::check_agreement;
 use crate::fields::check_fields;
+use crate::pass::all_obey;
 use envelope::MOST_LENGTH;
 use envelope::check_seal;
 use rules::length_between;
@@ -31,6 +32,9 @@ pub fn first_fault(f: &[u8]) -> Judged
     let Judged::Accepted = laid else {
         return laid;
     };
+    if all_obey(f, Point::SIZE) {
+        return Judged::Accepted;
+    }
     let filled = check_fields(Judged::Accepted, f, Point::SIZE);
     let Judged::Accepted = filled else {
         return filled;

@@ -1,0 +1,164 @@
+-- The pass over the tracks of a file and their points: a point that obeys is passed over, by its fields and as one of its track; and what
+-- the pass has seen of a track, and of the file at its end.
+use Prim.Native.Nat.{ℕ, suc, _+_, _-_, _^_, _≤_, _<_}
+use mathlib.Core.Path.{_≡_, _∙_, refl, sym, ap, subst}
+use mathlib.Core.Bool as bool
+use mathlib.Core.Bool.{Bool, true, cond, _&&_, _||_}
+use mathlib.Core.List.{List, [], _++_, flatMap}
+use mathlib.Core.Logic.{⊎-elim}
+use native.Mathlib.Omega.{arith}
+use lib.Dec.{ltb, leb, eqb}
+use lib.IntN.{natAbs}
+use borrow.Author.Tests.{le-leb, le-ltb}
+use Rattle.octets.specs.Octets.{halfOf, signed, signedAt, Is}
+use Rattle.octets.proofs.Signs.{low-distance, high-distance}
+use Rattle.verdict.specs.declared.Judged.{Judged}
+use Rattle.verdict.specs.declared.Judged.the-variants.{Accepted}
+use Rattle.verdict.specs.Facts.{atMost, either, test, allTests, judge}
+use Rattle.verdict.proofs.Facts.{tested, tests-append}
+use Rattle.verdict.proofs.Orders.{and-true}
+use Rattle.verdict.proofs.Checks.{passes-over, judge-stop}
+use Rattle.rules.specs.Rules.{liesBetween}
+use Rattle.tables.specs.Table.{fieldPlace, valueOf, signedOf}
+use Rattle.x1_records.specs.Places.{entriesAt, entrySize, positionMost, headingMost}
+use Rattle.x1_records.specs.Rows.{position, heading, near}
+use Rattle.x1_layout.specs.Layout.{endOf, pointsAt, firstOf, lastOf, entries}
+use Rattle.x1_fields.specs.Fields.{headerFields, entryFields, pointFields}
+use Rattle.x1_verdict.specs.declared.agreement.Frame.{Frame}
+use Rattle.x1_verdict.specs.Fields.{allPoints}
+use Rattle.x1_verdict.specs.Agreement.{opens, rises, stays, closes, numberAgrees, pointAgrees, trackAgrees, agreementFacts}
+use Rattle.x1_verdict.specs.inner.FirstOff.{pointsFrom, Later, LaterOff}
+use Rattle.x1_verdict.specs.inner.Pass.{fieldsFrom, PointPassed, EdgePassed, FieldsPassed, LaterPassed, TrackPassed, Passing, TracksPassed, AllPassed}
+use Rattle.x1_verdict.proofs.Checks.{later-tested, points-judged}
+use Rattle.x1_verdict.proofs.Tracks.{record-over, later-over, off-none, track-tested}
+
+-- ---- one point
+
+-- the least heading as a number without sign: it has two bytes
+abbrev headingLeast : ℕ
+headingLeast = 256 ^ 2 - headingMost
+
+-- from it on, and up to the limit, a heading is at most so far from 0
+heading-small : (f : List ℕ) (p k : ℕ) → Is 2 f (fieldPlace p heading) k → (leb k headingMost || leb (headingLeast) k) ≡ true → natAbs (signedOf f p heading) ≤ headingMost
+unfolding signedAt
+heading-small f p k a h =
+    let is : natAbs (signed (halfOf 2) k) ≡ natAbs (signedOf f p heading) = ap (λ (n : ℕ). natAbs (signed (halfOf 2) n)) (a .is) in
+    ⊎-elim
+    (λ (g : k ≤ headingMost). omega (arith, is, low-distance (halfOf 2) k (omega arith)))
+    (λ (g : headingLeast ≤ k). omega (arith, is, high-distance (halfOf 2) k (omega arith) (omega (arith, a .below))))
+    ((tested (either (atMost k headingMost) (atMost (headingLeast) k))) .0 h)
+
+module _ (f : List ℕ) (size e p : ℕ) where
+  pub edge-passed : (x y : Bool) → x ≡ allTests (pointFields f p) → y ≡ allTests (pointAgrees f size e p) → (x && y) ≡ true → EdgePassed f size e p
+  edge-passed x y i j h =
+      let both = and-true x y h in
+      record { fields = sym i ∙ both .0; agrees = sym j ∙ both .1 }
+
+  -- neither the first nor the last one: n is its position, m that of the point before it
+  pub later-passed :
+      (t : Frame) → Later f size e t p → (m n : ℕ) → m ≡ valueOf f (p - size) position → n ≡ valueOf f p position
+      → (k : ℕ) → Is 2 f (fieldPlace p heading) k → (y z : Bool) → y ≡ test (liesBetween 0 1 (valueOf f p near)) → z ≡ allTests (stays f e p)
+      → (ltb m n && ((leb k headingMost || leb (headingLeast) k) && (y && z))) ≡ true → PointPassed f size e p
+  later-passed t l m n i j k a y z b d h =
+      let x = leb k headingMost || leb (headingLeast) k in
+      let rises = and-true (ltb m n) (x && (y && z)) h in
+      let headed = and-true x (y && z) (rises .1) in
+      let nearby = and-true y z (headed .1) in
+      record {
+        fields = λ g. simp (bool.and-true, le-leb 0 (valueOf f p position) (omega arith), le-leb (valueOf f p position) positionMost g, le-leb _ _ (heading-small f p k a (headed .0)), sym b ∙ nearby .0);
+        agrees =
+            sym (later-tested f size (ltb m n) z e (t .first) (t .last) p (l .frame .first) (l .frame .last) (l .after) (l .before) (simp (bool.and-true, i, j)) d)
+            ∙ simp (rises .0, nearby .1);
+      }
+
+  -- what the tests of a point say of its position: it is not above the limit, and above that of the point before it
+  position-small : allTests (pointFields f p) ≡ true → valueOf f p position ≤ positionMost
+  position-small h =
+      let n = valueOf f p position in
+      (tested (liesBetween 0 positionMost n)) .0 (and-true (test (liesBetween 0 positionMost n)) _ h .0) .1
+
+  position-rises : firstOf f e + size ≤ p → allTests (pointAgrees f size e p) ≡ true → valueOf f (p - size) position < valueOf f p position
+  position-rises l h =
+      let rest = stays f e p ++ cond (eqb p (lastOf f e)) (closes f e p) [] in
+      let both = sym (tests-append (rises f size p) rest) ∙ subst (λ (t : Bool). allTests (cond t (opens f size p) (rises f size p) ++ rest) ≡ true) (le-ltb p (firstOf f e + size) l) h in
+      let c = atMost (suc (valueOf f (p - size) position)) (valueOf f p position) in
+      (tested c) .0 (and-true (test c) true (and-true (allTests (rises f size p)) (allTests rest) both .0) .0)
+
+-- a point that obeys by its fields is passed over
+fields-over : (f : List ℕ) (size p from : ℕ) → 0 < size → allTests (pointFields f p) ≡ true → FieldsPassed f size from p → FieldsPassed f size from (p + size)
+fields-over f size p from pos t passed = record { so = record-over size (endOf f) (pointFields f) pos p t Accepted ∙ passed .so }
+
+-- ---- the points of a track
+
+pub later-start : (f : List ℕ) (size e first : ℕ) → first ≡ firstOf f e → first + size < 2 ^ 17 → LaterPassed f size e (first + size)
+later-start f size e first i small = record {
+  fields = λ _. record { so = ap (λ (n : ℕ). judge Accepted (fieldsFrom f size (n + size))) i };
+  agrees = λ v. ap (λ (n : ℕ). judge v (pointsFrom f size e (n + size))) i;
+  after = omega arith;
+  small = small;
+}
+
+pub later-step : (f : List ℕ) (size e p : ℕ) → 0 < size → p + size < 2 ^ 17 → PointPassed f size e p → LaterPassed f size e p → LaterPassed f size e (p + size)
+later-step f size e p pos small point later =
+    let back : p + size - size ≡ p = omega arith in
+    let rises = position-rises f size e p (later .after) (point .agrees) in
+    record {
+      fields = λ h.
+          let here : valueOf f p position ≤ positionMost = subst (λ (n : ℕ). valueOf f n position ≤ positionMost) back h in
+          fields-over f size p (firstOf f e + size) pos (point .fields here) (later .fields (omega (arith, rises, here)));
+      agrees = λ v. later-over f size e pos p true (sym (point .agrees)) refl v ∙ later .agrees v;
+      after = omega (arith, later .after);
+      small = small;
+    }
+
+-- the number of a track agrees, its points stand where they are due, and the first one, those after it and the last one have passed
+module _ (f : List ℕ) (size e : ℕ) (pos : 0 < size) (p : ℕ) (later : LaterPassed f size e p) (after : lastOf f e ≤ p) where
+  off : LaterOff f size e p
+  off = record { before = later .agrees; here = λ h. absurd (omega arith); small = later .small }
+
+  pub track-passed :
+      (due first : ℕ) → first ≡ firstOf f e → first ≡ due → (n : Bool) → n ≡ allTests (numberAgrees f e) → n ≡ true
+      → EdgePassed f size e first → EdgePassed f size e p → TrackPassed f size e due (p + size)
+  track-passed due first i d n j number opens closes =
+      let none = off-none f size e pos first i true (sym (opens .agrees)) refl p off true (sym (closes .agrees)) after refl in
+      let small = position-small f size e p (closes .fields) in
+      let rises = position-rises f size e p (later .after) (closes .agrees) in
+      record {
+        fields = record {
+          so =
+              record-over size (endOf f) (pointFields f) pos p (closes .fields) Accepted
+              ∙ later .fields (omega (arith, small, rises)) .so
+              ∙ ap (λ (n : ℕ). judge Accepted (fieldsFrom f size (n + size))) (sym i)
+              ∙ record-over size (endOf f) (pointFields f) pos first (opens .fields) Accepted
+              ∙ ap (λ (n : ℕ). judge Accepted (fieldsFrom f size n)) d;
+        };
+        agrees =
+            sym (track-tested f size e (p + size) pos none n true j (sym (le-leb (lastOf f e + size) (p + size) (omega arith)))) ∙ simp number;
+      }
+
+-- ---- all tracks
+
+pub passing-start : (f : List ℕ) (size : ℕ) → Passing f size entriesAt (pointsAt f)
+unfolding agreementFacts entries
+passing-start f size = record { fields = record { so = refl }; agrees = refl }
+
+pub passing-over :
+    (f : List ℕ) (size e due next : ℕ) → e < pointsAt f → Passing f size e due → TrackPassed f size e due next → Passing f size (e + entrySize) next
+passing-over f size e due next h passing track = record {
+  fields = record { so = track .fields .so ∙ passing .fields .so };
+  agrees = passes-over (λ _. entrySize) (pointsAt f) (trackAgrees f size) (λ x. omega arith) Accepted e true h (sym (track .agrees)) (e + entrySize) refl refl ∙ passing .agrees;
+}
+
+pub passing-all : (f : List ℕ) (size e due : ℕ) → pointsAt f ≤ e → endOf f ≤ due → Passing f size e due → TracksPassed f size
+unfolding allPoints
+passing-all f size e due h g passing = record {
+  fields = sym (judge-stop (λ _. size) (endOf f) (pointFields f) Accepted due g) ∙ passing .fields .so;
+  agrees = sym (judge-stop (λ _. entrySize) (pointsAt f) (trackAgrees f size) Accepted e h) ∙ passing .agrees;
+}
+
+-- ---- the fields of the header and of the entries too: x and y are the verdicts on them
+
+pub all-passed :
+    (f : List ℕ) (size : ℕ) (x y : Judged) → x ≡ judge Accepted (headerFields f) → x ≡ Accepted → y ≡ judge Accepted (flatMap (entryFields f) (entries f)) → y ≡ Accepted
+    → TracksPassed f size → AllPassed f size
+all-passed f size x y i h j g tracks = record { fields = points-judged f size Accepted x i h y j g Accepted (tracks .fields); agrees = tracks .agrees }

@@ -1,0 +1,136 @@
+// One pass over the tracks of a file and their points: whether each point obeys by its fields and agrees, so that an accepted file is read
+// once. Where it stops, nothing is said, and the checks go in turn. The points of a track are due where those of the track before it end,
+// so that together they are all points.
+ghost use mathlib.Core.Path.{_≡_};
+ghost use mathlib.Core.Bool.{true};
+ghost use Prim.Native.Nat.{_-_, _^_, _<_};
+ghost use Rattle.tables.specs.Table.{valueOf};
+ghost use Rattle.x1_records.specs.Rows.{position};
+ghost use Rattle.x1_verdict.specs.Agreement.{FrameOf};
+ghost use Rattle.x1_verdict.specs.inner.FirstOff.{Later};
+ghost use Rattle.x1_verdict.specs.inner.Pass.{PointPassed, EdgePassed, LaterPassed, TrackPassed, TracksPassed, AllPassed};
+use crate::agreement::Frame;
+use crate::agreement::frame_of;
+use crate::agreement::number_obeys;
+use crate::agreement::point_obeys;
+use crate::agreement::stay_obeys;
+use crate::fields::entries_fields;
+use envelope::end_of;
+use tables::lies_between;
+use tables::number_of;
+use verdict::Judged;
+use x1_fields::header_fields;
+use x1_layout::points_at;
+use x1_records::ENTRIES;
+use x1_records::HEADING_MOST;
+use x1_records::Point;
+use x1_records::Track;
+
+// The least heading as a number without sign: it has two bytes, and a negative one counts down from 256 times 256.
+const HEADING_LEAST: usize = 0x1_0000 - HEADING_MOST;
+
+// How far the pass came over the points of a track: whether each of them obeys and agrees, and where the next one is due.
+struct Passed {
+    obeys: bool,
+    next: u32,
+}
+
+// The point at p, the first or the last one of the entry at e, obeys by its fields and agrees.
+fn edge_passes(f: &[u8], size: u8, e: u32, t: Frame, p: u32) -> bool
+    requires { ⌜ FrameOf (now f) e t ⌝ }
+    ensures { λ r. ⌜ (r ≡ true → EdgePassed (now (f .entry)) size e p) ⌝ }
+{
+    let fields = x1_fields::point_obeys(f, p);
+    let agrees = point_obeys(f, size, e, t, p);
+    fields & agrees
+}
+
+// The point at p, neither the first nor the last one of the entry at e, agrees and obeys by its fields, but for the limit of its position:
+// positions rise, and the last one is tested. The point's own position and that of the point before it have been read.
+fn later_passes(f: &[u8], size: u8, e: u32, t: Frame, before: usize, here: usize, p: u32) -> bool
+    requires { ⌜ Later (now f) size e t p × (before ≡ valueOf (now f) (p - size) position) × (here ≡ valueOf (now f) p position) ⌝ }
+    ensures { λ r. ⌜ (r ≡ true → PointPassed (now (f .entry)) size e p) ⌝ }
+{
+    let rises = before < here;
+    let heading = number_of(f, p, Point::HEADING);
+    let heads = (heading <= HEADING_MOST) | (HEADING_LEAST <= heading);
+    let near = lies_between(f, p, Point::NEAR, 0, 1);
+    let stays = stay_obeys(f, e, t, p);
+    rises & (heads & (near & stays))
+}
+
+// How far the pass comes over the points of the entry at e after its first one and before its last. It stops where one does not pass, or
+// where the file ends inside it.
+fn later_pass(f: &[u8], size: u8, e: u32, t: Frame) -> u32
+    requires { ⌜ FrameOf (now f) e t × (0 < size) ⌝ }
+    ensures { λ r. ⌜ LaterPassed (now (f .entry)) size e r ⌝ }
+{
+    let step = size as u32;
+    let last = t.last as u32;
+    let mut before = number_of(f, t.first as u32, Point::POSITION);
+    let mut p = t.first as u32 + step;
+    while p < last {
+        if f.len() < p as usize + Point::SIZE as usize {
+            return p;
+        }
+        let here = number_of(f, p, Point::POSITION);
+        if !later_passes(f, size, e, t, before, here, p) {
+            return p;
+        }
+        before = here;
+        p = p + step;
+    }
+    p
+}
+
+// The track of the entry at e, whose points are due at a place: its number agrees, its points stand there, and each obeys and agrees.
+fn track_passes(f: &[u8], size: u8, e: u32, due: u32) -> Passed
+    requires { ⌜ 0 < size ⌝ }
+    ensures { λ r. ⌜ (r .obeys ≡ true → TrackPassed (now (f .entry)) size e due (r .next)) ⌝ }
+    ensures { λ r. ⌜ r .next < 2 ^ 18 ⌝ }
+{
+    let t = frame_of(f, e);
+    let first = t.first as u32;
+    let number = number_obeys(f, e);
+    let opens = edge_passes(f, size, e, t, first);
+    let last = later_pass(f, size, e, t);
+    let closes = edge_passes(f, size, e, t, last);
+    let reached = t.last as u32 <= last;
+    Passed {
+        obeys: (first == due) & (number & (opens & (reached & closes))),
+        next: last + size as u32,
+    }
+}
+
+// Every track agrees, and all points obey: those of one track after those of the other reach End.
+fn tracks_pass(f: &[u8], size: u8) -> bool
+    requires { ⌜ 0 < size ⌝ }
+    ensures { λ r. ⌜ (r ≡ true → TracksPassed (now (f .entry)) size) ⌝ }
+{
+    let points = points_at(f);
+    let mut due = points;
+    let mut e = ENTRIES;
+    while e < points {
+        let track = track_passes(f, size, e, due);
+        if !track.obeys {
+            return false;
+        }
+        due = track.next;
+        e = e + Track::SIZE as u32;
+    }
+    end_of(f) <= due as usize
+}
+
+// Whether all fields obey and every track agrees: the fields of the header and of the entries, which are few, then the pass.
+pub fn all_obey(f: &[u8], size: u8) -> bool
+    requires { ⌜ 0 < size ⌝ }
+    ensures { λ r. ⌜ (r ≡ true → AllPassed (now (f .entry)) size) ⌝ }
+{
+    let Judged::Accepted = header_fields(Judged::Accepted, f) else {
+        return false;
+    };
+    let Judged::Accepted = entries_fields(Judged::Accepted, f) else {
+        return false;
+    };
+    tracks_pass(f, size)
+}
