@@ -278,7 +278,7 @@ fn joint_fields(v: Judged, f: &[u8], at: u32) -> Judged
     between(w, f, at, Joint::TRACK, 1, 255)
 }
 
-// Table 12: a siding, whose two exit signal names may be all zero.
+// Table 12: a siding, whose two exit signal names may be empty.
 fn siding_obeys(f: &[u8], at: u32) -> bool
     ensures { λ r. ⌜ r ≡ allTests (tableFacts (now (f .entry)) at sidingTable) ⌝ }
 {
