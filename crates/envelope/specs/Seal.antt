@@ -4,10 +4,11 @@ use Prim.Native.Nat.{ℕ, _-_}
 use mathlib.Core.List.{List, [], _∷_}
 use lib.ListN.{length, take}
 use Rattle.checksum.specs.Checksum.{checksumOf}
+use Rattle.octets.specs.Octets.{numAt}
 use Rattle.octets.specs.declared.Width.the-variants.{One, Two, Four}
 use Rattle.verdict.specs.Facts.{Fact}
 use Rattle.verdict.specs.declared.Reason.the-variants as reason
-use Rattle.rules.specs.Rules.{isNumber}
+use Rattle.rules.specs.Rules.{isNumber, between}
 
 -- a file is at most 65,535 bytes
 -- 01: File.1
@@ -40,10 +41,15 @@ stationAt = 5
 abbrev pub numberMost : ℕ
 numberMost = 65535
 
--- the checksum covers all before it; the file type is the one that is due; the structure version is 1
-abbrev pub sealFacts : List ℕ → ℕ → List Fact
-sealFacts f type =
+-- a file's structure version
+abbrev pub structureOf : List ℕ → ℕ
+structureOf f = numAt 2 f structureAt
+
+-- the checksum covers all before it; the file type is the one that is due; the structure version is one of 1 to the newest that the
+-- reader knows
+abbrev pub sealFacts : List ℕ → ℕ → ℕ → List Fact
+sealFacts f type newest =
     isNumber reason.Checksum f 0 (endOf f) Four (checksumOf (take (endOf f) f))
     ∷ isNumber reason.FileType f 0 typeAt One type
-    ∷ isNumber reason.Structure f 0 structureAt Two 1
+    ∷ between reason.Structure f 0 structureAt Two 1 newest
     ∷ []

@@ -2,11 +2,12 @@
 // of the header, and the checks of the checksum, the file type and the structure version, 2 to 4 in 01's table.
 ghost use mathlib.Core.Path.{_≡_};
 ghost use Rattle.verdict.specs.Facts.{judge};
-ghost use Rattle.envelope.specs.Seal.{endOf, sealFacts};
+ghost use Rattle.envelope.specs.Seal.{endOf, structureOf, sealFacts};
 ghost use Rattle.envelope.specs.Header.{headerIn};
 use octets::Width;
 use rules::is_number;
 use tables::Field;
+use tables::number_between;
 use tables::number_is;
 use tables::number_of;
 use verdict::Judged;
@@ -29,8 +30,8 @@ pub const HEADER: u32 = 0;
 
 pub const NUMBER_MOST: usize = 65535;
 
-// The structure version that is read.
-pub const STRUCTURE_DUE: usize = 1;
+// The first structure version of either file.
+const FIRST_STRUCTURE: usize = 1;
 
 // The bytes of the checksum, which stands after End.
 pub const CHECKSUM_SIZE: usize = 4;
@@ -48,7 +49,7 @@ impl Header {
         ensures { λ r. ⌜ r ≡ headerIn (now (f .entry)) ⌝ }
     {
         Header {
-            structure: number_of(f, HEADER, STRUCTURE),
+            structure: structure_of(f),
             data: number_of(f, HEADER, DATA),
             station: number_of(f, HEADER, STATION),
         }
@@ -65,13 +66,28 @@ pub fn end_of(f: &[u8]) -> usize
     f.len() - CHECKSUM_SIZE
 }
 
-// The verdict so far, then the checksum, the file type and the structure version.
-pub fn check_seal(v: Judged, f: &[u8], kind: usize) -> Judged
-    ensures { λ r. ⌜ r ≡ judge v (sealFacts (now (f .entry)) kind) ⌝ }
+// A file's structure version.
+pub fn structure_of(f: &[u8]) -> usize
+    ensures { λ r. ⌜ r ≡ structureOf (now (f .entry)) ⌝ }
+{
+    number_of(f, HEADER, STRUCTURE)
+}
+
+// The verdict so far, then the checksum, the file type and the structure version, which is one of those up to the newest that is known.
+pub fn check_seal(v: Judged, f: &[u8], kind: usize, newest: usize) -> Judged
+    ensures { λ r. ⌜ r ≡ judge v (sealFacts (now (f .entry)) kind newest) ⌝ }
 {
     let end = end_of(f);
     let sum = checksum::of_first(f, end);
     let mut w = is_number(v, f, Reason::Checksum, 0, end, Width::Four, sum);
     w = number_is(w, f, Reason::FileType, HEADER, TYPE, kind);
-    number_is(w, f, Reason::Structure, HEADER, STRUCTURE, STRUCTURE_DUE)
+    number_between(
+        w,
+        f,
+        Reason::Structure,
+        HEADER,
+        STRUCTURE,
+        FIRST_STRUCTURE,
+        newest,
+    )
 }

@@ -9,9 +9,13 @@ use Rattle.verdict.specs.Walk.{startsFrom}
 use Rattle.verdict.specs.declared.Reason.the-variants as reason
 use Rattle.rules.specs.Rules.{isNumber, between, fits, whole, endsAt}
 use Rattle.tables.specs.Table.{fieldPlace, valueOf}
-pub use Rattle.envelope.specs.Seal.{endOf}
-use Rattle.x1_records.specs.Places.{entriesAt, entrySize}
+pub use Rattle.envelope.specs.Seal.{endOf, structureOf}
+use Rattle.x1_records.specs.Places.{entriesAt, entrySize, pointSize}
 use Rattle.x1_records.specs.Rows as rows
+
+-- the size of a file's points: that of its structure version
+abbrev pub sizeOf : List ℕ → ℕ
+sizeOf f = pointSize (structureOf f)
 
 -- the track count n
 abbrev pub countOf : List ℕ → ℕ

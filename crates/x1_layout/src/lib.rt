@@ -6,9 +6,10 @@ ghost use Rattle.octets.specs.Octets.{bytesOf};
 ghost use Rattle.verdict.specs.Facts.{allTests, judge};
 ghost use Rattle.rules.specs.Rules.{fits};
 ghost use Rattle.x1_records.specs.Places.{entrySize};
-ghost use Rattle.x1_layout.specs.Layout.{pointsAt, pointsMost, isFirst, stopBefore, dueAt, spread, entryLayout, entries, layoutFacts};
+ghost use Rattle.x1_layout.specs.Layout.{sizeOf, pointsAt, pointsMost, isFirst, stopBefore, dueAt, spread, entryLayout, entries, layoutFacts};
 use envelope::HEADER;
 use envelope::end_of;
+use envelope::structure_of;
 use octets::less;
 use rules::ends_at;
 use rules::fits;
@@ -24,6 +25,14 @@ use verdict::Reason;
 use x1_records::COUNT;
 use x1_records::ENTRIES;
 use x1_records::Track;
+use x1_records::point_size;
+
+// The size of a file's points.
+pub fn size_of(f: &[u8]) -> u8
+    ensures { λ r. ⌜ r ≡ sizeOf (now (f .entry)) ⌝ }
+{
+    point_size(structure_of(f))
+}
 
 // Where the entries end and the points start.
 pub fn points_at(f: &[u8]) -> u32

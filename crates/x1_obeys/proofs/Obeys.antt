@@ -2,32 +2,35 @@
 -- speak of the starts of a walk; `fixed-iff` turns a start into a count of sizes, so that each fact is read at track i or at point j.
 use Prim.Native.Nat.{ℕ, suc, zero, _+_, _-_, _*_, _/_, _%_, _≤_, _<_}
 use mathlib.Core.Path.{_≡_, refl, sym, ap, subst, _∙_}
-use mathlib.Core.Bool.{cond}
+use mathlib.Core.Bool.{Bool, true, false, cond}
 use mathlib.Core.Logic.{_↔_}
-use mathlib.Core.List.{List, [], _++_, flatMap, List·Memᴰ}
+use mathlib.Core.List.{List, [], _∷_, _++_, flatMap, List·Memᴰ}
+use lib.ListN.{length}
 use lib.Dec.{ltb, eqb}
 use lib.IntN.{ℤ, pos, negsuc, natAbs, _+ℤ_, _-ℤ_, -ℤ-+ℤ-cancel, +ℤ-idl, +ℤ-invr}
 use native.Mathlib.Nat.{mul-zero, mul-suc, div-add-mod, mul-mod-right, mul-le-mul-left, lt-of-mul-lt-mul-left}
 use native.Mathlib.Omega.{arith}
-use borrow.Author.Tests.{lt-ltb, le-ltb, eq-eqb, ne-eqb}
+use borrow.Author.Tests.{lt-ltb, le-ltb, ltb-true, ltb-false, eq-eqb, ne-eqb}
 use native.Mathlib.Decide.{ℕ-discrete}
 use Rattle.octets.specs.Octets.{numAt}
-use Rattle.envelope.specs.Seal.{sealFacts}
+use Rattle.envelope.specs.Seal.{mostLength, sealFacts}
 use Rattle.verdict.specs.Facts.{Fact, AllHold}
 use Rattle.verdict.specs.declared.Judged.the-variants.{Accepted}
 use Rattle.verdict.proofs.Facts.{accepted-iff, all-append, all-each}
 use Rattle.verdict.proofs.Steps.{fixed-iff}
+use Rattle.rules.specs.Rules.{lengthBetween}
 use Rattle.tables.specs.Table.{fieldPlace, valueOf, signedOf}
 use Rattle.tables.specs.Rows.{TableObeys}
 use Rattle.tables.proofs.Rows.{table-iff}
 use Rattle.x1_records.specs.Places as place
 use Rattle.x1_records.specs.Rows as rows
+use Rattle.x1_records.proofs.Whole.{size-positive}
 use Rattle.x1_layout.specs.Layout.{endOf, countOf, pointsAt, entries, firstOf, lastOf, stopBefore, dueAt, entryLayout, countLayout, stopLayout, layoutFacts}
 use Rattle.x1_fields.specs.Fields.{headerFields, entryFields, pointFields}
 use Rattle.x1_verdict.specs.Fields.{allPoints, fieldFacts}
 use Rattle.x1_verdict.specs.Agreement.{sumOf, numberAgrees, opens, rises, stays, closes, pointAgrees, pointsOf, trackAgrees, agreementFacts}
-use Rattle.x1_verdict.specs.Facts.{fileType, checkFacts, facts, judgedOf}
-use Rattle.x1_obeys.specs.Obeys.{entryPlace, pointPlace, LayoutObeys, EntryObeys, PointObeys, FieldsObey, TrackAgrees, AgreementObeys, Obeys}
+use Rattle.x1_verdict.specs.Facts.{fileType, sizedFacts, factsBy, judgedBy, judgedOf}
+use Rattle.x1_obeys.specs.Obeys.{Between, structureOf, sizeOf, entryPlace, pointPlace, LayoutObeys, EntryObeys, PointObeys, FieldsObey, TrackAgrees, AgreementObeys, ObeysBy, Obeys}
 
 -- ---- two signed numbers that are 0 apart
 
@@ -361,21 +364,34 @@ module _ (f : List ℕ) (size : ℕ) (positive : 0 < size) (laid : LayoutObeys f
 
 -- ---- the file
 
--- THEOREM (demand 2): an X.1 file is accepted exactly where it obeys.
-pub accepted-obeys : (f : List ℕ) → (judgedOf f ≡ Accepted) ↔ Obeys f
-unfolding facts checkFacts AllHold
-accepted-obeys f =
-    let size = place.pointSize in
-    let all = accepted-iff (facts f) in
-    let sealed = all-append (sealFacts f fileType) (layoutFacts f size ++ (fieldFacts f size ++ agreementFacts f size)) in
+-- the least length in the file's own structure version, of a file that has the least length in any and not more than the most
+least-iff : (f : List ℕ) → Between place.leastLength mostLength (length f)
+    → Between (place.leastLengthIn (structureOf f)) mostLength (length f) ↔ (2 ≤ structureOf f → 72 ≤ length f)
+unfolding place.leastLengthIn
+least-iff f b = go (ltb (structureOf f) place.heightsFrom) refl
+  where
+    go : (t : Bool) → ltb (structureOf f) place.heightsFrom ≡ t
+        → Between (cond t place.leastLength 72) mostLength (length f) ↔ (2 ≤ structureOf f → 72 ≤ length f)
+    go true e = (λ h k. let l = ltb-true (structureOf f) place.heightsFrom e in absurd (omega arith), λ h. b)
+    go false e = (λ h k. h .0, λ h. (h (ltb-false (structureOf f) place.heightsFrom e), b .1))
+
+-- THEOREM (demand 2): an X.1 file is accepted exactly where it obeys, by a reader that knows the structure versions up to the newest.
+pub accepted-obeys-by : (newest : ℕ) (f : List ℕ) → (judgedBy newest f ≡ Accepted) ↔ ObeysBy newest f
+unfolding factsBy sizedFacts AllHold
+accepted-obeys-by newest f =
+    let size = sizeOf f in
+    let positive = size-positive (structureOf f) in
+    let all = accepted-iff (factsBy newest f) in
+    let least-fact = lengthBetween f (place.leastLengthIn (structureOf f)) mostLength in
+    let sealed = all-append (sealFacts f fileType newest) (least-fact ∷ sizedFacts f size) in
     let laid = all-append (layoutFacts f size) (fieldFacts f size ++ agreementFacts f size) in
     let filled = all-append (fieldFacts f size) (agreementFacts f size) in
-    let lay = layout-iff f size (omega arith) in
-    let fill = fields-iff f size (omega arith) in (
+    let lay = layout-iff f size positive in
+    let fill = fields-iff f size positive in (
       λ e.
           let h = all .0 e in
           let s = sealed .0 (h .1) in
-          let l = laid .0 (s .1) in
+          let l = laid .0 (s .1 .1) in
           let d = filled .0 (l .1) in
           record {
             least = h .0 .0;
@@ -383,15 +399,23 @@ accepted-obeys f =
             checksum = s .0 .0;
             file-type = s .0 .1 .0;
             structure-version = s .0 .1 .1 .0;
+            least-with-heights = (least-iff f (h .0)) .0 (s .1 .0);
             layout = lay .0 (l .0);
             fields = fill .0 (d .0);
-            agreement = (agreement-iff f size (omega arith) (lay .0 (l .0))) .0 (d .1);
+            agreement = (agreement-iff f size positive (lay .0 (l .0))) .0 (d .1);
           },
       λ o. all .1 (
         (o .least, o .most),
         sealed .1 (
           (o .checksum, (o .file-type, (o .structure-version, tt))),
-          laid .1 (lay .1 (o .layout), filled .1 (fill .1 (o .fields), (agreement-iff f size (omega arith) (o .layout)) .1 (o .agreement))),
+          (
+            (least-iff f (o .least, o .most)) .1 (o .least-with-heights),
+            laid .1 (lay .1 (o .layout), filled .1 (fill .1 (o .fields), (agreement-iff f size positive (o .layout)) .1 (o .agreement))),
+          ),
         ),
       ),
     )
+
+-- THEOREM (demand 2): an X.1 file is accepted exactly where it obeys.
+pub accepted-obeys : (f : List ℕ) → (judgedOf f ≡ Accepted) ↔ Obeys f
+accepted-obeys = accepted-obeys-by 2

@@ -1,5 +1,6 @@
 -- What an X.1 file is that obeys the standard as 01 reads it: header, layout, fields and agreement, as plain facts in 01's words and
--- order, with no search and no test. Tracks are counted by i from 0, the points of a track by j from 0; `size` is the size of a point.
+-- order, with no search and no test. Tracks are counted by i from 0, the points of a track by j from 0; `size` is the size of a point, which
+-- the file's structure version gives (02, ticket 11).
 use Prim.Native.Nat.{ℕ, suc, _+_, _*_, _≤_, _<_}
 use mathlib.Core.Path.{_≡_}
 use mathlib.Core.List.{List}
@@ -8,8 +9,9 @@ use lib.IntN.{ℤ, natAbs, _+ℤ_}
 use Rattle.octets.specs.Octets.{numAt, signedAt}
 use Rattle.checksum.specs.Checksum.{checksumOf}
 pub use Rattle.rules.specs.Rules.{Between}
-use Rattle.envelope.specs.Seal.{mostLength, typeAt, structureAt}
+use Rattle.envelope.specs.Seal.{mostLength, typeAt}
 use Rattle.x1_records.specs.Places as place
+pub use Rattle.x1_layout.specs.Layout.{structureOf, sizeOf}
 use Rattle.x1_layout.specs.Layout.{endOf, countOf, pointsAt, firstOf, lastOf}
 
 -- z lies within plus or minus a limit
@@ -124,9 +126,10 @@ pub record AgreementObeys (f : List ℕ) (size : ℕ) : Type 0 where
 
 -- ---- the file
 
-pub record Obeys (f : List ℕ) : Type 0 where
+-- The file obeys, as a reader takes it that knows the structure versions up to the newest.
+pub record ObeysBy (newest : ℕ) (f : List ℕ) : Type 0 where
   -- 01: No.1
-  pub least : place.leastLength ≤ length f
+  pub least : 68 ≤ length f
   -- 01: File.1, No.1
   pub most : length f ≤ mostLength
   -- 01: Sum.7
@@ -134,7 +137,13 @@ pub record Obeys (f : List ℕ) : Type 0 where
   -- 01: X1.header.1
   pub file-type : numAt 1 f typeAt ≡ 1
   -- 01: X1.fields.1
-  pub structure-version : numAt 2 f structureAt ≡ 1
-  pub layout : LayoutObeys f place.pointSize
-  pub fields : FieldsObey f place.pointSize
-  pub agreement : AgreementObeys f place.pointSize
+  pub structure-version : Between 1 newest (structureOf f)
+  -- a file with heights has at least 72 bytes
+  pub least-with-heights : 2 ≤ structureOf f → 72 ≤ length f
+  pub layout : LayoutObeys f (sizeOf f)
+  pub fields : FieldsObey f (sizeOf f)
+  pub agreement : AgreementObeys f (sizeOf f)
+
+-- As users take it: the versions 1 and 2 are known.
+abbrev pub Obeys : List ℕ → Type 0
+Obeys = ObeysBy 2

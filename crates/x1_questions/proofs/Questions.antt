@@ -13,11 +13,11 @@ use Rattle.verdict.proofs.Questions.{fault-is, no-fault}
 use Rattle.envelope.specs.declared.Header.{Header}
 use Rattle.envelope.specs.Header.{headerIn}
 use Rattle.envelope.specs.Seal.{mostLength}
-use Rattle.x1_records.specs.Places as place
+use Rattle.x1_records.proofs.Whole.{size-positive}
 use Rattle.x1_records.specs.Tracks.{trackAt, pointAt, pointsIn}
 use Rattle.x1_records.specs.declared.Track.{Track}
 use Rattle.x1_records.specs.declared.Point.{Point}
-use Rattle.x1_layout.specs.Layout.{countOf, firstOf, lastOf}
+use Rattle.x1_layout.specs.Layout.{structureOf, sizeOf, countOf, firstOf, lastOf}
 use Rattle.x1_verdict.specs.Facts.{verdictOf}
 use Rattle.x1_obeys.specs.Obeys.{entryPlace, pointPlace}
 use Rattle.x1_lookup.specs.Lookup.{findTrack}
@@ -53,17 +53,17 @@ pub header-there : (f : List ℕ) {v : Verdict} → v ≡ verdictOf f → v ≡ 
 unfolding headerOf
 header-there f e g q = ap header.Header q ∙ sym (no-fault header.Refused (verdictOf f) (header.Header (headerIn f)) (sym e ∙ g))
 
--- ---- track i: v is the verdict as it was found, n the count of tracks, at the entry's place, r what was read there
+-- ---- track i: v is the verdict as it was found, n the count of tracks, at the entry's place, size that of a point, r what was read there
 
 module _ (f : List ℕ) {v : Verdict} (e : v ≡ verdictOf f) (g : v ≡ verdict.Accepted) {n : ℕ} (c : n ≡ countOf f) (i : ℕ) where
   pub track-none : n ≤ i → {t : Fault} → t ≡ refusal reason.Question → track.Refused t ≡ trackOf f i
   unfolding trackOf
   track-none h q = ap track.Refused q ∙ sym (no-fault track.Refused (verdictOf f) (trackIn f i) (sym e ∙ g) ∙ rw (le-ltb i (countOf f) (omega arith)))
 
-  pub track-there : i < n → {at : ℕ} {r : Track} → at ≡ entryPlace i → r ≡ trackAt f at → track.Track r ≡ trackOf f i
+  pub track-there : i < n → {at size : ℕ} {r : Track} → at ≡ entryPlace i → size ≡ sizeOf f → r ≡ trackAt f size at → track.Track r ≡ trackOf f i
   unfolding trackOf
-  track-there h p q =
-      ap track.Track (q ∙ ap (trackAt f) p) ∙ sym (no-fault track.Refused (verdictOf f) (trackIn f i) (sym e ∙ g) ∙ rw (lt-ltb i (countOf f) (omega arith)))
+  track-there h {at} p z q =
+      ap track.Track (q ∙ ap (λ (s : ℕ). trackAt f s at) z ∙ ap (trackAt f (sizeOf f)) p) ∙ sym (no-fault track.Refused (verdictOf f) (trackIn f i) (sym e ∙ g) ∙ rw (lt-ltb i (countOf f) (omega arith)))
 
   -- ---- point j of track i: m is the count of its points
 
@@ -72,42 +72,46 @@ module _ (f : List ℕ) {v : Verdict} (e : v ≡ verdictOf f) (g : v ≡ verdict
     unfolding pointOf
     point-no-track h q = ap point.Refused q ∙ sym (no-fault point.Refused (verdictOf f) _ (sym e ∙ g) ∙ rw (le-ltb i (countOf f) (omega arith)))
 
-    module _ (h : i < n) {at m : ℕ} {r : Track} (p : at ≡ entryPlace i) (q : r ≡ trackAt f at) (s : m ≡ pointsIn place.pointSize (r .first) (r .last)) where
-      there : pointOf f i j ≡ pointIn f place.pointSize (entryPlace i) j
+    module _ (h : i < n) {at size m : ℕ} {r : Track} (p : at ≡ entryPlace i) (z : size ≡ sizeOf f) (q : r ≡ trackAt f size at)
+        (s : m ≡ pointsIn (r .«point_size») (r .first) (r .last)) where
+      abbrev points : ℕ
+      points = pointsIn (sizeOf f) (firstOf f (entryPlace i)) (lastOf f (entryPlace i))
+
+      there : pointOf f i j ≡ pointIn f (sizeOf f) (entryPlace i) j
       unfolding pointOf
       there = no-fault point.Refused (verdictOf f) _ (sym e ∙ g) ∙ rw (lt-ltb i (countOf f) (omega arith))
 
-      entry-read : r ≡ trackAt f (entryPlace i)
-      entry-read = q ∙ ap (trackAt f) p
+      entry-read : r ≡ trackAt f (sizeOf f) (entryPlace i)
+      entry-read = q ∙ ap (λ (k : ℕ). trackAt f k at) z ∙ ap (trackAt f (sizeOf f)) p
 
       first-read : r .first ≡ firstOf f (entryPlace i)
       unfolding trackAt
       first-read = ap (λ (x : Track). x .first) entry-read
 
-      count-read : m ≡ pointsIn place.pointSize (firstOf f (entryPlace i)) (lastOf f (entryPlace i))
+      count-read : m ≡ points
       unfolding trackAt
-      count-read = s ∙ ap (λ (x : Track). pointsIn place.pointSize (x .first) (x .last)) entry-read
+      count-read = s ∙ ap (λ (x : Track). pointsIn (x .«point_size») (x .first) (x .last)) entry-read
+
+      -- where point j stands
+      place-read : r .first + size * j ≡ pointPlace f (sizeOf f) (entryPlace i) j
+      place-read = let y = first-read in let w = ap (λ (k : ℕ). k * j) z in omega arith
 
       pub point-none : m ≤ j → {t : Fault} → t ≡ refusal reason.Question → point.Refused t ≡ pointOf f i j
-      point-none k u =
-          let z = count-read in
-          ap point.Refused u ∙ sym (there ∙ rw (le-ltb j (pointsIn place.pointSize (firstOf f (entryPlace i)) (lastOf f (entryPlace i))) (omega arith)))
+      point-none k u = let w = count-read in ap point.Refused u ∙ sym (there ∙ rw (le-ltb j points (omega arith)))
 
-      pub point-in-file : j < m → r .first + place.pointSize * j ≤ mostLength
+      pub point-in-file : j < m → r .first + size * j ≤ mostLength
       point-in-file k =
           let o = track-obeys f ((verdict-obeys f) .0 (sym e ∙ g)) i (omega arith) in
           let l = o .in-file in
-          let y = first-read in
-          let z = count-read in
-          let w = (named-iff f place.pointSize (entryPlace i) (omega arith) o j) .0 (omega arith) in
+          let x = count-read in
+          let y = place-read in
+          let w = (named-iff f (sizeOf f) (entryPlace i) (size-positive (structureOf f)) o j) .0 (omega arith) in
           omega arith
 
-      pub point-there : j < m → {to : ℕ} {u : Point} → to ≡ r .first + place.pointSize * j → u ≡ pointAt f to → point.Point u ≡ pointOf f i j
+      pub point-there : j < m → {to : ℕ} {u : Point} → to ≡ r .first + size * j → u ≡ pointAt f size to → point.Point u ≡ pointOf f i j
       point-there k {to} a b =
-          let z = count-read in
-          let y = first-read in
-          let w : to ≡ pointPlace f place.pointSize (entryPlace i) j = omega arith in
-          ap point.Point (b ∙ ap (pointAt f) w) ∙ sym (there ∙ rw (lt-ltb j (pointsIn place.pointSize (firstOf f (entryPlace i)) (lastOf f (entryPlace i))) (omega arith)))
+          let w = count-read in
+          ap point.Point (b ∙ ap (λ (x : ℕ). pointAt f x to) z ∙ ap (pointAt f (sizeOf f)) (a ∙ place-read)) ∙ sym (there ∙ rw (lt-ltb j points (omega arith)))
 
 -- ---- the coordinate at position x of the track whose entry is at e: n is its end position, s its stretch as it was found
 
@@ -130,12 +134,12 @@ module _ (f : List ℕ) (size e x : ℕ) {n : ℕ} (c : n ≡ endPositionOf f e)
 -- ---- the coordinate at position x of the track with a number: s is the track as it was found
 
 module _ (f : List ℕ) (number x : ℕ) {v : Verdict} (e : v ≡ verdictOf f) (g : v ≡ verdict.Accepted) {s : Found} (q : s ≡ findTrack f number) where
-  by-track : (o : Found) → s ≡ o → coordinateAsked f number x ≡ onFound f place.pointSize x o
+  by-track : (o : Found) → s ≡ o → coordinateAsked f number x ≡ onFound f (sizeOf f) x o
   unfolding coordinateAsked
-  by-track o w = no-fault coordinate.Refused (verdictOf f) _ (sym e ∙ g) ∙ ap (onFound f place.pointSize x) (sym q ∙ w)
+  by-track o w = no-fault coordinate.Refused (verdictOf f) _ (sym e ∙ g) ∙ ap (onFound f (sizeOf f) x) (sym q ∙ w)
 
   pub no-track : s ≡ Absent → {t : Fault} → t ≡ refusal reason.Track → coordinate.Refused t ≡ coordinateAsked f number x
   no-track w u = ap coordinate.Refused u ∙ sym (by-track Absent w)
 
-  pub along-track : {p : ℕ} → s ≡ At p → {r : CoordinateAnswer} → r ≡ onTrack f place.pointSize p x → r ≡ coordinateAsked f number x
-  along-track {p} w u = u ∙ sym (by-track (At p) w)
+  pub along-track : {p size : ℕ} → s ≡ At p → size ≡ sizeOf f → {r : CoordinateAnswer} → r ≡ onTrack f size p x → r ≡ coordinateAsked f number x
+  along-track {p} w z u = u ∙ ap (λ (k : ℕ). onTrack f k p x) z ∙ sym (by-track (At p) w)

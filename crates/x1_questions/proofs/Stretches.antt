@@ -9,10 +9,9 @@ use lib.IntN.{ℤ, natAbs}
 use native.Mathlib.Nat.{mul-suc, mul-comm, mul-le-mul-left, lt-of-mul-lt-mul-left, le-div-iff-mul-le}
 use native.Mathlib.Omega.{arith}
 use borrow.Author.Tests.{le-ltb, leb-true, leb-false}
-use Rattle.x1_records.specs.Places as place
 use Rattle.x1_records.specs.Tracks.{pointsIn}
 use Rattle.x1_layout.specs.Layout.{countOf, firstOf, lastOf}
-use Rattle.x1_obeys.specs.Obeys.{entryPlace, pointPlace, Obeys}
+use Rattle.x1_obeys.specs.Obeys.{sizeOf, entryPlace, pointPlace, Obeys}
 use Rattle.rounding.specs.Way.{farthest, Limits}
 use Rattle.x1_lookup.specs.declared.Found.the-variants.{At, Absent}
 use Rattle.x1_lookup.specs.Lookup.{findTrack}
@@ -24,7 +23,7 @@ use Rattle.x1_questions.specs.inner.Requires.{TrackObeys, OnStretch}
 use Rattle.x1_questions.specs.Coordinate.{Neighbours}
 
 -- each track of a file that obeys
-pub track-obeys : (f : List ℕ) → Obeys f → (i : ℕ) → i < countOf f → TrackObeys f place.pointSize (entryPlace i)
+pub track-obeys : (f : List ℕ) → Obeys f → (i : ℕ) → i < countOf f → TrackObeys f (sizeOf f) (entryPlace i)
 track-obeys f o i h =
     let p = o .layout .points-fit i h in
     let m = o .most in
@@ -36,10 +35,10 @@ track-obeys f o i h =
     }
 
 -- and so the one that was found by its number
-pub found-obeys : (f : List ℕ) → Obeys f → (number e : ℕ) → findTrack f number ≡ At e → TrackObeys f place.pointSize e
+pub found-obeys : (f : List ℕ) → Obeys f → (number e : ℕ) → findTrack f number ≡ At e → TrackObeys f (sizeOf f) e
 found-obeys f o number e q =
     let w = found-number f number e q in
-    subst (TrackObeys f place.pointSize) (sym (w .there)) (track-obeys f o (w .track) (w .in-file))
+    subst (TrackObeys f (sizeOf f)) (sym (w .there)) (track-obeys f o (w .track) (w .in-file))
 
 module _ (f : List ℕ) (size e : ℕ) (positive : 0 < size) (o : TrackObeys f size e) where
   -- ---- its points

@@ -3,8 +3,7 @@ use mathlib.Core.List.{List, [], _∷_}
 use lib.IntN.{ℤ, pos}
 use Rattle.verdict.specs.Answers.{Answer, answered, refused}
 use Rattle.envelope.specs.Header.{headerValues}
-use Rattle.x1_records.specs.Places.{pointSize}
-use Rattle.x1_records.specs.Tracks.{pointsIn}
+use Rattle.x1_records.specs.Tracks.{pointsIn, heightValues}
 use Rattle.x1_records.specs.declared.Track.{Track}
 use Rattle.x1_records.specs.declared.Point.{Point}
 use Rattle.x1_questions.specs.declared.answers.HeaderAnswer.{HeaderAnswer}
@@ -36,7 +35,7 @@ trackValues t =
     ∷ t .«end_longitude»
     ∷ pos (t .first)
     ∷ pos (t .last)
-    ∷ pos (pointsIn pointSize (t .first) (t .last))
+    ∷ pos (pointsIn (t .«point_size») (t .first) (t .last))
     ∷ []
 
 -- 01: Form.10
@@ -44,14 +43,15 @@ abbrev pub trackAnswer : TrackAnswer → Answer
 trackAnswer (track.Track t) = answered (trackValues t)
 trackAnswer (track.Refused t) = refused 11 t
 
--- position, both increments, heading, near flag
+-- position, both increments, heading, near flag; whether there is a height, and the height
 abbrev pub pointValues : Point → List ℤ
-pointValues p = pos (p .position) ∷ p .«latitude_increment» ∷ p .«longitude_increment» ∷ p .heading ∷ pos (p .near) ∷ []
+pointValues p =
+    pos (p .position) ∷ p .«latitude_increment» ∷ p .«longitude_increment» ∷ p .heading ∷ pos (p .near) ∷ heightValues (p .height)
 
 -- 01: Form.10
 abbrev pub pointAnswer : PointAnswer → Answer
 pointAnswer (point.Point p) = answered (pointValues p)
-pointAnswer (point.Refused t) = refused 5 t
+pointAnswer (point.Refused t) = refused 7 t
 
 -- latitude, longitude
 abbrev pub coordinateValues : Coordinate → List ℤ

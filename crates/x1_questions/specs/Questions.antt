@@ -7,9 +7,8 @@ use lib.Dec.{ltb, leb}
 use Rattle.verdict.specs.declared.Reason.the-variants as reason
 use Rattle.verdict.specs.Answers.{refusal, afterVerdict}
 use Rattle.envelope.specs.Header.{headerIn}
-use Rattle.x1_records.specs.Places as place
 use Rattle.x1_records.specs.Tracks.{trackAt, pointAt, pointsIn}
-use Rattle.x1_layout.specs.Layout.{countOf, firstOf, lastOf}
+use Rattle.x1_layout.specs.Layout.{sizeOf, countOf, firstOf, lastOf}
 use Rattle.x1_verdict.specs.Facts.{verdictOf}
 use Rattle.x1_obeys.specs.Obeys.{entryPlace, pointPlace}
 use Rattle.x1_lookup.specs.Lookup.{findTrack}
@@ -33,7 +32,7 @@ headerOf f = afterVerdict header.Refused (verdictOf f) (header.Header (headerIn 
 -- ---- track i
 
 abbrev pub trackIn : List ℕ → ℕ → TrackAnswer
-trackIn f i = cond (ltb i (countOf f)) (track.Track (trackAt f (entryPlace i))) (track.Refused (refusal reason.Question))
+trackIn f i = cond (ltb i (countOf f)) (track.Track (trackAt f (sizeOf f) (entryPlace i))) (track.Refused (refusal reason.Question))
 
 -- 01: Ask.1
 unfoldable pub trackOf : List ℕ → ℕ → TrackAnswer
@@ -44,14 +43,14 @@ trackOf f i = afterVerdict track.Refused (verdictOf f) (trackIn f i)
 -- of the track whose entry is at e
 abbrev pub pointIn : List ℕ → ℕ → ℕ → ℕ → PointAnswer
 pointIn f size e j =
-    cond (ltb j (pointsIn size (firstOf f e) (lastOf f e))) (point.Point (pointAt f (pointPlace f size e j)))
+    cond (ltb j (pointsIn size (firstOf f e) (lastOf f e))) (point.Point (pointAt f size (pointPlace f size e j)))
     (point.Refused (refusal reason.Question))
 
 -- 01: Ask.1
 unfoldable pub pointOf : List ℕ → ℕ → ℕ → PointAnswer
 pointOf f i j =
     afterVerdict point.Refused (verdictOf f)
-    (cond (ltb i (countOf f)) (pointIn f place.pointSize (entryPlace i) j) (point.Refused (refusal reason.Question)))
+    (cond (ltb i (countOf f)) (pointIn f (sizeOf f) (entryPlace i) j) (point.Refused (refusal reason.Question)))
 
 -- ---- the coordinate at position x of the track with a number
 
@@ -72,4 +71,4 @@ onFound f size x Absent = coordinate.Refused (refusal reason.Track)
 
 -- 01: Ask.1
 unfoldable pub coordinateAsked : List ℕ → ℕ → ℕ → CoordinateAnswer
-coordinateAsked f number x = afterVerdict coordinate.Refused (verdictOf f) (onFound f place.pointSize x (findTrack f number))
+coordinateAsked f number x = afterVerdict coordinate.Refused (verdictOf f) (onFound f (sizeOf f) x (findTrack f number))

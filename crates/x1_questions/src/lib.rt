@@ -23,6 +23,7 @@ use tables::number_of;
 use verdict::Reason;
 use verdict::Verdict;
 use verdict::refusal;
+use x1_layout::size_of;
 use x1_lookup::Found;
 use x1_lookup::find_track;
 use x1_records::COUNT;
@@ -39,11 +40,11 @@ fn entry_place(i: u8) -> u16
 }
 
 // Where point j stands, of a track whose first point is at `first`.
-fn point_place(first: usize, size: u8, j: usize) -> u16
+fn point_place(first: u16, size: u8, j: usize) -> u16
     requires { ⌜ first + size * j ≤ mostLength ⌝ }
     ensures { λ r. ⌜ r ≡ first + size * j ⌝ }
 {
-    (first + size as usize * j) as u16
+    (first as usize + size as usize * j) as u16
 }
 
 // The header.
@@ -68,7 +69,8 @@ pub fn track(f: &[u8], index: usize) -> TrackAnswer
     if number_of(f, HEADER, COUNT) <= index {
         return TrackAnswer::Refused(refusal(Reason::Question));
     }
-    TrackAnswer::Track(Track::read(f, entry_place(index as u8)))
+    let at = entry_place(index as u8);
+    TrackAnswer::Track(Track::read(f, size_of(f), at))
 }
 
 // The point of an index in the track of an index.
@@ -82,12 +84,13 @@ pub fn point(f: &[u8], track: usize, index: usize) -> PointAnswer
     if number_of(f, HEADER, COUNT) <= track {
         return PointAnswer::Refused(refusal(Reason::Question));
     }
-    let entry = Track::read(f, entry_place(track as u8));
+    let size = size_of(f);
+    let entry = Track::read(f, size, entry_place(track as u8));
     if entry.points() <= index {
         return PointAnswer::Refused(refusal(Reason::Question));
     }
-    let at = point_place(entry.first, Point::SIZE, index);
-    PointAnswer::Point(Point::read(f, at))
+    let at = point_place(entry.first, size, index);
+    PointAnswer::Point(Point::read(f, size, at))
 }
 
 // The coordinate at a position of the track with a number.
@@ -102,7 +105,7 @@ pub fn coordinate(f: &[u8], number: usize, position: usize) -> CoordinateAnswer
     let Found::At(e) = found else {
         return CoordinateAnswer::Refused(refusal(Reason::Track));
     };
-    coordinate_at(f, Point::SIZE, e, position)
+    coordinate_at(f, size_of(f), e, position)
 }
 
 // The coordinate at a position of the track whose entry is at e.

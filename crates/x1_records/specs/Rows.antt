@@ -1,6 +1,9 @@
--- Tables 2 and 3 of the standard (01, 'X.1, track geography' and 'Fields'): a row for each field in the page's order, with its name, its
+-- Tables 2 and 3 of the standard (01, 'X.1, track geography' and 'Fields'; 02, ticket 11): a row for each field in the page's order, with its name, its
 -- place in the record, its width, its sign, and what may stand in it. Everything else that is said of a field follows from its row.
-use mathlib.Core.List.{List, [], _∷_}
+use Prim.Native.Nat.{ℕ, _+_}
+use mathlib.Core.Bool.{Bool, cond}
+use mathlib.Core.List.{List, [], _∷_, _++_}
+use lib.Dec.{leb}
 use Rattle.tables.specs.Table.{any, exactly, between, within, Row, row, signedRow}
 use Rattle.x1_records.specs.Places.{latitudeMost, longitudeMost, positionMost, headingMost}
 
@@ -79,3 +82,16 @@ near = row "near" 12 1 (between 0 1)
 -- 01: X1.header.3
 abbrev pub pointTable : List Row
 pointTable = position ∷ latitudeIncrement ∷ longitudeIncrement ∷ heading ∷ near ∷ []
+
+-- ---- ticket 11: a height in decimetres at the point's end. Any height is right
+
+abbrev pub height : Row
+height = signedRow "height" (near .offset + near .width) 2 any
+
+-- a point of a size has one where the size has room for it
+abbrev pub hasHeight : ℕ → Bool
+hasHeight size = leb (height .offset + height .width) size
+
+-- all fields of a point of a size
+abbrev pub sizedTable : ℕ → List Row
+sizedTable size = pointTable ++ cond (hasHeight size) (height ∷ []) []

@@ -1,16 +1,17 @@
 // The records of X.1, track geography (01, 'X.1, track geography'; tables 2 and 3 of the standard): a track's entry and a point, with their
 // sizes, their fields and their reading; where the entries start; the limits of the fields. A field is written once, with its place and its
-// width.
+// width. From structure version 2 on a point has a height at its end (02, ticket 11): what depends on that is told the size of a point.
 ghost use mathlib.Core.Path.{_≡_};
 ghost use Prim.Native.Nat.{_+_};
-ghost use Rattle.x1_records.specs.Tracks.{trackAt, pointAt, pointsIn};
-ghost use Rattle.x1_records.specs.Places.{pointSize};
+ghost use Rattle.x1_records.specs.Tracks.{trackAt, heightAt, pointAt, pointsIn};
+ghost use Rattle.x1_records.specs.Places.{pointSize, leastLengthIn};
 use octets::Width;
+use rules::quotient;
 use tables::Field;
 use tables::number_of;
 use tables::signed_of;
 
-// A track's entry, table 2.
+// A track's entry, table 2, and the size of the track's points.
 pub struct Track {
     pub number: usize,
     pub property: usize,
@@ -20,8 +21,15 @@ pub struct Track {
     pub end_position: usize,
     pub end_latitude: i64,
     pub end_longitude: i64,
-    pub first: usize,
-    pub last: usize,
+    pub first: u16,
+    pub last: u16,
+    pub point_size: u8,
+}
+
+// A point's height, or that its file has none.
+pub enum Height {
+    Decimetres(i64),
+    NoHeight,
 }
 
 // A point, table 3. The two increments are what is added to the track's start to give the point's latitude and longitude.
@@ -31,6 +39,7 @@ pub struct Point {
     pub longitude_increment: i64,
     pub heading: i64,
     pub near: usize,
+    pub height: Height,
 }
 
 // The fields of the entry, and the entry's size.
@@ -57,9 +66,9 @@ impl Track {
 
     pub const SIZE: u8 = 30;
 
-    // The entry that starts at a place.
-    pub fn read(s: &[u8], at: u16) -> Self
-        ensures { λ r. ⌜ r ≡ trackAt (now (s .entry)) at ⌝ }
+    // The entry that starts at a place, of a track with points of a size.
+    pub fn read(s: &[u8], size: u8, at: u16) -> Self
+        ensures { λ r. ⌜ r ≡ trackAt (now (s .entry)) size at ⌝ }
     {
         let start = at as u32;
         Track {
@@ -71,25 +80,26 @@ impl Track {
             end_position: number_of(s, start, Self::END_POSITION),
             end_latitude: signed_of(s, start, Self::END_LATITUDE),
             end_longitude: signed_of(s, start, Self::END_LONGITUDE),
-            first: number_of(s, start, Self::FIRST),
-            last: number_of(s, start, Self::LAST),
+            first: number_of(s, start, Self::FIRST) as u16,
+            last: number_of(s, start, Self::LAST) as u16,
+            point_size: size,
         }
     }
 
     // How many points the track has.
     pub fn points(self) -> usize
-        ensures { λ r. ⌜ r ≡ pointsIn pointSize (self .first) (self .last) ⌝ }
+        ensures { λ r. ⌜ r ≡ pointsIn (self .«point_size») (self .first) (self .last) ⌝ }
     {
         let first = self.first;
         let last = self.last;
         if last < first {
             return 0;
         }
-        (last - first) / Point::SIZE as usize + 1
+        quotient((last - first) as usize, self.point_size as usize) + 1
     }
 }
 
-// The fields of the point, and the point's size.
+// The fields of the point, the height the last of them, and the point's size without and with a height.
 impl Point {
     pub const POSITION: Field = Field(0, Width::Four);
 
@@ -103,9 +113,23 @@ impl Point {
 
     pub const SIZE: u8 = 13;
 
-    // The point that starts at a place.
-    pub fn read(s: &[u8], at: u16) -> Self
-        ensures { λ r. ⌜ r ≡ pointAt (now (s .entry)) at ⌝ }
+    pub const HEIGHT: Field = Field(Self::SIZE, Width::Two);
+
+    pub const SIZE_WITH_HEIGHT: u8 = 15;
+
+    // The height of the point at a place, where points of the size have one.
+    fn height(s: &[u8], size: u8, at: u16) -> Height
+        ensures { λ r. ⌜ r ≡ heightAt (now (s .entry)) size at ⌝ }
+    {
+        if size < Self::SIZE_WITH_HEIGHT {
+            return Height::NoHeight;
+        }
+        Height::Decimetres(signed_of(s, at as u32, Self::HEIGHT))
+    }
+
+    // The point of a size that starts at a place.
+    pub fn read(s: &[u8], size: u8, at: u16) -> Self
+        ensures { λ r. ⌜ r ≡ pointAt (now (s .entry)) size at ⌝ }
     {
         let start = at as u32;
         Point {
@@ -114,6 +138,7 @@ impl Point {
             longitude_increment: signed_of(s, start, Self::LONGITUDE_INCREMENT),
             heading: signed_of(s, start, Self::HEADING),
             near: number_of(s, start, Self::NEAR),
+            height: Self::height(s, size, at),
         }
     }
 }
@@ -142,8 +167,37 @@ pub const COUNT: Field = Field(7, Width::One);
 
 pub const ENTRIES: u32 = 8;
 
-// The limits of the fields.
+// The structure versions: from which one on a point has a height, and the newest one that is known.
+pub const HEIGHTS_FROM: usize = 2;
+
+pub const NEWEST_VERSION: usize = 2;
+
+// The size of a point in a structure version.
+pub fn point_size(version: usize) -> u8
+    ensures { λ r. ⌜ r ≡ pointSize version ⌝ }
+{
+    if version < HEIGHTS_FROM {
+        return Point::SIZE;
+    }
+    Point::SIZE_WITH_HEIGHT
+}
+
+// The least length of a file: in any structure version, and in one with heights.
 pub const LEAST_LENGTH: usize = 68;
+
+pub const LEAST_WITH_HEIGHTS: usize = 72;
+
+// The least length of a file in its structure version.
+pub fn least_length(version: usize) -> usize
+    ensures { λ r. ⌜ r ≡ leastLengthIn version ⌝ }
+{
+    if version < HEIGHTS_FROM {
+        return LEAST_LENGTH;
+    }
+    LEAST_WITH_HEIGHTS
+}
+
+// The limits of the fields.
 
 pub const LATITUDE_MOST: usize = 324000000;
 

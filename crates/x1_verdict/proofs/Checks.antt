@@ -13,12 +13,12 @@ use Rattle.verdict.specs.Facts.{Fact, allTests, judge, firstFault}
 use Rattle.verdict.proofs.Facts.{tests-then, judge-then, judge-refused, judge-first, stops, goes-on}
 use Rattle.rules.specs.Rules.{lengthBetween}
 use Rattle.envelope.specs.Seal.{mostLength, sealFacts}
-use Rattle.x1_records.specs.Places.{leastLength, pointSize}
-use Rattle.x1_layout.specs.Layout.{firstOf, lastOf, entries, layoutFacts}
+use Rattle.x1_records.specs.Places.{leastLength, leastLengthIn}
+use Rattle.x1_layout.specs.Layout.{structureOf, sizeOf, firstOf, lastOf, entries, layoutFacts}
 use Rattle.x1_fields.specs.Fields.{headerFields, entryFields, pointFields}
 use Rattle.x1_verdict.specs.Fields.{allPoints, fieldFacts}
 use Rattle.x1_verdict.specs.Agreement.{numberAgrees, opens, rises, stays, closes, pointAgrees, pointsOf, trackAgrees, agreementFacts}
-use Rattle.x1_verdict.specs.Facts.{fileType, checkFacts, facts, judgedOf}
+use Rattle.x1_verdict.specs.Facts.{fileType, sizedFacts, factsBy, judgedBy}
 
 -- A refusal stays, whatever facts follow.
 refused-stays : (w : Judged) (m : Mark) (fs : List Fact) → w ≡ Refused m → w ≡ judge w fs
@@ -80,43 +80,47 @@ module _ (f : List ℕ) (size : ℕ) (x y : Bool) where
       ap (λ (t : Bool). x && t) (sym (and-true y))
       ∙ point-tested f size x y true e first last p i j (rw (le-ltb p (first + size) h) a) b (rw (ne-eqb p last n))
 
--- The checks of a file, one after the other: s is the verdict of the length, t of the checksum, the type and the version, l of the
--- layout, d of the fields.
-module _ (f : List ℕ) where
-  rest : List Fact
-  rest = fieldFacts f pointSize ++ agreementFacts f pointSize
+-- The checks over the size of a point, one after the other: l is the verdict of the layout, d of the fields.
+module _ (f : List ℕ) (size : ℕ) (l : Judged) (h : l ≡ judge Accepted (layoutFacts f size)) where
+  pub layout-refused : (m : Mark) → l ≡ Refused m → l ≡ firstFault (sizedFacts f size)
+  unfolding sizedFacts
+  layout-refused m k = stops l m (layoutFacts f size) (fieldFacts f size ++ agreementFacts f size) h k
 
-  module _ (s : Judged) (p : s ≡ judge Accepted (lengthBetween f leastLength mostLength ∷ [])) where
-    pub length-refused : (m : Mark) → s ≡ Refused m → s ≡ judgedOf f
-    unfolding facts
-    length-refused m e = stops s m (lengthBetween f leastLength mostLength ∷ []) (checkFacts f pointSize) p e
+  module _ (k : l ≡ Accepted) (d : Judged) (i : d ≡ judge Accepted (fieldFacts f size)) where
+    after-layout : (r : Judged) → r ≡ firstFault (fieldFacts f size ++ agreementFacts f size) → r ≡ firstFault (sizedFacts f size)
+    unfolding sizedFacts
+    after-layout r q = goes-on l r (layoutFacts f size) (fieldFacts f size ++ agreementFacts f size) h k q
 
-    module _ (e : s ≡ Accepted) where
-      after-length : (r : Judged) → r ≡ firstFault (checkFacts f pointSize) → r ≡ judgedOf f
-      unfolding facts
-      after-length r q = goes-on s r (lengthBetween f leastLength mostLength ∷ []) (checkFacts f pointSize) p e q
+    pub fields-refused : (m : Mark) → d ≡ Refused m → d ≡ firstFault (sizedFacts f size)
+    fields-refused m j = after-layout d (stops d m (fieldFacts f size) (agreementFacts f size) i j)
 
-      module _ (t : Judged) (q : t ≡ judge Accepted (sealFacts f fileType)) where
-        pub seal-refused : (m : Mark) → t ≡ Refused m → t ≡ judgedOf f
-        unfolding checkFacts rest
-        seal-refused m g = after-length t (stops t m (sealFacts f fileType) (layoutFacts f pointSize ++ rest) q g)
+    pub all-checked : d ≡ Accepted → (r : Judged) → r ≡ judge Accepted (agreementFacts f size) → r ≡ firstFault (sizedFacts f size)
+    all-checked j r n = after-layout r (goes-on d r (fieldFacts f size) (agreementFacts f size) i j (n ∙ judge-first (agreementFacts f size)))
 
-        module _ (g : t ≡ Accepted) where
-          after-seal : (r : Judged) → r ≡ firstFault (layoutFacts f pointSize ++ rest) → r ≡ judgedOf f
-          unfolding checkFacts rest
-          after-seal r h = after-length r (goes-on t r (sealFacts f fileType) (layoutFacts f pointSize ++ rest) q g h)
+-- The checks of a file, one after the other: s is the verdict of the length, t of the checksum, the type and the version, k of the least
+-- length in that version, r of the rest.
+module _ (newest : ℕ) (f : List ℕ) (s : Judged) (p : s ≡ judge Accepted (lengthBetween f leastLength mostLength ∷ [])) where
+  abbrev least : Fact
+  least = lengthBetween f (leastLengthIn (structureOf f)) mostLength
 
-          module _ (l : Judged) (h : l ≡ judge Accepted (layoutFacts f pointSize)) where
-            pub layout-refused : (m : Mark) → l ≡ Refused m → l ≡ judgedOf f
-            layout-refused m k = after-seal l (stops l m (layoutFacts f pointSize) rest h k)
+  pub length-refused : (m : Mark) → s ≡ Refused m → s ≡ judgedBy newest f
+  unfolding factsBy
+  length-refused m e = stops s m (lengthBetween f leastLength mostLength ∷ []) (sealFacts f fileType newest ++ (least ∷ sizedFacts f (sizeOf f))) p e
 
-            module _ (k : l ≡ Accepted) (d : Judged) (i : d ≡ judge Accepted (fieldFacts f pointSize)) where
-              pub fields-refused : (m : Mark) → d ≡ Refused m → d ≡ judgedOf f
-              unfolding rest
-              fields-refused m j = after-seal d (goes-on l d (layoutFacts f pointSize) rest h k (stops d m (fieldFacts f pointSize) (agreementFacts f pointSize) i j))
+  module _ (e : s ≡ Accepted) (t : Judged) (q : t ≡ judge Accepted (sealFacts f fileType newest)) where
+    after-length : (r : Judged) → r ≡ firstFault (sealFacts f fileType newest ++ (least ∷ sizedFacts f (sizeOf f))) → r ≡ judgedBy newest f
+    unfolding factsBy
+    after-length r h = goes-on s r (lengthBetween f leastLength mostLength ∷ []) (sealFacts f fileType newest ++ (least ∷ sizedFacts f (sizeOf f))) p e h
 
-              pub all-checked : d ≡ Accepted → (r : Judged) → r ≡ judge Accepted (agreementFacts f pointSize) → r ≡ judgedOf f
-              unfolding rest
-              all-checked j r n =
-                  after-seal r (goes-on l r (layoutFacts f pointSize) rest h k
-                  (goes-on d r (fieldFacts f pointSize) (agreementFacts f pointSize) i j (n ∙ judge-first (agreementFacts f pointSize))))
+    pub seal-refused : (m : Mark) → t ≡ Refused m → t ≡ judgedBy newest f
+    seal-refused m g = after-length t (stops t m (sealFacts f fileType newest) (least ∷ sizedFacts f (sizeOf f)) q g)
+
+    module _ (g : t ≡ Accepted) (k : Judged) (u : k ≡ judge Accepted (least ∷ [])) where
+      after-seal : (r : Judged) → r ≡ firstFault (least ∷ sizedFacts f (sizeOf f)) → r ≡ judgedBy newest f
+      after-seal r h = after-length r (goes-on t r (sealFacts f fileType newest) (least ∷ sizedFacts f (sizeOf f)) q g h)
+
+      pub least-refused : (m : Mark) → k ≡ Refused m → k ≡ judgedBy newest f
+      least-refused m i = after-seal k (stops k m (least ∷ []) (sizedFacts f (sizeOf f)) u i)
+
+      pub version-checked : k ≡ Accepted → (r : Judged) → r ≡ firstFault (sizedFacts f (sizeOf f)) → r ≡ judgedBy newest f
+      version-checked i r h = after-seal r (goes-on k r (least ∷ []) (sizedFacts f (sizeOf f)) u i h)

@@ -1,4 +1,5 @@
--- All facts of an X.1 file in 01's order, and the verdict: the first that fails.
+-- All facts of an X.1 file in 01's order, and the verdict: the first that fails. `newest` is the newest structure version that the reader
+-- knows (02, ticket 11: 'a version 1 reader still answers 4 to the new file').
 use Prim.Native.Nat.{ℕ}
 use mathlib.Core.List.{List, _∷_, _++_}
 use Rattle.verdict.specs.Facts.{Fact, firstFault}
@@ -7,8 +8,8 @@ use Rattle.verdict.specs.declared.Judged.{Judged}
 use Rattle.verdict.specs.declared.Verdict.{Verdict}
 use Rattle.rules.specs.Rules.{lengthBetween}
 use Rattle.envelope.specs.Seal.{mostLength, sealFacts}
-use Rattle.x1_records.specs.Places.{leastLength, pointSize}
-use Rattle.x1_layout.specs.Layout.{layoutFacts}
+use Rattle.x1_records.specs.Places.{leastLength, leastLengthIn, newestVersion}
+use Rattle.x1_layout.specs.Layout.{structureOf, sizeOf, layoutFacts}
 use Rattle.x1_verdict.specs.Fields.{fieldFacts}
 use Rattle.x1_verdict.specs.Agreement.{agreementFacts}
 
@@ -16,17 +17,30 @@ use Rattle.x1_verdict.specs.Agreement.{agreementFacts}
 abbrev pub fileType : ℕ
 fileType = 1
 
--- all checks but the first
-unfoldable pub checkFacts : List ℕ → ℕ → List Fact
-checkFacts f size = sealFacts f fileType ++ (layoutFacts f size ++ (fieldFacts f size ++ agreementFacts f size))
+-- what is checked over the size of a point: the layout, the fields and the agreement
+unfoldable pub sizedFacts : List ℕ → ℕ → List Fact
+sizedFacts f size = layoutFacts f size ++ (fieldFacts f size ++ agreementFacts f size)
 
-unfoldable pub facts : List ℕ → List Fact
-facts f = lengthBetween f leastLength mostLength ∷ checkFacts f pointSize
+-- all facts, for a reader that knows the structure versions up to the newest: the length, the seal, the least length in the file's own
+-- version, and the rest over the size of a point in it
+unfoldable pub factsBy : ℕ → List ℕ → List Fact
+factsBy newest f =
+    lengthBetween f leastLength mostLength
+    ∷ (sealFacts f fileType newest ++ (lengthBetween f (leastLengthIn (structureOf f)) mostLength ∷ sizedFacts f (sizeOf f)))
 
--- the first fact that fails
+-- the first fact that fails, and the verdict that is answered
+abbrev pub judgedBy : ℕ → List ℕ → Judged
+judgedBy newest f = firstFault (factsBy newest f)
+
+abbrev pub verdictBy : ℕ → List ℕ → Verdict
+verdictBy newest f = shownOf (judgedBy newest f)
+
+-- the same of the reader that users have, which knows every structure version
+abbrev pub facts : List ℕ → List Fact
+facts = factsBy newestVersion
+
 abbrev pub judgedOf : List ℕ → Judged
-judgedOf f = firstFault (facts f)
+judgedOf = judgedBy newestVersion
 
--- the verdict that is answered
 abbrev pub verdictOf : List ℕ → Verdict
-verdictOf f = shownOf (judgedOf f)
+verdictOf = verdictBy newestVersion

@@ -20,25 +20,25 @@ returns-2 c =
 returns-3 : tie.Need-returns-3
 returns-3 c =
     let r = c .before .before .before in
-    let d = r .before .before .before in
+    let d = r .before .before .before .before in
     let v = d .before .before .before in
-    point-none (v .before .before .args .f .now) (v .verdict-of .ensures) (d .before .enum-told .given .1) (d .number-of .ensures .is) _ _ (r .before .before .if1 .left) (r .before .entry-place .ensures) (r .read .ensures) (c .before .before .points .ensures)
+    point-none (v .before .before .args .f .now) (v .verdict-of .ensures) (d .before .enum-told .given .1) (d .number-of .ensures .is) _ _ (r .before .before .before .if1 .left) (r .before .entry-place .ensures) (r .before .before .size-of .ensures) (r .read .ensures) (c .before .before .points .ensures)
     (c .before .if2 .taken) (c .refusal2 .ensures)
 
 point-place-requires : tie.Need-point-place-requires
 point-place-requires c κs =
     let r = c .before .before in
-    let d = r .before .before .before in
+    let d = r .before .before .before .before in
     let v = d .before .before .before in
-    point-in-file (v .before .before .args .f .now) (v .verdict-of .ensures) (d .before .enum-told .given .1) (d .number-of .ensures .is) _ _ (r .before .before .if1 .left) (r .before .entry-place .ensures) (r .read .ensures) (c .before .points .ensures)
+    point-in-file (v .before .before .args .f .now) (v .verdict-of .ensures) (d .before .enum-told .given .1) (d .number-of .ensures .is) _ _ (r .before .before .before .if1 .left) (r .before .entry-place .ensures) (r .before .before .size-of .ensures) (r .read .ensures) (c .before .points .ensures)
     (c .if2 .left)
 
 returns-4 : tie.Need-returns-4
 returns-4 c =
     let r = c .before .before .before .before in
-    let d = r .before .before .before in
+    let d = r .before .before .before .before in
     let v = d .before .before .before in
-    point-there (v .before .before .args .f .now) (v .verdict-of .ensures) (d .before .enum-told .given .1) (d .number-of .ensures .is) _ _ (r .before .before .if1 .left) (r .before .entry-place .ensures) (r .read .ensures) (c .before .before .before .points .ensures)
+    point-there (v .before .before .args .f .now) (v .verdict-of .ensures) (d .before .enum-told .given .1) (d .number-of .ensures .is) _ _ (r .before .before .before .if1 .left) (r .before .entry-place .ensures) (r .before .before .size-of .ensures) (r .read .ensures) (c .before .before .before .points .ensures)
     (c .before .before .if2 .left) (c .before .point-place .ensures) (c .read2 .ensures)
 
 pub point-spec : {M : Type 1} → statement M
@@ -53,6 +53,7 @@ point-spec =
     (λ c κs. search needs)
     (λ c κs. search needs)
     returns-2
+    (λ c κs. search needs)
     (λ c. search needs)
     (λ c κs. search needs)
     (λ c κs. search needs)

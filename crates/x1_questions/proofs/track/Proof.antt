@@ -19,10 +19,10 @@ returns-2 c =
 
 returns-3 : tie.Need-returns-3
 returns-3 c =
-    let d = c .before .before .before in
+    let d = c .before .before .before .before in
     let v = d .before .before .before in
-    track-there (v .before .before .args .f .now) (v .verdict-of .ensures) (d .before .enum-told .given .1) (d .number-of .ensures .is) _ (c .before .before .if1 .left)
-    (c .before .entry-place .ensures) (c .read .ensures)
+    track-there (v .before .before .args .f .now) (v .verdict-of .ensures) (d .before .enum-told .given .1) (d .number-of .ensures .is) _ (c .before .before .before .if1 .left)
+    (c .before .before .entry-place .ensures) (c .before .size-of .ensures) (c .read .ensures)
 
 pub track-spec : {M : Type 1} → statement M
 track-spec =
@@ -37,6 +37,7 @@ track-spec =
     (λ c κs. search needs)
     returns-2
     (λ c. search needs)
+    (λ c κs. search needs)
     (λ c κs. search needs)
     (λ c κs. search needs)
     returns-3)

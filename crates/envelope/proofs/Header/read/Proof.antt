@@ -6,7 +6,7 @@ use Rattle.envelope.proofs.Header.read.Tie as tie
 
 returns : tie.Need-returns
 unfolding headerIn
-returns c = simp (c .number-of3 .ensures .is, c .before .number-of2 .ensures .is, c .before .before .number-of .ensures .is)
+returns c = simp (c .number-of2 .ensures .is, c .before .number-of .ensures .is, c .before .before .structure-of .ensures)
 
 pub read-spec : {M : Type 1} → statement M
 read-spec =

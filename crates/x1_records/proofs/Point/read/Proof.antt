@@ -7,17 +7,19 @@ use Rattle.x1_records.proofs.Point.read.Tie as tie
 
 returns : tie.Need-returns
 returns c =
-    point-made _ _ _ _ _ _ _
-    (c .before .before .before .before .number-of .ensures .is)
-    (held 3 _ _ _ (omega arith) (c .before .before .before .signed-of .ensures))
-    (held 3 _ _ _ (omega arith) (c .before .before .signed-of2 .ensures))
-    (held 2 _ _ _ (omega arith) (c .before .signed-of3 .ensures))
-    (c .number-of2 .ensures .is)
+    point-made _ _ _ _ _ _ _ _ _
+    (c .before .before .before .before .before .number-of .ensures .is)
+    (held 3 _ _ _ (omega arith) (c .before .before .before .before .signed-of .ensures))
+    (held 3 _ _ _ (omega arith) (c .before .before .before .signed-of2 .ensures))
+    (held 2 _ _ _ (omega arith) (c .before .before .signed-of3 .ensures))
+    (c .before .number-of2 .ensures .is)
+    (c .height .ensures)
 
 pub read-spec : {M : Type 1} → statement M
 read-spec =
     tie.close
     (tie.spec
+    (λ c κs. search needs)
     (λ c κs. search needs)
     (λ c κs. search needs)
     (λ c κs. search needs)

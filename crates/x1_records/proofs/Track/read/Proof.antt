@@ -7,7 +7,7 @@ use Rattle.x1_records.proofs.Track.read.Tie as tie
 
 returns : tie.Need-returns
 returns c =
-    track-made _ _ _ _ _ _ _ _ _ _ _ _
+    track-made _ _ _ _ _ _ _ _ _ _ _ _ _
     (c .before .before .before .before .before .before .before .before .before .number-of .ensures .is)
     (c .before .before .before .before .before .before .before .before .number-of2 .ensures .is)
     (c .before .before .before .before .before .before .before .number-of3 .ensures .is)
@@ -32,5 +32,7 @@ read-spec =
     (λ c κs. search needs)
     (λ c κs. search needs)
     (λ c κs. search needs)
+    (λ c. search needs)
     (λ c κs. search needs)
+    (λ c. search needs)
     returns)
