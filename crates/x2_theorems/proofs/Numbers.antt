@@ -68,13 +68,13 @@ module _ (f : List ℕ) where
       let length-fact = lengthBetween f leastLength mostLength in
       let sum-fact = isNumber Checksum f 0 (endOf f) Four (checksumOf (take (endOf f) f)) in
       let type-fact = isNumber FileType f 0 typeAt One fileType in
-      let version-fact = isNumber Structure f 0 structureAt Two 1 in
+      let version-fact = between Structure f 0 structureAt Two 1 newestVersion in
       let rest = layoutFacts f l ++ recordFacts f l in
       one-fact (sealSays f) Length length-fact (sum-fact ∷ type-fact ∷ version-fact ∷ rest) (drop 1 (checks f)) ((refl, refl), tt) refl
       (one-fact (sealSays f) Checksum sum-fact (type-fact ∷ version-fact ∷ rest) (drop 2 (checks f)) ((refl, refl), tt) refl
       (one-fact (sealSays f) FileType type-fact (version-fact ∷ rest) (drop 3 (checks f)) ((refl, refl), tt) refl
-      (one-fact (sealSays f) Structure version-fact rest (drop 4 (checks f)) ((refl, refl), tt) refl
-      (section (layoutSays f) Layout (layoutFacts f l) (recordFacts f l) (LayoutObeys f l) (LayoutPlace f l) (drop 5 (checks f)) (layout-obeyed f l) (layout-located f l) (only-layout f l) (layout-speak f l) refl (λ o.
+      (section (sealSays f) Structure (version-fact ∷ []) rest (structureOf f ≡ 1) (λ p. p ≡ structureAt) (drop 4 (checks f)) (version-iff f) (located-one structureAt (version-fact ∷ []) (refl, tt)) (only-at structureAt) ((refl, refl), tt) refl (λ _.
+      section (layoutSays f) Layout (layoutFacts f l) (recordFacts f l) (LayoutObeys f l) (LayoutPlace f l) (drop 5 (checks f)) (layout-obeyed f l) (layout-located f l) (only-layout f l) (layout-speak f l) refl (λ o.
       of-records (regions f o))))))
 
 -- THEOREM: n is answered exactly where the table says so.

@@ -21,7 +21,7 @@ use Rattle.x2_layout.proofs.Shapes.{faulty-judged, found-judged, found-layout, 
 use Rattle.x2_fields.specs.Fields.{fieldFacts}
 use Rattle.x2_fields.specs.Agreement.{agreementFacts}
 use Rattle.x2_links.specs.Links.{targetFacts, returnFacts}
-use Rattle.x2_verdict.specs.Facts.{leastLength, fileType, recordFacts, checkFacts, facts, judgedOf}
+use Rattle.x2_verdict.specs.Facts.{leastLength, fileType, newestVersion, recordFacts, checkFacts, facts, judgedOf}
 use Rattle.x2_verdict.specs.inner.Shapes.{judgedAs}
 
 -- ---- the numbers of a layout that was found
@@ -66,19 +66,19 @@ module _ (f : List ℕ) (s : Judged) (p : s ≡ judge Accepted (lengthBetween f 
   unfolding facts
   length-refused m e = stops s m (lengthBetween f leastLength mostLength ∷ []) (checkFacts f) p e
 
-  module _ (e : s ≡ Accepted) (t : Judged) (q : t ≡ judge Accepted (sealFacts f fileType)) where
+  module _ (e : s ≡ Accepted) (t : Judged) (q : t ≡ judge Accepted (sealFacts f fileType newestVersion)) where
     after-length : (r : Judged) → r ≡ firstFault (checkFacts f) → r ≡ judgedOf f
     unfolding facts
     after-length r k = goes-on s r (lengthBetween f leastLength mostLength ∷ []) (checkFacts f) p e k
 
     pub seal-refused : (m : Mark) → t ≡ Refused m → t ≡ judgedOf f
     unfolding checkFacts
-    seal-refused m h = after-length t (stops t m (sealFacts f fileType) (layoutFacts f (layoutOf f) ++ recordFacts f (layoutOf f)) q h)
+    seal-refused m h = after-length t (stops t m (sealFacts f fileType newestVersion) (layoutFacts f (layoutOf f) ++ recordFacts f (layoutOf f)) q h)
 
     module _ (h : t ≡ Accepted) (z : Shape) (w : z ≡ shapeOf f) where
       after-seal : (r : Judged) → r ≡ firstFault (layoutFacts f (layoutOf f) ++ recordFacts f (layoutOf f)) → r ≡ judgedOf f
       unfolding checkFacts
-      after-seal r k = after-length r (goes-on t r (sealFacts f fileType) (layoutFacts f (layoutOf f) ++ recordFacts f (layoutOf f)) q h k)
+      after-seal r k = after-length r (goes-on t r (sealFacts f fileType newestVersion) (layoutFacts f (layoutOf f) ++ recordFacts f (layoutOf f)) q h k)
 
       pub layout-refused : (m : Mark) → z ≡ Faulty m → (r : Judged) → r ≡ judgedAs z → r ≡ judgedOf f
       layout-refused m k r n =

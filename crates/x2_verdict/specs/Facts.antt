@@ -21,13 +21,17 @@ leastLength = 69
 abbrev pub fileType : ℕ
 fileType = 2
 
+-- the newest structure version, and the only one (02, ticket 11: 'X.2 and X.3 stay at version 1')
+abbrev pub newestVersion : ℕ
+newestVersion = 1
+
 -- the checks of the records: fields, agreement, link targets, link returns
 unfoldable pub recordFacts : List ℕ → Layout → List Fact
 recordFacts f l = fieldFacts f l ++ (agreementFacts f l ++ (targetFacts f l ++ returnFacts f l))
 
 -- all checks but the first
 unfoldable pub checkFacts : List ℕ → List Fact
-checkFacts f = sealFacts f fileType ++ (layoutFacts f (layoutOf f) ++ recordFacts f (layoutOf f))
+checkFacts f = sealFacts f fileType newestVersion ++ (layoutFacts f (layoutOf f) ++ recordFacts f (layoutOf f))
 
 unfoldable pub facts : List ℕ → List Fact
 facts f = lengthBetween f leastLength mostLength ∷ checkFacts f

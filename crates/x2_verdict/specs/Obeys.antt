@@ -6,7 +6,7 @@ use mathlib.Core.List.{List}
 use lib.ListN.{length, take}
 use Rattle.octets.specs.Octets.{numAt}
 use Rattle.checksum.specs.Checksum.{checksumOf}
-use Rattle.envelope.specs.Seal.{mostLength, endOf, typeAt, structureAt}
+use Rattle.envelope.specs.Seal.{mostLength, endOf, typeAt, structureOf}
 use Rattle.x2_layout.specs.Layout.{layoutOf}
 use Rattle.x2_layout.specs.Obeys.{LayoutObeys}
 use Rattle.x2_obeys.specs.Fields.{FieldsObey, AgreementObeys}
@@ -23,7 +23,7 @@ pub record Obeys (f : List ℕ) : Type 0 where
   -- 01: X2.header.1
   pub file-type : numAt 1 f typeAt ≡ fileType
   -- 01: X2.header.1
-  pub structure-version : numAt 2 f structureAt ≡ 1
+  pub structure-version : structureOf f ≡ 1
   pub layout : LayoutObeys f (layoutOf f)
   pub fields : FieldsObey f (layoutOf f)
   pub agreement : AgreementObeys f (layoutOf f)

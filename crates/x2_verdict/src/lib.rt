@@ -45,6 +45,9 @@ pub const LEAST_LENGTH: usize = 69;
 
 pub const FILE_TYPE: usize = 2;
 
+// The newest structure version, and the only one.
+pub const NEWEST_VERSION: usize = 1;
+
 // The header: what both files have alike, and the station's name, by its place and how many bytes it has without its closing zeros.
 pub struct NamedHeader {
     pub header: Header,
@@ -129,7 +132,7 @@ pub fn first_fault(f: &[u8]) -> Judged
     let Judged::Accepted = sized else {
         return sized;
     };
-    let sealed = check_seal(Judged::Accepted, f, FILE_TYPE);
+    let sealed = check_seal(Judged::Accepted, f, FILE_TYPE, NEWEST_VERSION);
     let Judged::Accepted = sealed else {
         return sealed;
     };
