@@ -1,16 +1,16 @@
 -- THEOREMS: 10, 11 and 12 are answered exactly where 01 says so, in plain words: what the first track or position in stored order is that
 -- does not obey, and why it does not.
 use Prim.Native.Nat.{ℕ, _+_, _≤_, _<_}
-use mathlib.Core.Path.{_≡_, refl, sym, ap, subst}
+use mathlib.Core.Path.{_≡_, refl, sym, ap, subst, _∙_}
 use mathlib.Core.Bool.{Bool, true, false, cond, not, _&&_, true≢false}
 use mathlib.Core.Logic.{_⊎_, inl, inr, ⊎-elim, _↔_}
 use mathlib.Core.List.{List, [], _∷_, _++_, List·Memᴰ, List·Memᴰ·head, List·Memᴰ·tail, List·Memᴰ·not-nil, List·Memᴰ·cases-cons}
 use lib.Dec.{eqb}
-use borrow.Author.Tests.{eqb-false}
+use borrow.Author.Tests.{eq-eqb, eqb-false}
 use native.Mathlib.Omega.{arith}
 use Rattle.octets.specs.Octets.{numAt}
 use Rattle.verdict.specs.Order.{Check, check, fresh, Answered, Reported}
-use Rattle.verdict.proofs.Orders.{le-or-lt}
+use Rattle.verdict.proofs.Orders.{le-or-lt, and-true}
 use Rattle.x1_obeys.specs.Obeys.{entryPlace}
 use Rattle.x1_obeys.specs.Obeys as geography
 use Rattle.x1_theorems.specs.Faults as first
@@ -90,13 +90,19 @@ none-answered (check j A At ∷ cs) k p e h = go (eqb k j) e h (none-answered cs
     go true i h ih = true≢false (sym i)
     go false i h ih = ih i (h .1)
 
+none-reported : (cs : List Check) (k p : ℕ) → fresh k cs ≡ true → Reported cs k p → ⊥
+none-reported [] k p e h = none-answered [] k p e h
+none-reported (check j A At ∷ cs) k p e h =
+    let both = and-true (not (eqb k j)) (fresh k cs) e in
+    ⊎-elim (λ (x : A × Reported cs k p). none-reported cs k p (both .1) (x .1)) (λ (x : (A → ⊥) × ((k ≡ j) × At p)). let q = eq-eqb k j (x .1 .0) in true≢false (sym (both .0) ∙ ap not q)) h
+
 module _ (f g : List ℕ) (d p : ℕ) where
   abbrev Own : ℕ → Type 0
   Own n = (d ≡ 2) × (geography.Obeys f × (application.Obeys g × Reported (ownChecks f g (layoutOf g)) n p))
 
   own : (n : ℕ) → (n ≡ 0 → ⊥) → fresh n (first.checks f) ≡ true → fresh n (second.checks g) ≡ true → PairAnswered f g d n p → Own n
   own n z x y (accepted i j k o) = absurd (z j)
-  own n z x y (of-first i k w) = absurd (none-answered (first.checks f) n p x w)
+  own n z x y (of-first i k w) = absurd (none-reported (first.checks f) n p x w)
   own n z x y (of-second i o k w) = absurd (none-answered (second.checks g) n p y w)
   own n z x y (of-pair i o h k w) = (i, (o, (h, w)))
 

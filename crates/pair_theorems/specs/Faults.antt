@@ -47,7 +47,7 @@ ownChecks f g l = check 10 (numAt 2 g 5 ≡ numAt 2 f 5) (λ p. p ≡ 5) ∷ spo
 -- 01: Pair.1, Pair.5
 pub data PairAnswered (f g : List ℕ) (d n p : ℕ) : Type 0 where
   accepted : d ≡ 0 → n ≡ 0 → p ≡ 0 → PairObeys f g → PairAnswered f g d n p
-  of-first : d ≡ 1 → (n ≡ 0 → ⊥) → Answered (first.checks f) n p → PairAnswered f g d n p
+  of-first : d ≡ 1 → (n ≡ 0 → ⊥) → Reported (first.checks f) n p → PairAnswered f g d n p
   of-second : d ≡ 2 → geography.Obeys f → (n ≡ 0 → ⊥) → Answered (second.checks g) n p → PairAnswered f g d n p
   of-pair : d ≡ 2 → geography.Obeys f → application.Obeys g → (n ≡ 0 → ⊥) → Reported (ownChecks f g (layoutOf g)) n p
       → PairAnswered f g d n p

@@ -13,9 +13,8 @@ use Rattle.verdict.specs.Facts.{test}
 use Rattle.verdict.specs.Reasons.{placeIn}
 use Rattle.verdict.specs.Answers.{Answer, answerPlace, refusal, afterVerdict}
 use Rattle.envelope.specs.Header.{headerIn}
-use Rattle.x1_records.specs.Places.{pointSize}
 use Rattle.x1_records.specs.Tracks.{trackAt, pointAt, pointsIn}
-use Rattle.x1_layout.specs.Layout.{countOf, firstOf, lastOf}
+use Rattle.x1_layout.specs.Layout.{sizeOf, countOf, firstOf, lastOf}
 use Rattle.x1_obeys.specs.Obeys.{entryPlace, pointPlace}
 use Rattle.x1_verdict.specs.Facts as geography
 use Rattle.x1_lookup.specs.Lookup.{findTrack}
@@ -67,34 +66,34 @@ module _ (f : List ℕ) where
   unfolding trackOf
   track-place i =
       after-below trackAnswer track.Refused (λ t. refl) (geography.verdictOf f) (trackIn f i) (x1-place f)
-      (if-below trackAnswer (ltb i (countOf f)) (track.Track (trackAt f (entryPlace i))) (track.Refused (refusal reason.Question)) (omega arith) (omega arith))
+      (if-below trackAnswer (ltb i (countOf f)) (track.Track (trackAt f (sizeOf f) (entryPlace i))) (track.Refused (refusal reason.Question)) (omega arith) (omega arith))
 
-  point-in : (e j : ℕ) → answerPlace (pointAnswer (pointIn f pointSize e j)) < placeOver
+  point-in : (e j : ℕ) → answerPlace (pointAnswer (pointIn f (sizeOf f) e j)) < placeOver
   point-in e j =
-      if-below pointAnswer (ltb j (pointsIn pointSize (firstOf f e) (lastOf f e))) (point.Point (pointAt f (pointPlace f pointSize e j))) (point.Refused (refusal reason.Question)) (omega arith) (omega arith)
+      if-below pointAnswer (ltb j (pointsIn (sizeOf f) (firstOf f e) (lastOf f e))) (point.Point (pointAt f (sizeOf f) (pointPlace f (sizeOf f) e j))) (point.Refused (refusal reason.Question)) (omega arith) (omega arith)
 
   pub point-place : (i j : ℕ) → answerPlace (pointAnswer (pointOf f i j)) < placeOver
   unfolding pointOf
   point-place i j =
-      let answer = cond (ltb i (countOf f)) (pointIn f pointSize (entryPlace i) j) (point.Refused (refusal reason.Question)) in
+      let answer = cond (ltb i (countOf f)) (pointIn f (sizeOf f) (entryPlace i) j) (point.Refused (refusal reason.Question)) in
       after-below pointAnswer point.Refused (λ t. refl) (geography.verdictOf f) answer (x1-place f)
-      (if-below pointAnswer (ltb i (countOf f)) (pointIn f pointSize (entryPlace i) j) (point.Refused (refusal reason.Question)) (point-in (entryPlace i) j) (omega arith))
+      (if-below pointAnswer (ltb i (countOf f)) (pointIn f (sizeOf f) (entryPlace i) j) (point.Refused (refusal reason.Question)) (point-in (entryPlace i) j) (omega arith))
 
-  on-stretch : (e x : ℕ) (w : Found) → answerPlace (coordinateAnswer (onStretch f pointSize e x w)) < placeOver
+  on-stretch : (e x : ℕ) (w : Found) → answerPlace (coordinateAnswer (onStretch f (sizeOf f) e x w)) < placeOver
   on-stretch e x (At p) = omega arith
   on-stretch e x Absent = omega arith
 
-  on-found : (x : ℕ) (w : Found) → answerPlace (coordinateAnswer (onFound f pointSize x w)) < placeOver
+  on-found : (x : ℕ) (w : Found) → answerPlace (coordinateAnswer (onFound f (sizeOf f) x w)) < placeOver
   unfolding onTrack
   on-found x (At e) =
-      if-below coordinateAnswer (leb x (endPositionOf f e)) (onStretch f pointSize e x (stretchOf f pointSize e x)) (coordinate.Refused (refusal reason.Position))
-      (on-stretch e x (stretchOf f pointSize e x)) (omega arith)
+      if-below coordinateAnswer (leb x (endPositionOf f e)) (onStretch f (sizeOf f) e x (stretchOf f (sizeOf f) e x)) (coordinate.Refused (refusal reason.Position))
+      (on-stretch e x (stretchOf f (sizeOf f) e x)) (omega arith)
   on-found x Absent = omega arith
 
   pub coordinate-place : (number x : ℕ) → answerPlace (coordinateAnswer (coordinateAsked f number x)) < placeOver
   unfolding coordinateAsked
   coordinate-place number x =
-      after-below coordinateAnswer coordinate.Refused (λ t. refl) (geography.verdictOf f) (onFound f pointSize x (findTrack f number)) (x1-place f) (on-found x (findTrack f number))
+      after-below coordinateAnswer coordinate.Refused (λ t. refl) (geography.verdictOf f) (onFound f (sizeOf f) x (findTrack f number)) (x1-place f) (on-found x (findTrack f number))
 
 -- ---- X.2
 

@@ -4,19 +4,21 @@
 use Prim.Native.Nat.{ℕ, _+_, _-_, _≤_, _<_}
 use mathlib.Core.Path.{_≡_, sym, subst}
 use mathlib.Core.Bool.{cond}
-use mathlib.Core.List.{List, [], _++_, flatMap, List·Memᴰ}
+use mathlib.Core.List.{List, [], _∷_, _++_, flatMap, List·Memᴰ}
 use lib.Dec.{ltb, eqb}
 use lib.ListN.{length}
 use native.Mathlib.Omega.{arith}
 use Rattle.verdict.specs.Facts.{AllHold}
 use Rattle.verdict.specs.Reasons.{placeIn}
 use Rattle.envelope.specs.Seal.{mostLength, sealFacts}
-use Rattle.x1_records.specs.Places.{entriesAt, entrySize, pointSize}
-use Rattle.x1_layout.specs.Layout.{endOf, countOf, pointsAt, entries, firstOf, lastOf, isFirst, stopBefore, entryLayout, countLayout, stopLayout, layoutFacts}
+use Rattle.rules.specs.Rules.{lengthBetween}
+use Rattle.x1_records.specs.Places.{entriesAt, entrySize, leastLengthIn}
+use Rattle.x1_records.proofs.Whole.{size-positive}
+use Rattle.x1_layout.specs.Layout.{structureOf, sizeOf, endOf, countOf, pointsAt, entries, firstOf, lastOf, isFirst, stopBefore, entryLayout, countLayout, stopLayout, layoutFacts}
 use Rattle.x1_fields.specs.Fields.{headerFields, entryFields, pointFields}
 use Rattle.x1_verdict.specs.Fields.{allPoints, fieldFacts}
 use Rattle.x1_verdict.specs.Agreement.{numberAgrees, opens, rises, stays, closes, pointAgrees, pointsOf, trackAgrees, agreementFacts}
-use Rattle.x1_verdict.specs.Facts.{fileType, checkFacts, facts, verdictOf}
+use Rattle.x1_verdict.specs.Facts.{fileType, sizedFacts, factsBy, verdictBy, verdictOf}
 use Rattle.x1_obeys.specs.Obeys.{entryPlace, LayoutObeys}
 use Rattle.x1_obeys.proofs.Obeys.{start-entry, entries-iff, layout-iff}
 use Rattle.x2_layout.proofs.Walks.{starts-between}
@@ -97,20 +99,26 @@ module _ (f : List ℕ) (size : ℕ) (most : length f ≤ mostLength) where
 
 -- ---- the file
 
-facts-below : (f : List ℕ) → PlacesBelow placeOver (facts f)
-unfolding facts checkFacts
-facts-below f =
-    let laid = layoutFacts f pointSize in
-    let filled = fieldFacts f pointSize in
-    let agreed = agreementFacts f pointSize in (
+facts-below : (newest : ℕ) (f : List ℕ) → PlacesBelow placeOver (factsBy newest f)
+unfolding factsBy sizedFacts
+facts-below newest f =
+    let size = sizeOf f in
+    let laid = layoutFacts f size in
+    let filled = fieldFacts f size in
+    let agreed = agreementFacts f size in
+    let least = lengthBetween f (leastLengthIn (structureOf f)) mostLength in (
       omega arith,
       λ h.
-          let after = below-append placeOver laid (filled ++ agreed) (layout-below f pointSize (h .1)) (λ l.
-          let o = (layout-iff f pointSize (omega arith)) .0 l in
-          below-both placeOver filled agreed (fields-below f pointSize (h .1) o) (agreement-below f pointSize (h .1) o))
+          let after = below-append placeOver laid (filled ++ agreed) (layout-below f size (h .1)) (λ l.
+          let o = (layout-iff f size (size-positive (structureOf f))) .0 l in
+          below-both placeOver filled agreed (fields-below f size (h .1) o) (agreement-below f size (h .1) o))
           in
-          below-both placeOver (sealFacts f fileType) (laid ++ (filled ++ agreed)) (omega arith) after,
+          below-both placeOver (sealFacts f fileType newest) (least ∷ (laid ++ (filled ++ agreed))) (omega arith) (omega arith, λ _. after),
     )
 
+-- the place of a verdict, whichever structure versions the reader knows
+pub x1-place-by : (newest : ℕ) (f : List ℕ) → placeIn (verdictBy newest f) < placeOver
+x1-place-by newest f = fault-below placeOver (omega arith) (factsBy newest f) (facts-below newest f)
+
 pub x1-place : (f : List ℕ) → placeIn (verdictOf f) < placeOver
-x1-place f = fault-below placeOver (omega arith) (facts f) (facts-below f)
+x1-place = x1-place-by 2

@@ -35,7 +35,7 @@ use Rattle.x2_fields.specs.Fields.{headerFields, entryFields, entriesFields, re
 use Rattle.x2_kinds.specs.KindFields.{sizeByteOf, lastByte, messageEnd, messageFields, kindFields}
 use Rattle.x2_fields.specs.Agreement.{entryAgrees, entriesAgree, kindAgrees, recordAgrees, agreementFacts}
 use Rattle.x2_links.specs.Links.{recordTargets, targetFacts, returns, sameLinks, isMember, recordReturns, returnFacts}
-use Rattle.x2_verdict.specs.Facts.{fileType, recordFacts, checkFacts, facts, verdictOf}
+use Rattle.x2_verdict.specs.Facts.{fileType, newestVersion, recordFacts, checkFacts, facts, verdictOf}
 use Rattle.places.specs.Places.{placeOver, PlacesBelow}
 use Rattle.places.proofs.Lists.{below-append, below-both, below-each, below-if, fault-below}
 
@@ -208,7 +208,7 @@ module _ (f : List ℕ) where
         let o = (layout-obeyed f l) .0 laid in
         checks-below f l most (omega (arith, starts-are, o .start-count)) (omega (arith, ends-are, o .end-count)))
         in
-        below-both placeOver (sealFacts f fileType) (layoutFacts f l ++ recordFacts f l) (omega arith) after,
+        below-both placeOver (sealFacts f fileType newestVersion) (layoutFacts f l ++ recordFacts f l) (omega arith) after,
   )
 
   pub x2-place : placeIn (verdictOf f) < placeOver

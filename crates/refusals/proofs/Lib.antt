@@ -2,3 +2,4 @@ pub mod Places
 pub mod Sections
 pub mod Told
 pub mod TableFails
+pub mod Tells

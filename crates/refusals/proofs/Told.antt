@@ -17,10 +17,10 @@ use Rattle.verdict.specs.Order.{Check, check, Numbered, Answered, fresh}
 use Rattle.refusals.proofs.Sections.{Each, Speaks}
 use Rattle.refusals.proofs.Places.{Located, located-one, Only, only-at}
 
-abbrev numberFor : List Fact → ℕ
+abbrev pub numberFor : List Fact → ℕ
 numberFor fs = numberIn (shownOf (firstFault fs))
 
-abbrev placeFor : List Fact → ℕ
+abbrev pub placeFor : List Fact → ℕ
 placeFor fs = placeIn (shownOf (firstFault fs))
 
 -- what is answered on a list of facts is what the checks say
@@ -29,7 +29,7 @@ pub record Told (fs : List Fact) (cs : List Check) : Type 0 where
   pub answer : (n p : ℕ) → ((numberFor fs ≡ n) × (placeFor fs ≡ p)) ↔ Answered cs n p
 
 -- a section that does not hold: its refusal is that of the whole list, for the section's reason
-record Stops (r : Reason) (a b : List Fact) : Type 0 where
+pub record Stops (r : Reason) (a b : List Fact) : Type 0 where
   pub not-held : AllHold a → ⊥
   pub mark : Mark
   pub own : firstFault a ≡ Refused mark
@@ -37,7 +37,7 @@ record Stops (r : Reason) (a b : List Fact) : Type 0 where
   pub why : mark .reason ≡ r
 
 -- the section holds and the rest counts, or it stops there
-cut : (says : Mark → Claim) (r : Reason) (a b : List Fact) → Each (Speaks says r) a → (AllHold a × (firstFault (a ++ b) ≡ firstFault b)) ⊎ Stops r a b
+pub cut : (says : Mark → Claim) (r : Reason) (a b : List Fact) → Each (Speaks says r) a → (AllHold a × (firstFault (a ++ b) ≡ firstFault b)) ⊎ Stops r a b
 unfolding firstFault AllHold
 cut says r [] b k = inl (tt, refl)
 cut says r (fact c m ∷ fs) b k = go (test c) refl (agrees c) (cut says r fs b (k .1))

@@ -365,7 +365,7 @@ module _ (f : List ℕ) (size : ℕ) (positive : 0 < size) (laid : LayoutObeys f
 -- ---- the file
 
 -- the least length in the file's own structure version, of a file that has the least length in any and not more than the most
-least-iff : (f : List ℕ) → Between place.leastLength mostLength (length f)
+pub least-iff : (f : List ℕ) → Between place.leastLength mostLength (length f)
     → Between (place.leastLengthIn (structureOf f)) mostLength (length f) ↔ (2 ≤ structureOf f → 72 ≤ length f)
 unfolding place.leastLengthIn
 least-iff f b = go (ltb (structureOf f) place.heightsFrom) refl

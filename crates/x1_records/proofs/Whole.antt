@@ -34,6 +34,11 @@ pub size-most : (version : ℕ) → pointSize version ≤ pointSize 2
 unfolding pointSize
 size-most = each-size (λ s. s ≤ pointSize 2) (omega arith) (omega arith)
 
+-- the fields of table 3 stand in it
+pub size-wide : (version : ℕ) → rows.near .offset + rows.near .width ≤ pointSize version
+unfolding pointSize
+size-wide = each-size (λ s. rows.near .offset + rows.near .width ≤ s) (omega arith) (omega arith)
+
 -- THEOREM: the fields of a point are as many bytes as its size is, in every structure version.
 pub point-whole : (version : ℕ) → Tiled 0 (sizedTable (pointSize version)) (pointSize version)
 unfolding pointSize

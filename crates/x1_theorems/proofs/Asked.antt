@@ -13,11 +13,11 @@ use Rattle.verdict.specs.Order.{Check, check, Asked}
 use Rattle.verdict.proofs.Orders.{le-or-lt}
 use Rattle.verdict.proofs.Questions.{asked-is, no-fault, AnswerIs, all-passed, passed, failed}
 use Rattle.envelope.specs.Header.{headerIn, headerValues}
-use Rattle.x1_records.specs.Places as place
+use Rattle.x1_records.proofs.Whole.{size-positive}
 use Rattle.x1_records.specs.Tracks.{trackAt, pointAt, pointsIn}
 use Rattle.x1_layout.specs.Layout.{countOf, firstOf, lastOf}
 use Rattle.x1_verdict.specs.Facts.{verdictOf}
-use Rattle.x1_obeys.specs.Obeys.{entryPlace, pointPlace, Obeys}
+use Rattle.x1_obeys.specs.Obeys.{structureOf, sizeOf, entryPlace, pointPlace, Obeys}
 use Rattle.x1_lookup.specs.Lookup.{numberAt, findTrack}
 use Rattle.x1_lookup.specs.declared.Found.{Found}
 use Rattle.x1_lookup.specs.declared.Found.the-variants.{At, Absent}
@@ -50,11 +50,11 @@ module _ (f : List ℕ) where
 
   -- the answer in an accepted file, by what the test says
   abbrev trackBy : ℕ → Bool → TrackAnswer
-  trackBy i t = cond t (track.Track (trackAt f (entryPlace i))) (track.Refused (refusal reason.Question))
+  trackBy i t = cond t (track.Track (trackAt f (sizeOf f) (entryPlace i))) (track.Refused (refusal reason.Question))
 
   track-own : (i : ℕ) (t : Bool) → ltb i (countOf f) ≡ t → AnswerIs (trackAnswer (trackBy i t)) (trackChecks f i)
   track-own i true e =
-      let values = trackValues (trackAt f (entryPlace i)) in
+      let values = trackValues (trackAt f (sizeOf f) (entryPlace i)) in
       passed (i < countOf f) [] 13 (answered values) (ltb-true i (countOf f) e) (λ z. omega arith) (all-passed values)
   track-own i false e = failed (i < countOf f) [] reason.Question 11 (λ h. let g = ltb-false i (countOf f) e in omega arith)
 
@@ -67,24 +67,24 @@ module _ (f : List ℕ) where
 
   -- how many points track i has
   abbrev points : ℕ → ℕ
-  points i = pointsIn place.pointSize (firstOf f (entryPlace i)) (lastOf f (entryPlace i))
+  points i = pointsIn (sizeOf f) (firstOf f (entryPlace i)) (lastOf f (entryPlace i))
 
   -- the answer in an accepted file, by what the two tests say
   abbrev pointBy : ℕ → ℕ → Bool → Bool → PointAnswer
   pointBy i j t u =
-      cond t (cond u (point.Point (pointAt f (pointPlace f place.pointSize (entryPlace i) j))) (point.Refused (refusal reason.Question))) (point.Refused (refusal reason.Question))
+      cond t (cond u (point.Point (pointAt f (sizeOf f) (pointPlace f (sizeOf f) (entryPlace i) j))) (point.Refused (refusal reason.Question))) (point.Refused (refusal reason.Question))
 
   module _ (o : Obeys f) (i j : ℕ) where
     -- point j of a track stands no further than its last point exactly where it is counted
-    counted : i < countOf f → (j < points i) ↔ (pointPlace f place.pointSize (entryPlace i) j ≤ lastOf f (entryPlace i))
-    counted h = named-iff f place.pointSize (entryPlace i) (omega arith) (track-obeys f o i h) j
+    counted : i < countOf f → (j < points i) ↔ (pointPlace f (sizeOf f) (entryPlace i) j ≤ lastOf f (entryPlace i))
+    counted h = named-iff f (sizeOf f) (entryPlace i) (size-positive (structureOf f)) (track-obeys f o i h) j
 
     point-own : (t u : Bool) → ltb i (countOf f) ≡ t → ltb j (points i) ≡ u → AnswerIs (pointAnswer (pointBy i j t u)) (pointChecks f i j)
-    point-own false u e q = failed (PointNamed f i j) [] reason.Question 5 (λ h. let g = ltb-false i (countOf f) e in let k = h .track in omega arith)
+    point-own false u e q = failed (PointNamed f i j) [] reason.Question 7 (λ h. let g = ltb-false i (countOf f) e in let k = h .track in omega arith)
     point-own true false e q =
-        failed (PointNamed f i j) [] reason.Question 5 (λ h. let g = ltb-false j (points i) q in let k = (counted (h .track)) .1 (h .point) in omega arith)
+        failed (PointNamed f i j) [] reason.Question 7 (λ h. let g = ltb-false j (points i) q in let k = (counted (h .track)) .1 (h .point) in omega arith)
     point-own true true e q =
-        let values = pointValues (pointAt f (pointPlace f place.pointSize (entryPlace i) j)) in
+        let values = pointValues (pointAt f (sizeOf f) (pointPlace f (sizeOf f) (entryPlace i) j)) in
         let there = ltb-true i (countOf f) e in
         passed (PointNamed f i j) [] 13 (answered values) (record { track = there; point = (counted there) .0 (ltb-true j (points i) q) }) (λ z. omega arith) (all-passed values)
 
@@ -139,7 +139,7 @@ module _ (f : List ℕ) where
       → ((answerNumber (coordinateAnswer (coordinateAsked f number x)) ≡ n) × (answerPlace (coordinateAnswer (coordinateAsked f number x)) ≡ p)) ↔ Asked (verdictOf f) (coordinateChecks f number x) n p
   unfolding coordinateAsked
   coordinate-asked number x n p =
-      let a = onFound f place.pointSize x (findTrack f number) in
+      let a = onFound f (sizeOf f) x (findTrack f number) in
       asked-is coordinate.Refused coordinateAnswer (verdictOf f) a (coordinateChecks f number x) (λ t. (refl, refl))
       (λ e.
       subst (λ (r : CoordinateAnswer). AnswerIs (coordinateAnswer r) (coordinateChecks f number x)) (no-fault coordinate.Refused (verdictOf f) a e)

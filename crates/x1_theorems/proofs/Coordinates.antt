@@ -9,9 +9,9 @@ use lib.IntN.{ℤ}
 use native.Mathlib.Omega.{arith}
 use Rattle.verdict.specs.declared.Reason.the-variants as reason
 use Rattle.verdict.proofs.Orders.{le-or-lt}
-use Rattle.x1_records.specs.Places as place
+use Rattle.x1_records.proofs.Whole.{size-positive}
 use Rattle.x1_layout.specs.Layout.{countOf, lastOf}
-use Rattle.x1_obeys.specs.Obeys.{entryPlace, pointPlace, Obeys}
+use Rattle.x1_obeys.specs.Obeys.{structureOf, sizeOf, entryPlace, pointPlace, Obeys}
 use Rattle.rounding.specs.Nearest.{coordinateOf}
 use Rattle.rounding.proofs.Ends.{coordinate-is, coordinate-only, at-start, at-end}
 use Rattle.x1_lookup.specs.Lookup.{numberAt, findTrack}
@@ -141,7 +141,10 @@ module _ (f : List ℕ) (size e : ℕ) (positive : 0 < size) (o : TrackObeys f s
 
 module _ (f : List ℕ) (o : Obeys f) (number e : ℕ) (found : findTrack f number ≡ At e) where
   abbrev size : ℕ
-  size = place.pointSize
+  size = sizeOf f
+
+  positive : 0 < size
+  positive = size-positive (structureOf f)
 
   abbrev end : ℕ
   end = endPositionOf f e
@@ -150,45 +153,45 @@ module _ (f : List ℕ) (o : Obeys f) (number e : ℕ) (found : findTrack f numb
   track = found-obeys f o number e found
 
   on-track : (x : ℕ) → coordinateAsked f number x ≡ onTrack f size e x
-  on-track x = sym (along-track f number x refl ((verdict-obeys f) .1 o) refl found refl)
+  on-track x = sym (along-track f number x refl ((verdict-obeys f) .1 o) refl found refl refl)
 
   -- the answer, on the stretch that is found
-  answered : (x : ℕ) → x ≤ end → (j : ℕ) × Neighbours f size e x j × (coordinateAsked f number x ≡ coordinate.Coordinate (onward f size e (omega arith) track x j))
+  answered : (x : ℕ) → x ≤ end → (j : ℕ) × Neighbours f size e x j × (coordinateAsked f number x ≡ coordinate.Coordinate (onward f size e positive track x j))
   answered x h = by-stretch (stretchOf f size e x) refl
     where
-      by-stretch : (s : Found) → stretchOf f size e x ≡ s → (j : ℕ) × Neighbours f size e x j × (coordinateAsked f number x ≡ coordinate.Coordinate (onward f size e (omega arith) track x j))
-      by-stretch Absent q = absurd (some-stretch f size e (omega arith) track x h q)
+      by-stretch : (s : Found) → stretchOf f size e x ≡ s → (j : ℕ) × Neighbours f size e x j × (coordinateAsked f number x ≡ coordinate.Coordinate (onward f size e positive track x j))
+      by-stretch Absent q = absurd (some-stretch f size e positive track x h q)
       by-stretch (At p) q =
-          let w = found-stretch f size e (omega arith) track x p q in (
+          let w = found-stretch f size e positive track x p q in (
             w .0,
             w .2,
             on-track x
                 ∙ sym (along-stretch f size e x refl h refl q refl)
                 ∙ ap (λ (a : ℕ). coordinate.Coordinate (coordinateOn f size e x a)) (w .1)
-                ∙ ap coordinate.Coordinate (on-points f size e (omega arith) track x (w .0)),
+                ∙ ap coordinate.Coordinate (on-points f size e positive track x (w .0)),
           )
 
   -- THEOREM: at each position up to the end the answer is the nearest to the exact one between two neighbouring points.
   pub coordinate-nearest : (x : ℕ) → x ≤ end → (r : Coordinate) × (coordinateAsked f number x ≡ coordinate.Coordinate r) × CoordinateAt f size e x r
   coordinate-nearest x h =
       let w = answered x h in
-      (onward f size e (omega arith) track x (w .0), w .2, onward-nearest f size e (omega arith) track x (w .0) (w .1))
+      (onward f size e positive track x (w .0), w .2, onward-nearest f size e positive track x (w .0) (w .1))
 
   -- THEOREM: no other coordinate is, whichever two neighbouring points are taken.
   pub coordinate-only-one : (x : ℕ) (r : Coordinate) → CoordinateAt f size e x r → coordinateAsked f number x ≡ coordinate.Coordinate r
   coordinate-only-one x r c =
       let n = c .between in
       let a = n .ahead in
-      let m = position-most f size e (omega arith) track (suc (c .point)) (n .in-track) in
+      let m = position-most f size e positive track (suc (c .point)) (n .in-track) in
       let w = answered x (omega arith) in
-      w .2 ∙ ap coordinate.Coordinate (sym (onward-only f size e (omega arith) track x (w .0) (w .1) r c))
+      w .2 ∙ ap coordinate.Coordinate (sym (onward-only f size e positive track x (w .0) (w .1) r c))
 
   -- THEOREM: at a stored point the answer is that point's own coordinate.
   pub coordinate-at-point : (j : ℕ) → pointPlace f size e j ≤ lastOf f e → coordinateAsked f number (positionOf f (pointPlace f size e j)) ≡ coordinate.Coordinate (pointCoordinate f e (pointPlace f size e j))
   coordinate-at-point j h =
       let x = positionOf f (pointPlace f size e j) in
-      let w = answered x (position-most f size e (omega arith) track j h) in
-      w .2 ∙ ap coordinate.Coordinate (onward-point f size e (omega arith) track x (w .0) (w .1) j h refl)
+      let w = answered x (position-most f size e positive track j h) in
+      w .2 ∙ ap coordinate.Coordinate (onward-point f size e positive track x (w .0) (w .1) j h refl)
 
   -- THEOREM: it is refused for the position exactly beyond the end.
   pub position-refused : (x : ℕ) → (coordinateAsked f number x ≡ coordinate.Refused (refusal reason.Position)) ↔ (end < x)

@@ -100,7 +100,7 @@ module _ (f : List ℕ) (size : ℕ) (positive : 0 < size) where
 
 -- ---- fields
 
-module _ (f : List ℕ) (size : ℕ) (wide : place.pointSize ≤ size) where
+module _ (f : List ℕ) (size : ℕ) (wide : rows.near .offset + rows.near .width ≤ size) where
   point-stands : (p : ℕ) → List·Memᴰ p (allPoints f size) ↔ Stands size (endOf f) (pointsAt f) p
   unfolding allPoints
   point-stands p = fixed-iff size (endOf f) (omega arith) (pointsAt f) p

@@ -3,13 +3,13 @@ use Prim.Native.Nat.{ℕ, zero, suc, _+_, _-_, _*_, _≤_, _<_}
 use mathlib.Core.Path.{_≡_, subst}
 use mathlib.Core.List.{List}
 use native.Mathlib.Omega.{arith}
-use Rattle.x1_records.specs.Places.{pointSize}
-use Rattle.x1_layout.specs.Layout.{countOf, pointsAt, firstOf, lastOf}
-use Rattle.x1_obeys.specs.Obeys.{entryPlace, pointPlace, PointObeys, Obeys}
+use Rattle.x1_records.proofs.Whole.{size-positive}
+use Rattle.x1_layout.specs.Layout.{structureOf, countOf, pointsAt, firstOf, lastOf}
+use Rattle.x1_obeys.specs.Obeys.{sizeOf, entryPlace, pointPlace, PointObeys, Obeys}
 
 module _ (f : List ℕ) (o : Obeys f) where
   -- the first point of track i stands a number of points after where the points start
-  first-whole : (i : ℕ) → i < countOf f → (m : ℕ) × (firstOf f (entryPlace i) ≡ pointsAt f + pointSize * m)
+  first-whole : (i : ℕ) → i < countOf f → (m : ℕ) × (firstOf f (entryPlace i) ≡ pointsAt f + sizeOf f * m)
   first-whole zero h = (0, omega (arith, o .layout .first-due))
   first-whole (suc i) h =
       let before = first-whole i (omega arith) in
@@ -19,10 +19,11 @@ module _ (f : List ℕ) (o : Obeys f) where
       let q = points .1 in
       (before .0 + suc (points .0) + 1, omega arith)
 
-  pub point-obeys : (i j : ℕ) → i < countOf f → pointPlace f pointSize (entryPlace i) j ≤ lastOf f (entryPlace i) → PointObeys f (pointPlace f pointSize (entryPlace i) j)
+  pub point-obeys : (i j : ℕ) → i < countOf f → pointPlace f (sizeOf f) (entryPlace i) j ≤ lastOf f (entryPlace i) → PointObeys f (pointPlace f (sizeOf f) (entryPlace i) j)
   point-obeys i j h l =
       let first = first-whole i h in
       let p = first .1 in
       let fit = o .layout .points-fit i h in
-      let e : pointsAt f + pointSize * (first .0 + j) ≡ pointPlace f pointSize (entryPlace i) j = omega arith in
+      let positive = size-positive (structureOf f) in
+      let e : pointsAt f + sizeOf f * (first .0 + j) ≡ pointPlace f (sizeOf f) (entryPlace i) j = omega arith in
       subst (PointObeys f) e (o .fields .each-point (first .0 + j) (omega arith))

@@ -7,6 +7,7 @@ use mathlib.Core.Logic.{⊎-elim}
 use mathlib.Core.List.{List}
 use lib.Dec.{ltb}
 use lib.IntN.{ℤ, natAbs, _+ℤ_, _-ℤ_, +ℤ-comm, +ℤ-negℤ-cancel}
+use native.Mathlib.Nat.{mul-suc, le-div-iff-mul-le, div-le-self}
 use native.Mathlib.Omega.{arith}
 use borrow.Author.Tests.{ltb-true, le-ltb}
 use Rattle.verdict.specs.declared.Reason.the-variants as reason
@@ -19,14 +20,14 @@ use Rattle.envelope.specs.declared.Header.{Header}
 use Rattle.envelope.specs.Header.{headerIn}
 use Rattle.envelope.specs.Seal.{mostLength}
 use Rattle.tables.specs.Table.{signedOf}
-use Rattle.x1_records.specs.Places.{pointSize}
+use Rattle.x1_records.proofs.Whole.{size-positive}
 use Rattle.x1_records.specs.Rows as rows
 use Rattle.x1_records.specs.Tracks.{trackAt, pointAt, pointsIn}
 use Rattle.x1_records.specs.declared.Track.{Track}
 use Rattle.x1_records.specs.declared.Point.{Point}
 use Rattle.x1_layout.specs.Layout.{countOf, firstOf, lastOf}
 use Rattle.x1_verdict.specs.Facts.{verdictOf}
-use Rattle.x1_obeys.specs.Obeys.{Between, Within, entryPlace, pointPlace, Obeys}
+use Rattle.x1_obeys.specs.Obeys.{Between, Within, structureOf, sizeOf, entryPlace, pointPlace, Obeys}
 use Rattle.rounding.proofs.Ends.{coordinate-only, coordinate-size}
 use Rattle.rounding.proofs.Sizes.{minus-size}
 use Rattle.x1_lookup.specs.Lookup.{findTrack}
@@ -50,7 +51,7 @@ use Rattle.x1_theorems.proofs.Coordinates.{coordinate-nearest, position
 -- ---- the ranges
 
 pub record HeaderRange (h : Header) : Type 0 where
-  pub structure : h .structure ≡ 1
+  pub structure : Between 1 2 (h .structure)
   pub version : Between 1 65535 (h .«data»)
   pub station : Between 1 65535 (h .station)
 
@@ -66,7 +67,7 @@ pub record TrackRange (t : Track) : Type 0 where
   -- the places of the first and the last point, in the file, and how many points there are
   pub first : t .first < t .last
   pub last : t .last ≤ mostLength
-  pub points : Between 2 mostLength (pointsIn pointSize (t .first) (t .last))
+  pub points : Between 2 mostLength (pointsIn (t .«point_size») (t .first) (t .last))
 
 pub record PointRange (p : Point) : Type 0 where
   pub position : Between 0 2147483647 (p .position)
@@ -110,11 +111,19 @@ module _ (f : List ℕ) where
       let never : (u : Fault) → track.Refused u ≡ track.Track t → ⊥ = λ u q. some-number (u .reason) (ap answerNumber (ap trackAnswer q)) in
       let a = accepted-by track.Refused (verdictOf f) (trackIn f i) (track.Track t) never e in
       let o = (verdict-obeys f) .0 (a .0) in
-      let c = chosen (ltb i (countOf f)) (track.Track (trackAt f (entryPlace i))) (track.Refused (refusal reason.Question)) (track.Track t) (never (refusal reason.Question)) (a .1) in
+      let c = chosen (ltb i (countOf f)) (track.Track (trackAt f (sizeOf f) (entryPlace i))) (track.Refused (refusal reason.Question)) (track.Track t) (never (refusal reason.Question)) (a .1) in
       let there = ltb-true i (countOf f) (c .0) in
-      let same : trackAt f (entryPlace i) ≡ t = let q = c .1 in cc in
+      let same : trackAt f (sizeOf f) (entryPlace i) ≡ t = let q = c .1 in cc in
       let entry = o .fields .each-entry i there in
-      let spread = o .layout .two-points i there .1 in
+      let spread = o .layout .two-points i there in
+      let far = spread .1 in
+      let size = sizeOf f in
+      let positive = size-positive (structureOf f) in
+      let grown = mul-suc size (spread .0) in
+      let apart = lastOf f (entryPlace i) - firstOf f (entryPlace i) in
+      let some = le-div-iff-mul-le {k = size} {x = 1} {y = apart} positive in
+      let few = div-le-self apart size in
+      let one = some .1 (omega arith) in
       let fit = o .layout .points-fit i there in
       let most = o .most in
       subst TrackRange same (record {
@@ -137,16 +146,16 @@ module _ (f : List ℕ) where
       let never : (u : Fault) → point.Refused u ≡ point.Point p → ⊥ = λ u q. some-number (u .reason) (ap answerNumber (ap pointAnswer q)) in
       let none = never (refusal reason.Question) in
       let at = entryPlace i in
-      let here = pointPlace f pointSize at j in
-      let in-track = cond (ltb i (countOf f)) (pointIn f pointSize at j) (point.Refused (refusal reason.Question)) in
+      let here = pointPlace f (sizeOf f) at j in
+      let in-track = cond (ltb i (countOf f)) (pointIn f (sizeOf f) at j) (point.Refused (refusal reason.Question)) in
       let a = accepted-by point.Refused (verdictOf f) in-track (point.Point p) never e in
       let o = (verdict-obeys f) .0 (a .0) in
-      let c = chosen (ltb i (countOf f)) (pointIn f pointSize at j) (point.Refused (refusal reason.Question)) (point.Point p) none (a .1) in
-      let d = chosen (ltb j (pointsIn pointSize (firstOf f at) (lastOf f at))) (point.Point (pointAt f here)) (point.Refused (refusal reason.Question)) (point.Point p) none (c .1) in
+      let c = chosen (ltb i (countOf f)) (pointIn f (sizeOf f) at j) (point.Refused (refusal reason.Question)) (point.Point p) none (a .1) in
+      let d = chosen (ltb j (pointsIn (sizeOf f) (firstOf f at) (lastOf f at))) (point.Point (pointAt f (sizeOf f) here)) (point.Refused (refusal reason.Question)) (point.Point p) none (c .1) in
       let there = ltb-true i (countOf f) (c .0) in
       let track = track-obeys f o i there in
-      let counted = (named-iff f pointSize at (omega arith) track j) .0 (ltb-true j (pointsIn pointSize (firstOf f at) (lastOf f at)) (d .0)) in
-      let same : pointAt f here ≡ p = let q = d .1 in cc in
+      let counted = (named-iff f (sizeOf f) at (size-positive (structureOf f)) track j) .0 (ltb-true j (pointsIn (sizeOf f) (firstOf f at) (lastOf f at)) (d .0)) in
+      let same : pointAt f (sizeOf f) here ≡ p = let q = d .1 in cc in
       let fields = point-obeys f o i j there counted in
       subst PointRange same (record {
         position = fields .position;
@@ -158,22 +167,22 @@ module _ (f : List ℕ) where
 
 -- ---- the coordinate: no farther from 0 than the two points that it lies between
 
-module _ (f : List ℕ) (e x : ℕ) (o : TrackObeys f pointSize e) where
-  on-way : (y : ℕ → ℤ) (limit : ℕ) → ((j : ℕ) → pointPlace f pointSize e j ≤ lastOf f e → Within limit (y (pointPlace f pointSize e j)))
-      → (j : ℕ) → Neighbours f pointSize e x j → (r : ℤ) → NearestAt f y x (pointPlace f pointSize e j) (pointPlace f pointSize e (suc j)) r → Within limit r
+module _ (f : List ℕ) (e x : ℕ) (o : TrackObeys f (sizeOf f) e) where
+  on-way : (y : ℕ → ℤ) (limit : ℕ) → ((j : ℕ) → pointPlace f (sizeOf f) e j ≤ lastOf f e → Within limit (y (pointPlace f (sizeOf f) e j)))
+      → (j : ℕ) → Neighbours f (sizeOf f) e x j → (r : ℤ) → NearestAt f y x (pointPlace f (sizeOf f) e j) (pointPlace f (sizeOf f) e (suc j)) r → Within limit r
   on-way y limit within j n r h =
-      let from = pointPlace f pointSize e j in
-      let to = pointPlace f pointSize e (suc j) in
+      let from = pointPlace f (sizeOf f) e j in
+      let to = pointPlace f (sizeOf f) e (suc j) in
       let rises = o .agrees .rising j (n .in-track) in
       let ahead = n .ahead in
       let past = x - positionOf f from in
       let long = positionOf f to - positionOf f from in
       let same = coordinate-only (y from) (y to) past long h (omega arith) in
-      let near = coordinate-size (y from) (y to) past long (omega arith) (omega arith) limit (within j (point-in f pointSize e (omega arith) o x j n)) (within (suc j) (n .in-track)) in
+      let near = coordinate-size (y from) (y to) past long (omega arith) (omega arith) limit (within j (point-in f (sizeOf f) e (size-positive (structureOf f)) o x j n)) (within (suc j) (n .in-track)) in
       let size = ap natAbs same in
       omega arith
 
-  at-range : (r : Coordinate) → CoordinateAt f pointSize e x r → CoordinateRange r
+  at-range : (r : Coordinate) → CoordinateAt f (sizeOf f) e x r → CoordinateRange r
   at-range r c = record {
     latitude = on-way (latitudeOf f e) 324000000 (o .agrees .latitudes) (c .point) (c .between) (r .latitude) (c .latitude);
     longitude = on-way (longitudeOf f e) 648000000 (o .agrees .longitudes) (c .point) (c .between) (r .longitude) (c .longitude);
@@ -182,7 +191,7 @@ module _ (f : List ℕ) (e x : ℕ) (o : TrackObeys f pointSize e) where
 answered-of : (f : List ℕ) (number x : ℕ) (r : Coordinate) → coordinateAsked f number x ≡ coordinate.Coordinate r → verdictOf f ≡ verdict.Accepted
 unfolding coordinateAsked
 answered-of f number x r e =
-    accepted-by coordinate.Refused (verdictOf f) (onFound f pointSize x (findTrack f number)) (coordinate.Coordinate r)
+    accepted-by coordinate.Refused (verdictOf f) (onFound f (sizeOf f) x (findTrack f number)) (coordinate.Coordinate r)
     (λ u q. some-number (u .reason) (ap answerNumber (ap coordinateAnswer q))) e .0
 
 pub coordinate-range : (f : List ℕ) (number x : ℕ) (r : Coordinate) → coordinateAsked f number x ≡ coordinate.Coordinate r → CoordinateRange r

@@ -14,12 +14,12 @@ use Rattle.verdict.proofs.Facts.{marked-append}
 use Rattle.refusals.proofs.Sections.{Each, Speaks, each-append, each-flat, each-if, marked}
 use Rattle.rules.specs.Rules.{lengthBetween, Names}
 use Rattle.envelope.specs.Seal.{mostLength, sealFacts}
-use Rattle.x1_records.specs.Places.{entrySize, leastLength, pointSize}
-use Rattle.x1_layout.specs.Layout.{pointsAt, firstOf, lastOf, isFirst, entries, entryLayout, countLayout, stopLayout, layoutFacts}
+use Rattle.x1_records.specs.Places.{entrySize, leastLength, leastLengthIn}
+use Rattle.x1_layout.specs.Layout.{structureOf, sizeOf, pointsAt, firstOf, lastOf, isFirst, entries, entryLayout, countLayout, stopLayout, layoutFacts}
 use Rattle.x1_fields.specs.Fields.{headerFields, entryFields, pointFields}
 use Rattle.x1_verdict.specs.Fields.{allPoints, fieldFacts}
 use Rattle.x1_verdict.specs.Agreement.{numberAgrees, opens, rises, stays, closes, pointAgrees, pointsOf, trackAgrees, agreementFacts}
-use Rattle.x1_verdict.specs.Facts.{fileType, checkFacts, facts}
+use Rattle.x1_verdict.specs.Facts.{fileType, sizedFacts, factsBy}
 use Rattle.x1_theorems.specs.Says.{saysOf}
 
 -- each fact has this reason and is the claim that its mark names
@@ -104,18 +104,18 @@ module _ (f : List ℕ) (size : ℕ) where
       each-point P e p (refl, (refl, (refl, (refl, tt)))) (refl, tt) (refl, (refl, tt)) (refl, (refl, (refl, tt))))
 
 -- each fact of a file is the claim that its mark names
-pub facts-marked : (f : List ℕ) → Marked (saysOf f) (facts f)
-unfolding facts checkFacts
-facts-marked f =
+pub facts-marked : (newest : ℕ) (f : List ℕ) → Marked (saysOf f) (factsBy newest f)
+unfolding factsBy sizedFacts
+facts-marked newest f =
     let s = saysOf f in
-    let laid = layoutFacts f pointSize in
-    let filled = fieldFacts f pointSize in
-    let agreed = agreementFacts f pointSize in
+    let laid = layoutFacts f (sizeOf f) in
+    let filled = fieldFacts f (sizeOf f) in
+    let agreed = agreementFacts f (sizeOf f) in
     let rest =
-    marked-append s laid (filled ++ agreed) (marked s Layout laid (layout-speaks f pointSize))
-    (marked-append s filled agreed (marked s Field filled (fields-speak f pointSize)) (marked s Agreement agreed (agreement-speaks f pointSize)))
+    marked-append s laid (filled ++ agreed) (marked s Layout laid (layout-speaks f (sizeOf f)))
+    (marked-append s filled agreed (marked s Field filled (fields-speak f (sizeOf f))) (marked s Agreement agreed (agreement-speaks f (sizeOf f))))
     in
-    (refl, (refl, (refl, (refl, rest))))
+    (refl, (refl, (refl, (refl, (refl, rest)))))
 
 -- ---- where their records start
 
@@ -123,11 +123,13 @@ facts-marked f =
 abbrev pub Started : ℕ → List Fact → Type 0
 Started at = Each (λ c m. m .start ≡ at)
 
-module _ (f : List ℕ) (size : ℕ) where
+module _ (newest : ℕ) (f : List ℕ) where
   -- LAW: the header starts at 0. So do the marks of the file as a whole: of its length and its checksum.
-  pub header-starts : Started 0 (lengthBetween f leastLength mostLength ∷ sealFacts f fileType) × (Started 0 (countLayout f) × Started 0 (headerFields f))
-  header-starts = ((refl, (refl, (refl, (refl, tt)))), ((refl, (refl, tt)), (refl, (refl, tt))))
+  pub header-starts : Started 0 (lengthBetween f leastLength mostLength ∷ sealFacts f fileType newest)
+      × (Started 0 (lengthBetween f (leastLengthIn (structureOf f)) mostLength ∷ []) × (Started 0 (countLayout f) × Started 0 (headerFields f)))
+  header-starts = ((refl, (refl, (refl, (refl, tt)))), ((refl, tt), ((refl, (refl, tt)), (refl, (refl, tt)))))
 
+module _ (f : List ℕ) (size : ℕ) where
   -- LAW: the marks of an entry have the entry's start.
   pub entry-starts : (e : ℕ) → Started e (entryLayout f size e) × (Started e (entryFields f e) × Started e (numberAgrees f e))
   entry-starts e = (

@@ -4,9 +4,8 @@ use Prim.Native.Nat.{ℕ, _≤_, _<_}
 use mathlib.Core.Path.{_≡_}
 use mathlib.Core.List.{List, [], _∷_}
 use Rattle.verdict.specs.Order.{Check, check}
-use Rattle.x1_records.specs.Places as place
 use Rattle.x1_layout.specs.Layout.{countOf, lastOf}
-use Rattle.x1_obeys.specs.Obeys.{entryPlace, pointPlace}
+use Rattle.x1_obeys.specs.Obeys.{sizeOf, entryPlace, pointPlace}
 use Rattle.x1_lookup.specs.Lookup.{numberAt}
 use Rattle.x1_questions.specs.Stretch.{endPositionOf}
 
@@ -16,7 +15,7 @@ use Rattle.x1_questions.specs.Stretch.{endPositionOf}
 -- 01: Ask.2
 pub record PointNamed (f : List ℕ) (i j : ℕ) : Type 0 where
   pub track : i < countOf f
-  pub point : pointPlace f place.pointSize (entryPlace i) j ≤ lastOf f (entryPlace i)
+  pub point : pointPlace f (sizeOf f) (entryPlace i) j ≤ lastOf f (entryPlace i)
 
 -- a track of the file has the number
 -- 01: Ask.3

@@ -14,7 +14,7 @@ use Rattle.tables.specs.Rows.{RowAtFault}
 use Rattle.x1_records.specs.Rows.{entryTable, pointTable}
 use Rattle.x1_layout.specs.Layout.{endOf, countOf, pointsAt, firstOf, lastOf}
 use Rattle.x1_fields.specs.Fields.{headerTable}
-use Rattle.x1_obeys.specs.Obeys.{Between, Within, entryPlace, pointPlace, LayoutObeys, FieldsObey, AgreementObeys}
+use Rattle.x1_obeys.specs.Obeys.{Between, Within, structureOf, sizeOf, entryPlace, pointPlace, LayoutObeys, FieldsObey, AgreementObeys}
 
 -- ---- layout: the count; then by track, the first offset and the last one; at last, where the points stop
 
@@ -107,16 +107,21 @@ pub data TrackAtFault (f : List ℕ) (size i p : ℕ) : Type 0 where
       → (PointAgrees f size (entryPlace i) j → ⊥)
       → TrackAtFault f size i p
 
--- ---- 01's table
+-- ---- 01's table, with ticket 11 of 02: the structure version is one that the reader knows, and a file with heights has its own least length
 
 -- 01: No.1, No.2, No.3, No.4, No.6, No.5, No.7, Order.1
-abbrev pub checks : List ℕ → List Check
-checks f =
+abbrev pub checksBy : ℕ → List ℕ → List Check
+checksBy newest f =
     check 1 (Between 68 65535 (length f)) (λ p. p ≡ 0)
     ∷ check 2 (numAt 4 f (endOf f) ≡ checksumOf (take (endOf f) f)) (λ p. p ≡ endOf f)
     ∷ check 3 (numAt 1 f 0 ≡ 1) (λ p. p ≡ 0)
-    ∷ check 4 (numAt 2 f 1 ≡ 1) (λ p. p ≡ 1)
-    ∷ check 6 (LayoutObeys f 13) (LayoutPlace f 13)
-    ∷ check 5 (FieldsObey f 13) (Lowest (FieldAtFault f 13))
-    ∷ check 7 (AgreementObeys f 13) (InFirst (countOf f) (TrackAtFault f 13))
+    ∷ check 4 (Between 1 newest (numAt 2 f 1)) (λ p. p ≡ 1)
+    ∷ check 1 (2 ≤ structureOf f → 72 ≤ length f) (λ p. p ≡ 0)
+    ∷ check 6 (LayoutObeys f (sizeOf f)) (LayoutPlace f (sizeOf f))
+    ∷ check 5 (FieldsObey f (sizeOf f)) (Lowest (FieldAtFault f (sizeOf f)))
+    ∷ check 7 (AgreementObeys f (sizeOf f)) (InFirst (countOf f) (TrackAtFault f (sizeOf f)))
     ∷ []
+
+-- the same of the reader that users have, which knows the versions 1 and 2
+abbrev pub checks : List ℕ → List Check
+checks = checksBy 2

@@ -2,7 +2,7 @@
 use Prim.Native.Nat.{ℕ}
 use mathlib.Core.Path.{_≡_, refl, ap}
 use mathlib.Core.Logic.{_↔_}
-use mathlib.Core.List.{List, _∷_, _++_}
+use mathlib.Core.List.{List, [], _∷_, _++_}
 use lib.ListN.{take}
 use Rattle.octets.specs.declared.Width.the-variants.{One, Two, Four}
 use Rattle.checksum.specs.Checksum.{checksumOf}
@@ -10,12 +10,13 @@ use Rattle.verdict.specs.declared.Mark.{Mark}
 use Rattle.verdict.specs.declared.Judged.{Judged}
 use Rattle.verdict.specs.declared.Judged.the-variants.{Refused}
 use Rattle.verdict.specs.declared.Reason.the-variants.{Length, Checksum, FileType, Structure, Layout, Field, Agreement, Target, Return}
+use Rattle.verdict.specs.Facts.{AllHold}
 use Rattle.verdict.specs.Reasons.{numberOf, shownOf, numberIn, placeIn}
 use Rattle.verdict.specs.Order.{check, Numbered, Answered, Lowest}
-use Rattle.refusals.proofs.Places.{only-lowest}
+use Rattle.refusals.proofs.Places.{located-one, only-at, only-lowest}
 use Rattle.refusals.proofs.Told.{Told, section, last-section, one-fact, drop}
-use Rattle.rules.specs.Rules.{lengthBetween, isNumber}
-use Rattle.envelope.specs.Seal.{mostLength, typeAt, structureAt, endOf}
+use Rattle.rules.specs.Rules.{lengthBetween, isNumber, between}
+use Rattle.envelope.specs.Seal.{mostLength, typeAt, structureAt, endOf, structureOf}
 use Rattle.x2_layout.specs.Layout.{layoutOf}
 use Rattle.x2_layout.specs.Facts.{layoutFacts}
 use Rattle.x2_layout.specs.Obeys.{LayoutObeys}
@@ -41,8 +42,9 @@ use Rattle.x2_theorems.specs.LinkSays.{targetSays, returnSays}
 use Rattle.x2_obeys.proofs.Links.{targets-iff, returns-iff}
 use Rattle.x2_theorems.proofs.LinkSpeaks.{targets-speak, returns-speak}
 use Rattle.x2_theorems.proofs.LinkPlaces.{targets-located, returns-located}
-use Rattle.x2_verdict.specs.Facts.{leastLength, fileType, recordFacts, checkFacts, facts, judgedOf, verdictOf}
+use Rattle.x2_verdict.specs.Facts.{leastLength, fileType, newestVersion, recordFacts, checkFacts, facts, judgedOf, verdictOf}
 use Rattle.x2_verdict.specs.Obeys.{Obeys}
+use Rattle.x2_verdict.proofs.Obeys.{one-iff}
 use Rattle.x2_theorems.specs.Checks.{checks}
 use Rattle.x2_theorems.specs.Says.{sealSays}
 
@@ -61,6 +63,10 @@ module _ (f : List ℕ) where
       section (targetSays f l) Target (targetFacts f l) (returnFacts f l) (TargetsObey f l) (Lowest (TargetAtFault f l)) (drop 8 (checks f)) (targets-iff f l) (targets-located f l r) (only-lowest (TargetAtFault f l)) (targets-speak f l) refl (λ _.
       last-section (returnSays f l) Return (returnFacts f l) (ReturnsObey f l) (Lowest (ReturnAtFault f l)) (returns-iff f l (some-boundary r)) (returns-located f l r) (only-lowest (ReturnAtFault f l)) (returns-speak f l) refl)))
 
+  version-iff : AllHold (between Structure f 0 structureAt Two 1 newestVersion ∷ []) ↔ (structureOf f ≡ 1)
+  unfolding AllHold
+  version-iff = let one = one-iff (structureOf f) in (λ h. one .0 (h .0), λ e. (one .1 e, tt))
+
   told : Told (facts f) (checks f)
   unfolding facts checkFacts
   told =
@@ -73,7 +79,7 @@ module _ (f : List ℕ) where
       one-fact (sealSays f) Length length-fact (sum-fact ∷ type-fact ∷ version-fact ∷ rest) (drop 1 (checks f)) ((refl, refl), tt) refl
       (one-fact (sealSays f) Checksum sum-fact (type-fact ∷ version-fact ∷ rest) (drop 2 (checks f)) ((refl, refl), tt) refl
       (one-fact (sealSays f) FileType type-fact (version-fact ∷ rest) (drop 3 (checks f)) ((refl, refl), tt) refl
-      (section (sealSays f) Structure (version-fact ∷ []) rest (structureOf f ≡ 1) (λ p. p ≡ structureAt) (drop 4 (checks f)) (version-iff f) (located-one structureAt (version-fact ∷ []) (refl, tt)) (only-at structureAt) ((refl, refl), tt) refl (λ _.
+      (section (sealSays f) Structure (version-fact ∷ []) rest (structureOf f ≡ 1) (λ p. p ≡ structureAt) (drop 4 (checks f)) version-iff (located-one structureAt (version-fact ∷ []) (refl, tt)) (only-at structureAt) ((refl, refl), tt) refl (λ _.
       section (layoutSays f) Layout (layoutFacts f l) (recordFacts f l) (LayoutObeys f l) (LayoutPlace f l) (drop 5 (checks f)) (layout-obeyed f l) (layout-located f l) (only-layout f l) (layout-speak f l) refl (λ o.
       of-records (regions f o))))))
 
