@@ -6,3 +6,5 @@ pub mod Coordinates
 pub mod Asked
 pub mod Points
 pub mod Ranges
+pub mod Base
+pub mod Heights

@@ -140,24 +140,38 @@ module _ (f : List ℕ) where
         points = rw (le-ltb (lastOf f (entryPlace i)) (firstOf f (entryPlace i)) (omega arith)) (omega arith, omega arith);
       })
 
-  pub point-range : (i j : ℕ) (p : Point) → pointOf f i j ≡ point.Point p → PointRange p
-  unfolding pointOf pointAt
-  point-range i j p e =
+  -- a point that is handed out is one of an accepted file, and what stands at its place
+  pub record Handed (i j : ℕ) (p : Point) : Type 0 where
+    pub accepted : verdictOf f ≡ verdict.Accepted
+    pub track : i < countOf f
+    pub point : j < pointsIn (sizeOf f) (firstOf f (entryPlace i)) (lastOf f (entryPlace i))
+    pub same : pointAt f (sizeOf f) (pointPlace f (sizeOf f) (entryPlace i) j) ≡ p
+
+  pub point-handed : (i j : ℕ) (p : Point) → pointOf f i j ≡ point.Point p → Handed i j p
+  unfolding pointOf
+  point-handed i j p e =
       let never : (u : Fault) → point.Refused u ≡ point.Point p → ⊥ = λ u q. some-number (u .reason) (ap answerNumber (ap pointAnswer q)) in
       let none = never (refusal reason.Question) in
       let at = entryPlace i in
-      let here = pointPlace f (sizeOf f) at j in
       let in-track = cond (ltb i (countOf f)) (pointIn f (sizeOf f) at j) (point.Refused (refusal reason.Question)) in
       let a = accepted-by point.Refused (verdictOf f) in-track (point.Point p) never e in
-      let o = (verdict-obeys f) .0 (a .0) in
       let c = chosen (ltb i (countOf f)) (pointIn f (sizeOf f) at j) (point.Refused (refusal reason.Question)) (point.Point p) none (a .1) in
-      let d = chosen (ltb j (pointsIn (sizeOf f) (firstOf f at) (lastOf f at))) (point.Point (pointAt f (sizeOf f) here)) (point.Refused (refusal reason.Question)) (point.Point p) none (c .1) in
-      let there = ltb-true i (countOf f) (c .0) in
+      let points = pointsIn (sizeOf f) (firstOf f at) (lastOf f at) in
+      let d = chosen (ltb j points) (point.Point (pointAt f (sizeOf f) (pointPlace f (sizeOf f) at j))) (point.Refused (refusal reason.Question)) (point.Point p) none (c .1) in
+      record { accepted = a .0; track = ltb-true i (countOf f) (c .0); point = ltb-true j points (d .0); same = let q = d .1 in cc }
+
+  pub point-range : (i j : ℕ) (p : Point) → pointOf f i j ≡ point.Point p → PointRange p
+  unfolding pointAt
+  point-range i j p e =
+      let w = point-handed i j p e in
+      let at = entryPlace i in
+      let here = pointPlace f (sizeOf f) at j in
+      let o = (verdict-obeys f) .0 (w .accepted) in
+      let there = w .track in
       let track = track-obeys f o i there in
-      let counted = (named-iff f (sizeOf f) at (size-positive (structureOf f)) track j) .0 (ltb-true j (pointsIn (sizeOf f) (firstOf f at) (lastOf f at)) (d .0)) in
-      let same : pointAt f (sizeOf f) here ≡ p = let q = d .1 in cc in
+      let counted = (named-iff f (sizeOf f) at (size-positive (structureOf f)) track j) .0 (w .point) in
       let fields = point-obeys f o i j there counted in
-      subst PointRange same (record {
+      subst PointRange (w .same) (record {
         position = fields .position;
         latitude-increment = step-size (signedOf f at rows.startLatitude) (signedOf f here rows.latitudeIncrement) 324000000 (track .entry .start-latitude) (track .agrees .latitudes j counted);
         longitude-increment = step-size (signedOf f at rows.startLongitude) (signedOf f here rows.longitudeIncrement) 648000000 (track .entry .start-longitude) (track .agrees .longitudes j counted);

@@ -1,3 +1,5 @@
 pub mod Faults
 pub mod Says
 pub mod Asked
+pub mod Base
+pub mod Heights
