@@ -3,3 +3,4 @@ pub mod Numbers
 pub mod Whole
 pub mod Plain
 pub mod Speaks
+pub mod Base

@@ -1,3 +1,4 @@
 pub mod Obeys
 pub mod Faults
 pub mod Says
+pub mod Base
