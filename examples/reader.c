@@ -1,5 +1,5 @@
 /* An example of the C library: reads a station's two files and prints the verdict of the pair, the headers, the first track, the coordinate
- * in the middle of that track, the record after the header of the X.2, the signal that it links to, and the routes from it.
+ * in the middle of that track, its last point, the record after the header of the X.2, the signal that it links to, and the routes from it.
  *
  *     tools/library && target/libyard/reader examples/1.1 examples/1.2 */
 #include <inttypes.h>
@@ -71,7 +71,20 @@ static void print_header2(void)
     putchar('\n');
 }
 
-/* Prints the first track, and the coordinate in its middle. */
+/* Prints a point of the first track, and its height if it has one. */
+static void print_point(uint32_t index)
+{
+    uint8_t point[YARD_POINT_SIZE];
+    if (refused("point", yard_point(first.bytes, first.length, 0, index, point, sizeof point)))
+        return;
+    printf("point %" PRIu32 " of track 0: position %" PRIu32 " cm, ", index, yard_unsigned(point, YARD_POINT_POSITION));
+    if (yard_unsigned(point, YARD_POINT_HAS_HEIGHT))
+        printf("height %" PRId32 " dm\n", yard_signed(point, YARD_POINT_HEIGHT));
+    else
+        puts("no height");
+}
+
+/* Prints the first track, the coordinate in its middle, and its last point. */
 static void print_track(void)
 {
     uint8_t track[YARD_TRACK_SIZE], coordinate[YARD_COORDINATE_SIZE];
@@ -83,6 +96,7 @@ static void print_track(void)
         return;
     printf("track %" PRIu32 " at %" PRIu32 " cm: latitude %" PRId32 ", longitude %" PRId32 "\n", number, end / 2,
            yard_signed(coordinate, YARD_COORDINATE_LATITUDE), yard_signed(coordinate, YARD_COORDINATE_LONGITUDE));
+    print_point(yard_unsigned(track, YARD_TRACK_POINTS) - 1);
 }
 
 /* Where the records of an X.2 start, by its two boundary counts. */

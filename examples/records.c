@@ -5,7 +5,7 @@
 
 #include "core/checksum.h"
 
-enum { STRUCTURE_VERSION = 1, ROOM = 4096 };
+enum { ROOM = 4096 };
 
 static uint8_t file[ROOM];
 static size_t length;
@@ -39,19 +39,19 @@ int write_file(void)
 
 /* ---- both files */
 
-void put_opening(enum file_type type, unsigned data_version, unsigned station)
+void put_opening(enum file_type type, enum structure version, unsigned data_version, unsigned station)
 {
     put(type, 1);
-    put(STRUCTURE_VERSION, 2);
+    put(version, 2);
     put(data_version, 2);
     put(station, 2);
 }
 
 /* ---- X.1, tables 2 and 3 */
 
-enum { TRACK_SIZE = 30, POINT_SIZE = 13, TRACKS_PLACE = 8 };
+enum { TRACK_SIZE = 30, POINT_SIZE = 13, HEIGHT_SIZE = 2, TRACKS_PLACE = 8 };
 
-static void put_track(const track *t, unsigned first)
+static void put_track(const track *t, unsigned first, unsigned point_size)
 {
     const point *last = &t->at[t->points - 1];
     put(t->number, 1);
@@ -63,7 +63,7 @@ static void put_track(const track *t, unsigned first)
     put((uint32_t)(t->latitude + last->latitude), 4);
     put((uint32_t)(t->longitude + last->longitude), 4);
     put(first, 2);
-    put(first + (t->points - 1) * POINT_SIZE, 2);
+    put(first + (t->points - 1) * point_size, 2);
 }
 
 static void put_point(const point *p)
@@ -75,17 +75,21 @@ static void put_point(const point *p)
     put(p->near, 1);
 }
 
-void put_tracks(const track *tracks, unsigned count)
+void put_tracks(const track *tracks, unsigned count, const track_heights *heights)
 {
     unsigned first = TRACKS_PLACE + count * TRACK_SIZE;
+    unsigned point_size = heights == NULL ? POINT_SIZE : POINT_SIZE + HEIGHT_SIZE;
     put(count, 1);
     for (unsigned i = 0; i < count; i++) {
-        put_track(&tracks[i], first);
-        first += tracks[i].points * POINT_SIZE;
+        put_track(&tracks[i], first, point_size);
+        first += tracks[i].points * point_size;
     }
     for (unsigned i = 0; i < count; i++)
-        for (unsigned k = 0; k < tracks[i].points; k++)
+        for (unsigned k = 0; k < tracks[i].points; k++) {
             put_point(&tracks[i].at[k]);
+            if (heights != NULL)
+                put((uint32_t)heights[i][k], HEIGHT_SIZE);
+        }
 }
 
 /* ---- X.2, tables 5 to 12 */

@@ -24,7 +24,10 @@ int write_file(void);
 
 enum file_type { GEOGRAPHY = 1, APPLICATION = 2 };
 
-void put_opening(enum file_type type, unsigned data_version, unsigned station);
+/* Structure versions: points have heights in an X.1 of version 2; an X.2 has version 1. */
+enum structure { VERSION_1 = 1, VERSION_2 = 2 };
+
+void put_opening(enum file_type type, enum structure version, unsigned data_version, unsigned station);
 
 /* ---- X.1, tables 2 and 3 */
 
@@ -46,8 +49,12 @@ typedef struct {
     point at[MOST_POINTS];
 } track;
 
-/* The track count, the tracks' entries and all their points. */
-void put_tracks(const track *tracks, unsigned count);
+/* The heights of a track's points, in decimetres. */
+typedef int32_t track_heights[MOST_POINTS];
+
+/* The track count, the tracks' entries and all their points: in version 2 with the heights of each track, in version 1 with a null pointer
+ * for them. */
+void put_tracks(const track *tracks, unsigned count, const track_heights *heights);
 
 /* ---- X.2, tables 5 to 12 */
 

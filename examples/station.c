@@ -8,9 +8,10 @@
  *                                                        \
  *   line II  B2 -- X2 ---------------------------------- [3] -- J2 -- B4
  *
- * station 1 writes its X.1 to standard output, station 2 its X.2. The track of each line starts at its start boundary; positions are in
- * centimetres, coordinates in milliarcseconds. The balises are a group of two: both have the same links, and others link to number 1 alone.
- * X1 is named with a space in between, and J3 has no name. Tables are those of the standard. */
+ * station 1 writes its X.1 to standard output, station 1-heights the same X.1 in structure version 2, with heights, and station 2 its X.2.
+ * The track of each line starts at its start boundary; positions are in centimetres, coordinates in milliarcseconds, heights in decimetres.
+ * The balises are a group of two: both have the same links, and others link to number 1 alone. X1 is named with a space in between, and J3
+ * has no name. Tables are those of the standard. */
 #include <stdio.h>
 #include <string.h>
 
@@ -36,10 +37,24 @@ static const track tracks[TRACKS] = {
         { 58000, 6195, 25870, 1110, NEAR } } },
 };
 
+/* Both lines fall to below the level that heights are counted from, and rise again. */
+static const track_heights heights[TRACKS] = {
+    { 31, 24, 12, 0, -6, 3, 17 },
+    { 32, 25, 13, 1, -5, 4, 18 },
+    { 17, 15, 9, 4 },
+    { 22, 19, 10, 2, -4 },
+};
+
 static void put_geography(void)
 {
-    put_opening(GEOGRAPHY, DATA_VERSION, STATION);
-    put_tracks(tracks, TRACKS);
+    put_opening(GEOGRAPHY, VERSION_1, DATA_VERSION, STATION);
+    put_tracks(tracks, TRACKS, NULL);
+}
+
+static void put_geography_with_heights(void)
+{
+    put_opening(GEOGRAPHY, VERSION_2, DATA_VERSION, STATION);
+    put_tracks(tracks, TRACKS, heights);
 }
 
 /* ---- X.2 */
@@ -71,7 +86,7 @@ enum {
 
 static void put_application_header(void)
 {
-    put_opening(APPLICATION, DATA_VERSION, STATION);
+    put_opening(APPLICATION, VERSION_1, DATA_VERSION, STATION);
     put_text("\xB1\xB1\xC1\xEB", 16);
     put(2, 1);
     put_entry(1, B1);
@@ -105,17 +120,32 @@ static void put_records(void)
     put_siding("4G", 4, BALISE_NUMBER, "S4", NO_BALISE, "");
 }
 
+static void put_application(void)
+{
+    put_application_header();
+    put_records();
+}
+
+/* ---- the files */
+
+static const struct {
+    const char *name;
+    void (*put)(void);
+} files[] = {
+    { "1", put_geography },
+    { "1-heights", put_geography_with_heights },
+    { "2", put_application },
+};
+
+enum { FILES = sizeof files / sizeof files[0] };
+
 int main(int count, char **words)
 {
-    if (count != 2 || strlen(words[1]) != 1 || strchr("12", words[1][0]) == NULL) {
-        fputs("usage: station 1|2\n", stderr);
-        return 2;
-    }
-    if (words[1][0] == '1') {
-        put_geography();
-    } else {
-        put_application_header();
-        put_records();
-    }
-    return write_file() ? 0 : 1;
+    for (unsigned i = 0; count == 2 && i < FILES; i++)
+        if (strcmp(words[1], files[i].name) == 0) {
+            files[i].put();
+            return write_file() ? 0 : 1;
+        }
+    fputs("usage: station 1|1-heights|2\n", stderr);
+    return 2;
 }

@@ -1,7 +1,8 @@
 /* The files of 01's examples, and two yards with more routes than yardlist lists; docs/SHOWN.md asks about each of them.
  *
  * yards writes the names of the files, a line each; yards NAME writes that file to standard output. In all of them versions, station,
- * tracks and the like are 1, and what 01 does not speak of is 0, but for the length of a track. */
+ * tracks and the like are 1, and what 01 does not speak of is 0, but for the length of a track. In track-2 the structure version is 2, and
+ * the second point has a height below 0. */
 #include <stdio.h>
 #include <string.h>
 
@@ -13,7 +14,7 @@ enum { SOME = 1, ANY_TRACK = 1 };
 
 static void put_yard_header(void)
 {
-    put_opening(APPLICATION, SOME, SOME);
+    put_opening(APPLICATION, VERSION_1, SOME, SOME);
     put_text("\xB1\xB1", 16);
 }
 
@@ -102,12 +103,22 @@ static void put_diamonds(unsigned diamonds)
 
 enum { LAST_OFFSET = 36 };
 
+static const track shortest = { 1, SOME, 0, 0, 2, { { 0, 0, 0, 0, ALONE }, { 100, 0, 0, 0, ALONE } } };
+
 /* 01's X.1 with one track and two points, with a last offset, which is 51 in the right file. */
 static void put_track_file(unsigned last)
 {
-    static const track only = { 1, SOME, 0, 0, 2, { { 0, 0, 0, 0, ALONE }, { 100, 0, 0, 0, ALONE } } };
-    put_opening(GEOGRAPHY, SOME, SOME);
-    put_tracks(&only, 1);
+    put_opening(GEOGRAPHY, VERSION_1, SOME, SOME);
+    put_tracks(&shortest, 1, NULL);
+    change(LAST_OFFSET, last, 2);
+}
+
+/* The same track in structure version 2, where the last offset is 53. */
+static void put_high_track_file(unsigned last)
+{
+    static const track_heights heights = { 0, -1 };
+    put_opening(GEOGRAPHY, VERSION_2, SOME, SOME);
+    put_tracks(&shortest, 1, &heights);
     change(LAST_OFFSET, last, 2);
 }
 
@@ -121,8 +132,8 @@ static void put_fractions(unsigned tracks)
         { 2, SOME, 0, 0, 2, { { 0, 0, 0, 0, ALONE }, { 2, -3, 1, 0, ALONE } } },
         { 3, SOME, 0, 0, 2, { { 0, 0, 0, 0, ALONE }, { 2, -1, -1, 0, ALONE } } },
     };
-    put_opening(GEOGRAPHY, SOME, SOME);
-    put_tracks(each, tracks);
+    put_opening(GEOGRAPHY, VERSION_1, SOME, SOME);
+    put_tracks(each, tracks, NULL);
 }
 
 /* A track whose points after the first have 01's three increments as their latitude. */
@@ -132,8 +143,8 @@ static void put_increments(unsigned tracks)
         1, SOME, 0, 0, 4,
         { { 0, 0, 0, 0, ALONE }, { 1, -1, 0, 0, ALONE }, { 2, -8388608, 0, 0, ALONE }, { 3, 8388607, 0, 0, ALONE } }
     };
-    put_opening(GEOGRAPHY, SOME, SOME);
-    put_tracks(&only, tracks);
+    put_opening(GEOGRAPHY, VERSION_1, SOME, SOME);
+    put_tracks(&only, tracks, NULL);
 }
 
 /* ---- the files */
@@ -154,6 +165,7 @@ static const struct {
     { "track", put_track_file, 51 },
     { "track-last-50", put_track_file, 50 },
     { "track-last-38", put_track_file, 38 },
+    { "track-2", put_high_track_file, 53 },
     { "increments", put_increments, 1 },
     { "fractions", put_fractions, 3 },
 };

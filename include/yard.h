@@ -2,6 +2,9 @@
  * of a file and of a pair, and the questions on them: header, track, point, coordinate, record, routes. The library is libyard.a;
  * tools/library makes it, for x86-64 Linux, and lays it out beside this header in target/libyard. Nothing else is linked with it.
  *
+ * An X.1 has structure version 1 or 2. In version 2 each point has a height at its end, and so 15 bytes for 13; all else is alike. Every
+ * function on an X.1 takes both, but for yard_x1_version_1. An X.2 has structure version 1.
+ *
  * What every function has in common
  *
  * - A file, and every output, is a pointer to bytes and after it their number. The pointer needs no alignment. Where the number is 0 the
@@ -16,8 +19,8 @@
  *   by yard_unsigned and yard_signed. The bytes of the output after the values are left as they were.
  * - A refusal leaves every byte of every output as it was. An output that is too short for the values is refused by YARD_ROOM at place 0,
  *   after every other refusal.
- * - Positions are in centimetres, latitude and longitude in milliarcseconds, indexes count from 0, and a place is a byte's distance from
- *   the file's start. */
+ * - Positions are in centimetres, heights in decimetres, latitude and longitude in milliarcseconds, indexes count from 0, and a place is a
+ *   byte's distance from the file's start. */
 #ifndef YARD_H
 #define YARD_H
 
@@ -39,13 +42,14 @@ extern "C" {
 /* The place of the fault; 0 where there is none, and where the question itself is refused. */
 #define YARD_PLACE(answer) ((uint32_t)((answer) >> 16 & 0xFFFFFFFF))
 
-/* The numbers, in the order in which they are judged. */
+/* The numbers, in the order in which they are judged. The length is judged twice: the second time, after YARD_STRUCTURE, that of an X.1 of
+ * structure version 2. */
 enum yard_number {
     YARD_ANSWERED = 0,   /* accepted or answered */
-    YARD_LENGTH = 1,     /* length under 68 (X.1), under 69 (X.2), or over 65,535 */
+    YARD_LENGTH = 1,     /* length under 68 (X.1), under 69 (X.2), or over 65,535; length under 72 (X.1 of structure version 2) */
     YARD_CHECKSUM = 2,   /* the checksum differs */
     YARD_FILE_TYPE = 3,  /* wrong file type */
-    YARD_STRUCTURE = 4,  /* structure version not 1 */
+    YARD_STRUCTURE = 4,  /* structure version not 1 or 2 (X.1), not 1 (X.2) */
     YARD_LAYOUT = 6,     /* layout */
     YARD_FIELD = 5,      /* a field outside its values */
     YARD_AGREEMENT = 7,  /* agreement; also a balise out of sequence in its group, at its group byte */
@@ -93,6 +97,10 @@ uint32_t yard_checksum(const uint8_t *bytes, size_t bytes_length);
 uint64_t yard_x1(const uint8_t *file, size_t file_length);
 uint64_t yard_x2(const uint8_t *file, size_t file_length);
 
+/* The verdict that a reader of structure version 1 alone gives an X.1. A file of version 2 whose length is 68 to 65,535 and whose checksum
+ * and type are right is refused by YARD_STRUCTURE at place 1; of every other file the verdict is that of yard_x1. */
+uint64_t yard_x1_version_1(const uint8_t *file, size_t file_length);
+
 /* The verdict of a station's two files, the X.1 first: the X.1's fault, then the X.2's, then what they do not agree in. */
 uint64_t yard_pair(const uint8_t *first, size_t first_length, const uint8_t *second, size_t second_length);
 
@@ -102,7 +110,7 @@ uint64_t yard_pair(const uint8_t *first, size_t first_length, const uint8_t *sec
 uint64_t yard_header1(const uint8_t *file, size_t file_length, uint8_t *out, size_t out_length);
 
 enum yard_header1_value {
-    YARD_HEADER1_STRUCTURE, /* structure version, 1 */
+    YARD_HEADER1_STRUCTURE, /* structure version, 1 or 2 */
     YARD_HEADER1_DATA,      /* data version, 1 to 65,535 */
     YARD_HEADER1_STATION,   /* the station's number, 1 to 65,535 */
     YARD_HEADER1_VALUES
@@ -130,19 +138,22 @@ enum yard_track_value {
 
 #define YARD_TRACK_SIZE 44
 
-/* The point of an index in the track of an index. No such track or no such point: YARD_QUESTION. */
+/* The point of an index in the track of an index. No such track or no such point: YARD_QUESTION. A point of an X.1 of structure version 2
+ * has a height, and one of version 1 has none. */
 uint64_t yard_point(const uint8_t *file, size_t file_length, size_t track, size_t index, uint8_t *out, size_t out_length);
 
 enum yard_point_value {
     YARD_POINT_POSITION,
-    YARD_POINT_LATITUDE,  /* signed: what is added to the latitude of the track's start */
-    YARD_POINT_LONGITUDE, /* signed: the same of the longitude */
-    YARD_POINT_HEADING,   /* signed, -31416 to 31416 */
-    YARD_POINT_NEAR,      /* the near flag, 0 or 1 */
+    YARD_POINT_LATITUDE,   /* signed: what is added to the latitude of the track's start */
+    YARD_POINT_LONGITUDE,  /* signed: the same of the longitude */
+    YARD_POINT_HEADING,    /* signed, -31416 to 31416 */
+    YARD_POINT_NEAR,       /* the near flag, 0 or 1 */
+    YARD_POINT_HAS_HEIGHT, /* 1 where it has a height, 0 where it has none */
+    YARD_POINT_HEIGHT,     /* signed, -32768 to 32767; 0 where it has none */
     YARD_POINT_VALUES
 };
 
-#define YARD_POINT_SIZE 20
+#define YARD_POINT_SIZE 28
 
 /* The coordinate at a position of the track with a number: exact to the nearest milliarcsecond, a half going north and east. No track of
  * that number: YARD_TRACK. A position beyond the track's end: YARD_POSITION. Both at place 0. */

@@ -58,6 +58,8 @@ ind_answer answer_case(const posed *ask)
 {
     switch (ask->question) {
     case ASK_X1: return ind_x1(ask->bytes[0], ask->length[0]);
+    case ASK_X1_VERSION_1:
+        return ind_x1_version_1(ask->bytes[0], ask->length[0]);
     case ASK_X2: return ind_x2(ask->bytes[0], ask->length[0]);
     case ASK_PAIR: return ask_pair(ask);
     case ASK_TRACK: return ask_track(ask).answer;
@@ -178,6 +180,10 @@ static void print_point(FILE *output, const posed *ask)
     line(output, "longitude_increment", point.longitude_increment);
     line(output, "heading", point.heading);
     line(output, "near", point.near);
+    if (point.has_height)
+        line(output, "height", point.height);
+    else
+        word_line(output, "height", "-");
 }
 
 static void print_coordinate(FILE *output, const posed *ask)
@@ -325,6 +331,7 @@ void print_answer(FILE *output, const posed *ask)
 {
     switch (ask->question) {
     case ASK_X1:
+    case ASK_X1_VERSION_1:
     case ASK_X2: answer_line(output, answer_case(ask)); break;
     case ASK_PAIR: pair_line(output, ask_pair(ask)); break;
     case ASK_TRACK: print_track(output, ask); break;

@@ -34,7 +34,7 @@ reading read_case(FILE *input, asked *ask)
     int first = getc(input);
     if (first == EOF)
         return READ_NOTHING_MORE;
-    if (first < ASK_X1 || first >= QUESTIONS)
+    if (!is_question((uint32_t)first))
         return READ_UNKNOWN_QUESTION;
     ask->question = (uint32_t)first;
     if (fread(head, 1, sizeof head, input) != sizeof head)

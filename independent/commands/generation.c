@@ -15,7 +15,7 @@ static int want_kind(const char *word, wanted *kinds)
         return 1;
     }
     for (uint32_t i = ASK_X1; i < QUESTIONS; i++)
-        if (strcmp(word, question_name(i)) == 0) {
+        if (is_question(i) && strcmp(word, question_name(i)) == 0) {
             kinds->asked_for[i] = 1;
             return 1;
         }
@@ -60,6 +60,6 @@ int read_generation(int count, char **words, generation *run)
         named += strcmp(words[i], "small") != 0;
     }
     for (uint32_t i = ASK_X1; named == 0 && i < QUESTIONS; i++)
-        run->kinds.asked_for[i] = 1;
+        run->kinds.asked_for[i] = is_question(i);
     return 1;
 }

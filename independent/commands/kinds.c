@@ -43,18 +43,41 @@ static void name_part(char *name, const char *part, uint32_t place)
     snprintf(name, PLACE_ROOM, "%s+%lu", part, (unsigned long)place);
 }
 
+/* A part of an X.1, and a place in it. */
+typedef struct {
+    const char *word;
+    uint32_t place;
+} geography_part;
+
+static geography_part geography_part_of(const uint8_t *bytes, uint32_t place)
+{
+    uint32_t points = ind_track_place(ind_tracks(bytes));
+    if (place < IND_TRACKS_PLACE)
+        return (geography_part){ "header", place };
+    if (place < points)
+        return (geography_part){
+            "track", (place - IND_TRACKS_PLACE) % IND_TRACK_SIZE
+        };
+    return (geography_part){ "point",
+                             (place - points) % ind_point_size(bytes) };
+}
+
+/* A file of version 2 has a word of its own, and so has one that is too short
+ * for that version and not of version 1. */
 static void name_geography_place(const stored *file, uint32_t place,
                                  char *name)
 {
-    uint32_t points = ind_track_place(ind_tracks(file->bytes));
+    const char *two = ind_has_heights(file->bytes) ? "_2" : "";
+    const char *brief = file->length < IND_X1_LEAST_LENGTH_2
+            && ind_version(file->bytes) != IND_VERSION_1
+        ? "short_"
+        : "";
+    geography_part in = geography_part_of(file->bytes, place);
     if (place >= ind_end(file->length))
-        strcpy(name, "end");
-    else if (place < IND_TRACKS_PLACE)
-        name_part(name, "header", place);
-    else if (place < points)
-        name_part(name, "track", (place - IND_TRACKS_PLACE) % IND_TRACK_SIZE);
+        snprintf(name, PLACE_ROOM, "%send%s", brief, two);
     else
-        name_part(name, "point", (place - points) % IND_POINT_SIZE);
+        snprintf(name, PLACE_ROOM, "%s%s%s+%lu", brief, in.word, two,
+                 (unsigned long)in.place);
 }
 
 /* A balise of place above 1, where that is not above its count: other rules
@@ -276,19 +299,62 @@ static void name_named_record(const asked *ask, char *name)
              (unsigned long)bytes);
 }
 
+/* An answered point: whether it has a height, and of which sign. */
+static const char *height_name(const asked *ask)
+{
+    const stored *file = &ask->files[0];
+    ind_point found = ind_point_at(file->bytes, file->length, ask->numbers[0],
+                                   ask->numbers[1]);
+    if (!found.has_height)
+        return "height_none";
+    if (found.height == INT16_MIN)
+        return "height_least";
+    if (found.height == INT16_MAX)
+        return "height_largest";
+    if (found.height == 0)
+        return "height_0";
+    return found.height < 0 ? "height_negative" : "height_positive";
+}
+
+/* An answer that is about no place: what was answered, or of an X.1 which
+ * version it has. */
+static void name_without_place(const asked *ask, uint32_t number, char *name)
+{
+    int application = of_application(ask->question);
+    strcpy(name, "0");
+    if (ask->question == ASK_RECORD && number == IND_ACCEPTED)
+        name_named_record(ask, name);
+    else if (ask->question == ASK_POINT && number == IND_ACCEPTED)
+        strcpy(name, height_name(ask));
+    else if (!application && ind_has_heights(ask->files[0].bytes))
+        strcpy(name, "version_2");
+}
+
+/* Which length is wrong: that of any file, or that of an X.1 of version 2. */
+static void name_length(const stored *file, int application, char *name)
+{
+    int later = !application && file->length >= IND_X1_LEAST_LENGTH
+        && file->length <= IND_LARGEST_FILE;
+    strcpy(name, later ? "length_of_version_2" : "length");
+}
+
+/* Whether an answer of this number is about a place of a file. */
+static int about_a_place(uint32_t question, uint32_t number)
+{
+    return number > IND_LENGTH && number < IND_OUT_OF_RANGE
+        && (question != ASK_COORDINATE || number < IND_NO_TRACK);
+}
+
 static void name_place(const asked *ask, ind_answer answer, char *name)
 {
     uint32_t which = ask->question == ASK_PAIR && answer.file == IND_FILE_X2;
+    int application = which == 1 || of_application(ask->question);
     const stored *file = &ask->files[which];
-    strcpy(name, "0");
-    if (ask->question == ASK_RECORD && answer.number == IND_ACCEPTED)
-        name_named_record(ask, name);
-    if (answer.number <= IND_LENGTH || answer.number == IND_OUT_OF_RANGE
-        || answer.number >= IND_STEPS
-        || (ask->question == ASK_COORDINATE
-            && answer.number >= IND_NO_TRACK))
-        return;
-    if (which == 1 || of_application(ask->question))
+    if (answer.number == IND_LENGTH)
+        name_length(file, application, name);
+    else if (!about_a_place(ask->question, answer.number))
+        name_without_place(ask, answer.number, name);
+    else if (application)
         name_application_place(file, answer, name);
     else
         name_geography_place(file, answer.place, name);

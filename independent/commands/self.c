@@ -1,6 +1,7 @@
 /* 01's 'Yard examples', the roundings of 'Readings that look right', the
- * headers and the track of the example files, balise groups by 02's ticket 2
- * and names by its ticket 10, each asserted of the core. */
+ * headers and the track of the example files, balise groups by 02's ticket 2,
+ * names by its ticket 10 and heights by its ticket 11, each asserted of the
+ * core. */
 #include <stdio.h>
 #include <string.h>
 
@@ -29,6 +30,23 @@ enum {
     ONE_FIRST_POINT = 38,
     ONE_LAST_POINT = 51,
     ONE_LENGTH = 68
+};
+
+/* X.1s of one track in structure version 2: of two points, and of eight, the
+ * fewest that are more when their bytes are counted by 13. */
+enum {
+    HIGH_POINT_SIZE = 15,
+    HIGH_FIRST_OFFSET = 34,
+    HIGH_LAST_OFFSET = 36,
+    HIGH_FIRST_HEIGHT = 51,
+    HIGH_LAST_POINT = 53,
+    HIGH_LAST_HEADING = 63,
+    HIGH_LAST_NEAR = 65,
+    HIGH_LAST_HEIGHT = 66,
+    EIGHT_POINTS = 8,
+    EIGHT_LAST_POINT = 143,
+    /* From point to point in position; in latitude it is 1. */
+    HIGH_STEP = 3
 };
 
 /* A line from a start boundary to an end boundary over a group of balises:
@@ -229,6 +247,25 @@ static void make_one_track(stored *file, uint32_t position, int32_t latitude)
     put_four(bytes, ONE_LAST_POINT + IND_POINT_POSITION, position);
     put_three(bytes, ONE_LAST_POINT + IND_POINT_LATITUDE,
               (uint32_t)latitude);
+    seal(file);
+}
+
+/* One track of version 2 with so many points. */
+static void make_high(stored *file, uint32_t points)
+{
+    uint8_t *bytes = file->bytes, *point = bytes + ONE_FIRST_POINT;
+    uint32_t last = points - 1;
+    make_one_track(file, HIGH_STEP * last, (int32_t)last);
+    put_two(bytes, IND_STRUCTURE_VERSION_PLACE, 2);
+    put_two(bytes + ONE_TRACK, IND_TRACK_LAST_POINT,
+            ONE_FIRST_POINT + HIGH_POINT_SIZE * last);
+    memset(point, 0, ONE_LENGTH - ONE_FIRST_POINT);
+    for (uint32_t i = 0; i < points; i++) {
+        put_four(point, IND_POINT_POSITION, HIGH_STEP * i);
+        put_three(point, IND_POINT_LATITUDE, i);
+        point += HIGH_POINT_SIZE;
+    }
+    file->length = (uint32_t)(point - bytes) + IND_CHECKSUM_SIZE;
     seal(file);
 }
 
@@ -734,6 +771,238 @@ static void header1_examples(void)
            "header1 first gives the X.1's fault");
 }
 
+/* What becomes of the version 2 file of two points once its length, structure
+ * version, type or checksum is changed: the verdict, and that of a reader of
+ * version 1. */
+typedef struct {
+    uint32_t length;
+    uint32_t version;
+    uint8_t type;
+    uint8_t checksum_change;
+    uint32_t number;
+    uint32_t place;
+    uint32_t number_1;
+    uint32_t place_1;
+    const char *sentence;
+} version_example;
+
+static const version_example versions[] = {
+    { 72, 2, 1, 0, 0, 0, 4, 1, "version 2 of 72 bytes is accepted" },
+    { 71, 2, 1, 0, 1, 0, 4, 1, "of 71 bytes: 1 at 0" },
+    { 70, 2, 1, 0, 1, 0, 4, 1, "of 70 bytes: 1 at 0" },
+    { 69, 2, 1, 0, 1, 0, 4, 1, "of 69 bytes: 1 at 0" },
+    { 68, 2, 1, 0, 1, 0, 4, 1, "of 68 bytes: 1 at 0" },
+    { 67, 2, 1, 0, 1, 0, 1, 0, "of 67 bytes: 1 at 0 for every reader" },
+    { 73, 2, 1, 0, 6, 68, 4, 1, "of 73 bytes: the points stop at 68" },
+    { 65535, 2, 1, 0, 6, 68, 4, 1, "of 65,535 bytes too" },
+    { 65536, 2, 1, 0, 1, 0, 1, 0, "of 65,536 bytes: 1 for every reader" },
+    { 72, 2, 1, 1, 2, 68, 2, 68, "72 bytes, wrong checksum: 2 at 68" },
+    { 71, 2, 1, 1, 2, 67, 2, 67, "71 bytes, wrong checksum: 2 at 67" },
+    { 68, 2, 1, 1, 2, 64, 2, 64, "68 bytes, wrong checksum: 2 at 64" },
+    { 67, 2, 1, 1, 1, 0, 1, 0, "67 bytes, wrong checksum: 1 at 0" },
+    { 72, 2, 2, 0, 3, 0, 3, 0, "version 2 of type 2: 3 at 0" },
+    { 71, 2, 2, 0, 3, 0, 3, 0, "version 2 of type 2, 71 bytes: 3 at 0" },
+    { 72, 3, 1, 0, 4, 1, 4, 1, "version 3: 4 at 1" },
+    { 70, 3, 1, 0, 4, 1, 4, 1, "version 3 of 70 bytes: 4 at 1" },
+    { 67, 3, 1, 0, 1, 0, 1, 0, "version 3 of 67 bytes: 1 at 0" },
+    { 72, 0, 1, 0, 4, 1, 4, 1, "version 0: 4 at 1" },
+    { 72, 0x0101, 1, 0, 4, 1, 4, 1, "version 257: 4 at 1" },
+    { 72, 0x0102, 1, 0, 4, 1, 4, 1, "version 258: 4 at 1" },
+    { 70, 0x0102, 1, 0, 4, 1, 4, 1, "version 258 of 70 bytes: 4 at 1" },
+    { 72, 0x0200, 1, 0, 4, 1, 4, 1, "version 512: 4 at 1" },
+    { 72, 1, 1, 0, 6, 36, 6, 36, "points of 15 bytes in version 1: 6" },
+    { 71, 1, 1, 0, 6, 36, 6, 36, "version 1 of 71 bytes is long enough" }
+};
+
+/* The verdict of a file, and that of a reader of version 1. */
+static int both_say(const stored *file, uint32_t number, uint32_t place,
+                    uint32_t number_1, uint32_t place_1)
+{
+    return says(ind_x1(file->bytes, file->length), number, place)
+        && says(ind_x1_version_1(file->bytes, file->length), number_1,
+                place_1);
+}
+
+static int version_right(const version_example *example)
+{
+    static stored file;
+    make_high(&file, 2);
+    file.length = example->length;
+    put_two(file.bytes, IND_STRUCTURE_VERSION_PLACE, example->version);
+    file.bytes[IND_FILE_TYPE_PLACE] = example->type;
+    seal(&file);
+    file.bytes[file.length - 1] ^= example->checksum_change;
+    return both_say(&file, example->number, example->place,
+                    example->number_1, example->place_1);
+}
+
+static void version_examples(void)
+{
+    static stored file, y;
+    for (size_t i = 0; i < sizeof versions / sizeof *versions; i++)
+        expect(version_right(&versions[i]), versions[i].sentence);
+    make_one_track(&file, 1, 0);
+    expect(both_say(&file, 0, 0, 0, 0), "both readers accept version 1");
+    put_two(file.bytes, IND_STRUCTURE_VERSION_PLACE, 2);
+    seal(&file);
+    expect(both_say(&file, 1, 0, 4, 1), "68 bytes named version 2: 1 at 0");
+    make_y(&y, Y_SECOND_END);
+    put_two(y.bytes, IND_STRUCTURE_VERSION_PLACE, 2);
+    seal(&y);
+    expect(says(ind_x2(y.bytes, y.length), 4, 1),
+           "an X.2 of version 2: 4 at 1");
+}
+
+/* The verdict of the version 2 file of two points once a number of so many
+ * bytes at a place of it is this one. */
+static int high_gives(uint32_t at, uint32_t bytes, uint32_t value,
+                      uint32_t number, uint32_t place)
+{
+    static stored file;
+    make_high(&file, 2);
+    for (uint32_t i = 0; i < bytes; i++)
+        file.bytes[at + i] = (uint8_t)(value >> IND_BITS_PER_BYTE * i);
+    seal(&file);
+    return both_say(&file, number, place, 4, 1);
+}
+
+/* Layout, fields and agreement of version 2: its points stand at 38 and 53. */
+static void high_examples(void)
+{
+    expect(high_gives(HIGH_LAST_OFFSET, 2, 53, 0, 0),
+           "72 bytes, offsets 38 and 53");
+    expect(high_gives(HIGH_LAST_OFFSET, 2, 52, 6, 36),
+           "last offset 52: 6 at 36");
+    expect(high_gives(HIGH_LAST_OFFSET, 2, 51, 6, 36),
+           "last offset 51: 6 at 36");
+    expect(high_gives(HIGH_LAST_OFFSET, 2, 38, 6, 36),
+           "last offset 38: 6 at 36");
+    expect(high_gives(HIGH_LAST_OFFSET, 2, 54, 6, 36),
+           "last offset 54: 6 at 36");
+    expect(high_gives(HIGH_LAST_OFFSET, 2, 68, 6, 36),
+           "last offset 68: 6 at 36");
+    expect(high_gives(HIGH_FIRST_OFFSET, 2, 40, 6, 34),
+           "first offset 40: 6 at 34");
+    expect(high_gives(HIGH_LAST_HEADING, 2, 31417, 5, 63),
+           "heading 31417: 5 at 63");
+    expect(high_gives(HIGH_LAST_NEAR, 1, 2, 5, 65), "near flag 2: 5 at 65");
+    expect(high_gives(HIGH_LAST_NEAR, 1, 1, 7, 38),
+           "near flags 0 and 1: 7 at 38");
+    expect(high_gives(HIGH_LAST_POINT, 1, 0, 7, 53),
+           "no rising position: 7 at 53");
+    expect(high_gives(HIGH_FIRST_HEIGHT, 2, 0xFFFF, 0, 0)
+               && high_gives(HIGH_LAST_HEIGHT, 2, 0x8000, 0, 0),
+           "any height is right");
+}
+
+/* The two bytes of a height, and the height. */
+static const struct {
+    uint8_t bytes[2];
+    int32_t height;
+    const char *sentence;
+} heights[] = {
+    { { 0x00, 0x00 }, 0, "height 00 00 is 0" },
+    { { 0x01, 0x00 }, 1, "height 01 00 is 1" },
+    { { 0x00, 0x01 }, 256, "height 00 01 is 256" },
+    { { 0xFF, 0xFF }, -1, "height FF FF is -1" },
+    { { 0xFE, 0xFF }, -2, "height FE FF is -2" },
+    { { 0x00, 0x80 }, -32768, "height 00 80 is -32768" },
+    { { 0xFF, 0x7F }, 32767, "height FF 7F is 32767" }
+};
+
+/* The height of one point, that of the other being 0. */
+static int height_read(const uint8_t bytes[2], uint32_t place, uint32_t index,
+                       int32_t height)
+{
+    static stored file;
+    ind_point point, other;
+    make_high(&file, 2);
+    memcpy(file.bytes + place, bytes, 2);
+    seal(&file);
+    point = ind_point_at(file.bytes, file.length, 0, index);
+    other = ind_point_at(file.bytes, file.length, 0, 1 - index);
+    return says(point.answer, 0, 0) && point.has_height == 1
+        && point.height == height && other.has_height == 1
+        && other.height == 0;
+}
+
+static void height_examples(void)
+{
+    static stored file;
+    for (size_t i = 0; i < sizeof heights / sizeof *heights; i++)
+        expect(height_read(heights[i].bytes, HIGH_FIRST_HEIGHT, 0,
+                           heights[i].height)
+                   && height_read(heights[i].bytes, HIGH_LAST_HEIGHT, 1,
+                                  heights[i].height),
+               heights[i].sentence);
+    make_high(&file, 2);
+    file.bytes[HIGH_FIRST_HEIGHT + 1] = 0x80;
+    seal(&file);
+    expect(answer_prints(ASK_POINT, &file, "answer 0 0\n"
+                                           "position 0\n"
+                                           "latitude_increment 0\n"
+                                           "longitude_increment 0\n"
+                                           "heading 0\n"
+                                           "near 0\n"
+                                           "height -32768\n"),
+           "a point with a height");
+    make_one_track(&file, 1, 0);
+    expect(answer_prints(ASK_POINT, &file, "answer 0 0\n"
+                                           "position 0\n"
+                                           "latitude_increment 0\n"
+                                           "longitude_increment 0\n"
+                                           "heading 0\n"
+                                           "near 0\n"
+                                           "height -\n"),
+           "a point of version 1 has no height");
+}
+
+/* A point of a track of eight in version 2: its position and latitude. */
+static int eighth_reads(const stored *file, uint32_t index)
+{
+    ind_point point = ind_point_at(file->bytes, file->length, 0, index);
+    return says(point.answer, 0, 0) && point.position == HIGH_STEP * index
+        && point.latitude_increment == (int32_t)index;
+}
+
+static int latitude_at(const stored *file, uint32_t position, int32_t due)
+{
+    ind_coordinate found =
+        ind_coordinate_at(file->bytes, file->length, 1, position);
+    return says(found.answer, 0, 0) && found.latitude == due
+        && found.longitude == 0;
+}
+
+/* Questions on an X.1 of version 2. */
+static void high_question_examples(void)
+{
+    static stored file, y;
+    make_high(&file, EIGHT_POINTS);
+    make_y(&y, Y_SECOND_END);
+    expect(ind_track_at(file.bytes, file.length, 0).points == 8
+               && ind_track_at(file.bytes, file.length, 0).last_offset
+                   == EIGHT_LAST_POINT,
+           "eight points of 15 bytes");
+    expect(eighth_reads(&file, 0) && eighth_reads(&file, 1)
+               && eighth_reads(&file, 6) && eighth_reads(&file, 7),
+           "each where it stands");
+    expect(says(ind_point_at(file.bytes, file.length, 0, 8).answer, 13, 0),
+           "a ninth is out of range");
+    expect(latitude_at(&file, 1, 0) && latitude_at(&file, 2, 1)
+               && latitude_at(&file, 19, 6) && latitude_at(&file, 20, 7)
+               && latitude_at(&file, 21, 7),
+           "coordinates between points of 15 bytes");
+    expect(answer_prints(ASK_HEADER1, &file, "answer 0 0\n"
+                                             "structure 2\n"
+                                             "data 1\n"
+                                             "station 1\n"),
+           "header of a version 2 file");
+    expect(answer_prints(ASK_X1_VERSION_1, &file, "answer 4 1\n"),
+           "a version 1 reader answers 4 to it");
+    expect(says(ind_pair(file.bytes, file.length, y.bytes, y.length), 0, 0),
+           "an X.1 of version 2 and Y are a pair");
+}
+
 /* Y with a station name of so many bytes and zeros after them. */
 static int name_prints(const uint8_t *name, size_t size, const char *due)
 {
@@ -815,6 +1084,10 @@ int command_self(void)
     track_example();
     header1_examples();
     header2_examples();
+    version_examples();
+    high_examples();
+    height_examples();
+    high_question_examples();
     list_example();
     printf("%lu passed, %lu failed\n", passed, failed);
     return failed == 0 ? RUN_WELL : RUN_BAD;

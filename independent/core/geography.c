@@ -1,23 +1,23 @@
-/* 01, 'X.1, track geography': the verdict. */
+/* 01, 'X.1, track geography': the verdict. What is about points is written
+ * once for either size of a point, and compiled once for each. */
 #include "geography.h"
 
-#include "opening.h"
-
 /* Layout of one track, its points due at a place: the faulty field. */
-static uint32_t track_layout_fault(const uint8_t *file, uint32_t track,
-                                   uint32_t due, uint32_t end)
+static inline uint32_t track_layout_fault(const uint8_t *file, uint32_t size,
+                                          uint32_t track, uint32_t due,
+                                          uint32_t end)
 {
     uint32_t first = ind_first_point(file, track);
     uint32_t last = ind_last_point(file, track);
     if (first != due)
         return track + IND_TRACK_FIRST_POINT;
-    if (last <= first || (last - first) % IND_POINT_SIZE != 0
-        || last + IND_POINT_SIZE > end)
+    if (last <= first || (last - first) % size != 0 || last + size > end)
         return track + IND_TRACK_LAST_POINT;
     return IND_NO_FAULT;
 }
 
-static uint32_t layout_fault(const uint8_t *file, uint32_t end)
+static inline uint32_t layout_fault(const uint8_t *file, uint32_t size,
+                                    uint32_t end)
 {
     uint32_t tracks = ind_tracks(file);
     uint32_t due = ind_track_place(tracks);
@@ -25,10 +25,10 @@ static uint32_t layout_fault(const uint8_t *file, uint32_t end)
         return IND_TRACK_COUNT_PLACE;
     for (uint32_t i = 0; i < tracks; i++) {
         uint32_t track = ind_track_place(i);
-        uint32_t fault = track_layout_fault(file, track, due, end);
+        uint32_t fault = track_layout_fault(file, size, track, due, end);
         if (fault != IND_NO_FAULT)
             return fault;
-        due = ind_last_point(file, track) + IND_POINT_SIZE;
+        due = ind_last_point(file, track) + size;
     }
     return due == end ? IND_NO_FAULT : due;
 }
@@ -119,10 +119,11 @@ static uint32_t entry_field_fault(const uint8_t *file)
 }
 
 /* Fields of all points. */
-static uint32_t points_field_fault(const uint8_t *file, uint32_t end)
+static uint32_t points_field_fault(const uint8_t *file, uint32_t size,
+                                   uint32_t end)
 {
     for (uint32_t point = ind_track_place(ind_tracks(file)); point < end;
-         point += IND_POINT_SIZE) {
+         point += size) {
         uint32_t fault = point_field_fault(file + point);
         if (fault != IND_NO_FAULT)
             return point + fault;
@@ -145,9 +146,9 @@ static uint32_t east_of(const uint8_t *point)
 
 /* The first point has position and both increments 0, and its near flag
  * equals the second's. */
-static int first_point_right(const uint8_t *point)
+static inline int first_point_right(const uint8_t *point, uint32_t size)
 {
-    const uint8_t *second = point + IND_POINT_SIZE;
+    const uint8_t *second = point + size;
     return position_of(point) == IND_START_POSITION && north_of(point) == 0
         && east_of(point) == 0
         && point[IND_POINT_NEAR] == second[IND_POINT_NEAR];
@@ -184,13 +185,13 @@ static int all_in_range(const uint8_t *track)
 /* The first point after a track's first in which a field or the agreement is
  * wrong, NULL if there is none. A position may be too large without notice:
  * then a later one does not rise, or the last is not the track's end. */
-static inline const uint8_t *wrong_after(const uint8_t *track,
+static inline const uint8_t *wrong_after(const uint8_t *track, uint32_t size,
                                          const uint8_t *first,
                                          const uint8_t *last, int in_range)
 {
     uint32_t reached = IND_START_POSITION;
     for (const uint8_t *point = first; point < last;) {
-        point += IND_POINT_SIZE;
+        point += size;
         if (position_of(point) <= reached || !near_right(point)
             || !heading_right(point)
             || !(in_range || point_in_range(track, point)))
@@ -202,19 +203,20 @@ static inline const uint8_t *wrong_after(const uint8_t *track,
 
 /* The first of a track's points in which a field or the agreement is wrong,
  * NULL if there is none. A start plus an increment of 0 is in range. */
-static const uint8_t *wrong_point(const uint8_t *track, const uint8_t *first,
-                                  const uint8_t *last)
+static inline const uint8_t *wrong_point(const uint8_t *track, uint32_t size,
+                                         const uint8_t *first,
+                                         const uint8_t *last)
 {
     if (!heading_right(first) || !near_right(first)
-        || !first_point_right(first))
+        || !first_point_right(first, size))
         return first;
-    return all_in_range(track) ? wrong_after(track, first, last, 1)
-                               : wrong_after(track, first, last, 0);
+    return all_in_range(track) ? wrong_after(track, size, first, last, 1)
+                               : wrong_after(track, size, first, last, 0);
 }
 
 /* The first track number that does not rise, or the first point in which a
  * field or the agreement is wrong. A place of a file is below 65,535. */
-static uint32_t wrong_place(const uint8_t *file)
+static inline uint32_t wrong_place(const uint8_t *file, uint32_t size)
 {
     uint32_t points = ind_track_place(ind_tracks(file));
     uint32_t before = 0;
@@ -224,7 +226,8 @@ static uint32_t wrong_place(const uint8_t *file)
         if (file[track + IND_TRACK_NUMBER] <= before)
             return track + IND_TRACK_NUMBER;
         before = file[track + IND_TRACK_NUMBER];
-        point = wrong_point(file + track, file + ind_first_point(file, track),
+        point = wrong_point(file + track, size,
+                            file + ind_first_point(file, track),
                             file + ind_last_point(file, track));
         if (point != NULL)
             return (uint32_t)(point - file);
@@ -235,26 +238,49 @@ static uint32_t wrong_place(const uint8_t *file)
 /* Fields of the header, of all entries and of all points, then agreement. One
  * pass over the points serves both. Where it stops, agreement is at fault
  * there, unless the field of some point is. */
-static ind_answer contents_answer(const uint8_t *file, uint32_t end)
+static inline ind_answer contents_answer(const uint8_t *file, uint32_t size,
+                                         uint32_t end)
 {
     uint32_t wrong, fault = entry_field_fault(file);
     if (fault != IND_NO_FAULT)
         return ind_says(IND_FIELD, fault);
-    wrong = wrong_place(file);
+    wrong = wrong_place(file, size);
     if (wrong == IND_NO_FAULT)
         return ind_says(IND_ACCEPTED, 0);
-    fault = points_field_fault(file, end);
+    fault = points_field_fault(file, size, end);
     return fault != IND_NO_FAULT ? ind_says(IND_FIELD, fault)
                                  : ind_says(IND_AGREEMENT, wrong);
 }
 
+/* Layout, fields and agreement of a file whose points have this size. */
+static inline ind_answer points_answer(const uint8_t *file, uint32_t size,
+                                       uint32_t end)
+{
+    uint32_t fault = layout_fault(file, size, end);
+    return fault == IND_NO_FAULT ? contents_answer(file, size, end)
+                                 : ind_says(IND_LAYOUT, fault);
+}
+
+/* The verdict of a reader that knows the versions up to the newest. */
+static ind_answer verdict(const uint8_t *file, size_t length, uint32_t newest)
+{
+    ind_answer answer = ind_opening(file, length, IND_X1_LEAST_LENGTH,
+                                    IND_X1_TYPE, newest);
+    if (answer.number != IND_ACCEPTED)
+        return answer;
+    if (!ind_has_heights(file))
+        return points_answer(file, IND_POINT_SIZE_1, ind_end(length));
+    if (length < IND_X1_LEAST_LENGTH_2)
+        return ind_says(IND_LENGTH, 0);
+    return points_answer(file, IND_POINT_SIZE_2, ind_end(length));
+}
+
 ind_answer ind_x1(const uint8_t *file, size_t length)
 {
-    ind_answer answer =
-        ind_opening(file, length, IND_X1_LEAST_LENGTH, IND_X1_TYPE);
-    if (answer.number == IND_ACCEPTED)
-        answer = ind_unless(layout_fault(file, ind_end(length)), IND_LAYOUT);
-    if (answer.number == IND_ACCEPTED)
-        answer = contents_answer(file, ind_end(length));
-    return answer;
+    return verdict(file, length, IND_VERSION_2);
+}
+
+ind_answer ind_x1_version_1(const uint8_t *file, size_t length)
+{
+    return verdict(file, length, IND_VERSION_1);
 }

@@ -4,7 +4,7 @@
 #include "checksum.h"
 
 ind_answer ind_opening(const uint8_t *file, size_t length, size_t least,
-                       uint8_t type)
+                       uint8_t type, uint32_t newest)
 {
     uint32_t end;
     if (length < least || length > IND_LARGEST_FILE)
@@ -14,8 +14,7 @@ ind_answer ind_opening(const uint8_t *file, size_t length, size_t least,
         return ind_says(IND_CHECKSUM, end);
     if (file[IND_FILE_TYPE_PLACE] != type)
         return ind_says(IND_FILE_TYPE, IND_FILE_TYPE_PLACE);
-    if (ind_two(file, IND_STRUCTURE_VERSION_PLACE)
-        != IND_STRUCTURE_VERSION_READ)
+    if (ind_version(file) < IND_VERSION_1 || ind_version(file) > newest)
         return ind_says(IND_STRUCTURE_VERSION, IND_STRUCTURE_VERSION_PLACE);
     return ind_says(IND_ACCEPTED, 0);
 }

@@ -13,13 +13,21 @@ enum {
     IND_STATION_PLACE = 5
 };
 
+/* Structure versions: an X.2 has the first, an X.1 either (02, ticket 11). */
 enum {
-    IND_STRUCTURE_VERSION_READ = 1
+    IND_VERSION_1 = 1,
+    IND_VERSION_2 = 2
 };
 
-/* Checks 1 to 4: length, checksum, file type, structure version. */
+static inline uint32_t ind_version(const uint8_t *file)
+{
+    return ind_two(file, IND_STRUCTURE_VERSION_PLACE);
+}
+
+/* Checks 1 to 4: length, checksum, file type, structure version. The reader
+ * knows the versions from 1 up to the newest. */
 ind_answer ind_opening(const uint8_t *file, size_t length, size_t least,
-                       uint8_t type);
+                       uint8_t type, uint32_t newest);
 
 /* The place of a wrong data version or station, else IND_NO_FAULT. */
 uint32_t ind_opening_field_fault(const uint8_t *file);

@@ -36,7 +36,7 @@ ind_track ind_track_at(const uint8_t *file, size_t length, uint32_t index)
 ind_point ind_point_at(const uint8_t *file, size_t length, uint32_t track,
                        uint32_t point)
 {
-    ind_point found = { { 0, 0, 0 }, 0, 0, 0, 0, 0 };
+    ind_point found = { { 0, 0, 0 }, 0, 0, 0, 0, 0, 0, 0 };
     uint32_t place;
     found.answer = ind_x1(file, length);
     if (found.answer.number != IND_ACCEPTED)
@@ -46,8 +46,7 @@ ind_point ind_point_at(const uint8_t *file, size_t length, uint32_t track,
         found.answer = ind_says(IND_OUT_OF_RANGE, 0);
         return found;
     }
-    place = ind_first_point(file, ind_track_place(track))
-        + IND_POINT_SIZE * point;
+    place = ind_point_place(file, ind_track_place(track), point);
     found.position = ind_four(file, place + IND_POINT_POSITION);
     found.latitude_increment =
         ind_signed_three(file, place + IND_POINT_LATITUDE);
@@ -55,6 +54,10 @@ ind_point ind_point_at(const uint8_t *file, size_t length, uint32_t track,
         ind_signed_three(file, place + IND_POINT_LONGITUDE);
     found.heading = ind_signed_two(file, place + IND_POINT_HEADING);
     found.near = file[place + IND_POINT_NEAR];
+    if (ind_has_heights(file)) {
+        found.has_height = 1;
+        found.height = ind_signed_two(file, place + IND_POINT_HEIGHT);
+    }
     return found;
 }
 
@@ -86,17 +89,16 @@ static uint32_t track_numbered(const uint8_t *file, uint32_t number)
 static uint32_t point_reached(const uint8_t *file, uint32_t track,
                               uint32_t position)
 {
-    uint32_t first = ind_first_point(file, track);
     uint32_t below = 0, reached = ind_points(file, track) - 1;
     while (reached - below > 1) {
         uint32_t middle = below + (reached - below) / 2;
-        uint32_t point = first + IND_POINT_SIZE * middle;
+        uint32_t point = ind_point_place(file, track, middle);
         if (ind_four(file, point + IND_POINT_POSITION) < position)
             below = middle;
         else
             reached = middle;
     }
-    return first + IND_POINT_SIZE * reached;
+    return ind_point_place(file, track, reached);
 }
 
 /* One coordinate, whose increments stand at a place in each point. It lies
@@ -104,7 +106,7 @@ static uint32_t point_reached(const uint8_t *file, uint32_t track,
 static int32_t coordinate(const uint8_t *file, int32_t start, uint32_t point,
                           uint32_t increment, uint32_t position)
 {
-    uint32_t before = point - IND_POINT_SIZE;
+    uint32_t before = point - ind_point_size(file);
     int64_t low = ind_signed_three(file, before + increment);
     int64_t high = ind_signed_three(file, point + increment);
     int64_t from = ind_four(file, before + IND_POINT_POSITION);

@@ -24,6 +24,7 @@ typedef struct {
 /* Track by index: all fields of its entry, and how many points it has. */
 ind_track ind_track_at(const uint8_t *file, size_t length, uint32_t index);
 
+/* A point. Of a version 1 file it has no height, and the height is 0. */
 typedef struct {
     ind_answer answer;
     uint32_t position;
@@ -31,6 +32,8 @@ typedef struct {
     int32_t longitude_increment;
     int32_t heading;
     uint32_t near;
+    uint32_t has_height;
+    int32_t height;
 } ind_point;
 
 /* Point by track index and index in that track. */

@@ -1,6 +1,8 @@
 /* Cases as they are posed, and the names of the questions. */
 #include "asked.h"
 
+#include <stddef.h>
+
 posed pose(const asked *ask)
 {
     posed given;
@@ -17,8 +19,22 @@ posed pose(const asked *ask)
 const char *question_name(uint32_t asked_for)
 {
     static const char *const names[QUESTIONS] = {
-        "", "x1", "x2", "pair", "track", "point", "coordinate", "record",
-        "routes", "header1", "header2"
+        [ASK_X1] = "x1",
+        [ASK_X2] = "x2",
+        [ASK_PAIR] = "pair",
+        [ASK_TRACK] = "track",
+        [ASK_POINT] = "point",
+        [ASK_COORDINATE] = "coordinate",
+        [ASK_RECORD] = "record",
+        [ASK_ROUTES] = "routes",
+        [ASK_HEADER1] = "header1",
+        [ASK_HEADER2] = "header2",
+        [ASK_X1_VERSION_1] = "x1-version-1"
     };
-    return asked_for < QUESTIONS ? names[asked_for] : "";
+    return asked_for < QUESTIONS ? names[asked_for] : NULL;
+}
+
+int is_question(uint32_t asked_for)
+{
+    return question_name(asked_for) != NULL;
 }

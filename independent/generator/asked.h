@@ -16,6 +16,8 @@ enum {
     ASK_ROUTES,
     ASK_HEADER1,
     ASK_HEADER2,
+    /* The numbers between are kept for questions that are still to come. */
+    ASK_X1_VERSION_1 = 16,
     QUESTIONS
 };
 
@@ -42,7 +44,11 @@ typedef struct {
 
 posed pose(const asked *ask);
 
-/* The word that names a question on a command line. */
+/* Whether a number asks a question. */
+int is_question(uint32_t asked_for);
+
+/* The word that names a question on a command line; none where the number
+ * asks nothing. */
 const char *question_name(uint32_t asked_for);
 
 #endif

@@ -138,7 +138,7 @@ static void spoil(source *from, int application, stored *file)
     else if (choice < RANDOM)
         random_bytes(from, file);
     else
-        file->bytes[IND_FILE_TYPE_PLACE] ^= IND_X1_TYPE ^ IND_X2_TYPE;
+        swap_type(file);
     if (!once_in(from, 25))
         seal(file);
 }
@@ -258,6 +258,7 @@ void build_case(const generation *run, uint64_t index, asked *ask)
     ask->question = some_question(&from, &run->kinds);
     switch (ask->question) {
     case ASK_X1:
+    case ASK_X1_VERSION_1:
     case ASK_X2: ask_verdict(&from, &run->kinds, ask); break;
     case ASK_PAIR: ask_pair(&from, &run->kinds, ask); break;
     case ASK_RECORD: ask_record(&from, &run->kinds, ask); break;

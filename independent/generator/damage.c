@@ -22,9 +22,10 @@ uint32_t edge_offset(source *from, uint32_t old, uint32_t end)
                                 end - 1,  end,
                                 end + 1,  65535,
                                 old };
-    static const uint32_t sizes[] = { IND_POINT_SIZE,   IND_BOUNDARY_SIZE,
-                                      IND_TURNOUT_SIZE, IND_BALISE_PLAIN_SIZE,
-                                      IND_SIGNAL_SIZE,  IND_JOINT_SIZE,
+    static const uint32_t sizes[] = { IND_POINT_SIZE_1,  IND_POINT_SIZE_2,
+                                      IND_BOUNDARY_SIZE, IND_TURNOUT_SIZE,
+                                      IND_BALISE_PLAIN_SIZE,
+                                      IND_SIGNAL_SIZE,   IND_JOINT_SIZE,
                                       IND_SIDING_SIZE };
     uint32_t size = ONE_OF(from, sizes);
     switch (draw(from, 3)) {
@@ -34,21 +35,38 @@ uint32_t edge_offset(source *from, uint32_t old, uint32_t end)
     }
 }
 
+void damage_version(source *from, stored *file)
+{
+    static const uint32_t versions[] = { 0,
+                                         IND_VERSION_1,
+                                         IND_VERSION_2,
+                                         IND_VERSION_2 + 1,
+                                         256,
+                                         256 + IND_VERSION_1,
+                                         256 + IND_VERSION_2,
+                                         IND_LARGEST_OF_TWO };
+    uint32_t version = ONE_OF(from, versions);
+    if (once_in(from, 4))
+        version = draw(from, IND_LARGEST_OF_TWO + 1);
+    put_two(file->bytes, IND_STRUCTURE_VERSION_PLACE, version);
+}
+
 void damage_opening(source *from, stored *file)
 {
     static const uint8_t types[] = { 0, 1, 2, 3, 255 };
-    static const uint32_t versions[] = { 0, 2, 256, 257, 65535 };
     switch (draw(from, 4)) {
     case 0:
         file->bytes[IND_FILE_TYPE_PLACE] = ONE_OF(from, types);
         break;
-    case 1:
-        put_two(file->bytes, IND_STRUCTURE_VERSION_PLACE,
-                ONE_OF(from, versions));
-        break;
+    case 1: damage_version(from, file); break;
     case 2: put_two(file->bytes, IND_DATA_VERSION_PLACE, 0); break;
     default: put_two(file->bytes, IND_STATION_PLACE, 0); break;
     }
+}
+
+void swap_type(stored *file)
+{
+    file->bytes[IND_FILE_TYPE_PLACE] ^= IND_X1_TYPE ^ IND_X2_TYPE;
 }
 
 void flip_bits(source *from, stored *file)
@@ -92,11 +110,14 @@ static uint32_t cut_length(source *from, uint32_t length)
                                 IND_X1_LEAST_LENGTH,
                                 IND_X2_LEAST_LENGTH,
                                 IND_X2_LEAST_LENGTH + 1,
+                                IND_X1_LEAST_LENGTH_2 - 1,
+                                IND_X1_LEAST_LENGTH_2,
                                 length / 2,
                                 draw(from, length + 1),
                                 length - 1,
                                 length - IND_CHECKSUM_SIZE,
-                                length - IND_POINT_SIZE,
+                                length - IND_POINT_SIZE_1,
+                                length - IND_POINT_SIZE_2,
                                 length - IND_JOINT_SIZE };
     uint32_t cut = ONE_OF(from, values);
     return cut < length ? cut : length;
@@ -106,7 +127,8 @@ static uint32_t cut_length(source *from, uint32_t length)
  * checksum or anywhere. */
 void change_length(source *from, stored *file)
 {
-    static const uint32_t counts[] = { 1, 2, IND_POINT_SIZE,
+    static const uint32_t counts[] = { 1, 2, IND_POINT_SIZE_1,
+                                       IND_POINT_SIZE_2,
                                        IND_BOUNDARY_SIZE, IND_TURNOUT_SIZE,
                                        IND_BALISE_PLAIN_SIZE, IND_SIGNAL_SIZE,
                                        IND_JOINT_SIZE, IND_SIDING_SIZE };
@@ -139,7 +161,7 @@ void random_bytes(source *from, stored *file)
     if (file->length > IND_STRUCTURE_VERSION_PLACE + 1 && !once_in(from, 3)) {
         file->bytes[IND_FILE_TYPE_PLACE] = (uint8_t)(1 + draw(from, 2));
         put_two(file->bytes, IND_STRUCTURE_VERSION_PLACE,
-                IND_STRUCTURE_VERSION_READ);
+                IND_VERSION_1 + draw(from, 2));
     }
 }
 

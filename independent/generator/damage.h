@@ -12,6 +12,9 @@ uint32_t edge_position(source *from, uint32_t old);
 /* An offset at or beside the old one, the file's end or a record's size. */
 uint32_t edge_offset(source *from, uint32_t old, uint32_t end);
 
+/* The structure version: one that is read, one beside it, or any. */
+void damage_version(source *from, stored *file);
+
 /* The header's first fields: type, versions, station. */
 void damage_opening(source *from, stored *file);
 
@@ -20,13 +23,17 @@ void damage_opening(source *from, stored *file);
 void poke_geography(source *from, stored *file);
 void poke_application(source *from, stored *file);
 
-/* One aimed change of the layout or the length. */
+/* One aimed change of the layout or the length; of an X.1 also of the
+ * structure version, by which its points have another size. */
 void break_geography(source *from, stored *file);
 void break_application(source *from, stored *file);
 
 /* One change of an accepted pair's X.2: other station, a missing track, a
  * position at or beyond the track's end. */
 void damage_pair(source *from, const stored *geography, stored *file);
+
+/* The other of the two file types. */
+void swap_type(stored *file);
 
 /* Changes that ask nothing of the file. */
 void flip_bits(source *from, stored *file);

@@ -13,9 +13,12 @@ typedef enum {
     SIZE_LARGE
 } size_wanted;
 
-/* A right X.1 of this station. */
+/* A right X.1 of this station, of either structure version. */
 void make_geography(source *from, size_wanted size, uint32_t station,
                     stored *file);
+
+/* A point's height, in the two bytes that it takes. */
+uint32_t some_height(source *from);
 
 /* Links of a turnout, in field order. */
 enum {

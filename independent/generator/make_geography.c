@@ -1,5 +1,6 @@
 /* Right track geographies: few and many tracks and points, extremes of every
- * range, increments of both signs, near flags both ways. */
+ * range, increments of both signs, near flags both ways, half of them with
+ * heights. */
 #include "make.h"
 
 #include "core/core.h"
@@ -7,7 +8,8 @@
 enum {
     TRACK_NUMBERS = 255,
     SURVEY_STEP = 20000,
-    /* So many tracks fill a file of points to its last byte. */
+    /* So many tracks fill a file of points without heights to its last byte;
+     * with heights three bytes are always left. */
     TRACKS_OF_FULL_FILE = 17
 };
 
@@ -27,12 +29,15 @@ static uint32_t track_count(source *from, size_wanted size)
     }
 }
 
-/* Points for the first of so many tracks, with so many points still left. */
+/* Points for the first of so many tracks, with so many points still left. In a
+ * small file too there are now and then so many that counting them by another
+ * size gives another number. */
 static uint32_t point_count(source *from, size_wanted size, uint32_t tracks,
                             uint32_t left)
 {
     uint32_t spare = left - IND_LEAST_POINTS * tracks;
-    uint32_t more = draw(from, size == SIZE_SMALL ? 6 : 25);
+    int few = size == SIZE_SMALL && !once_in(from, 8);
+    uint32_t more = draw(from, few ? 6 : 25);
     if (size == SIZE_LARGE)
         more = spare / tracks;
     else if (once_in(from, 3))
@@ -88,6 +93,15 @@ static int32_t heading(source *from)
     }
 }
 
+uint32_t some_height(source *from)
+{
+    static const int32_t edges[] = { 0, 1, -1, INT16_MIN, INT16_MAX };
+    int32_t height = once_in(from, 2)
+        ? ONE_OF(from, edges)
+        : (int32_t)draw_between(from, INT16_MIN, INT16_MAX);
+    return (uint32_t)height & IND_LARGEST_OF_TWO;
+}
+
 /* The largest step from point to point in a track of so many points. */
 static uint32_t largest_step(source *from, uint32_t points)
 {
@@ -106,6 +120,7 @@ typedef struct {
     uint32_t step;
     uint32_t position;
     int far;
+    uint32_t point_size;
 } track_draft;
 
 static void put_point(source *from, const track_draft *draft, uint8_t *point)
@@ -115,6 +130,8 @@ static void put_point(source *from, const track_draft *draft, uint8_t *point)
     put_three(point, IND_POINT_LONGITUDE, (uint32_t)draft->increment[1]);
     put_two(point, IND_POINT_HEADING, (uint32_t)heading(from));
     point[IND_POINT_NEAR] = (uint8_t)draw(from, 2);
+    if (draft->point_size == IND_POINT_SIZE_2)
+        put_two(point, IND_POINT_HEIGHT, some_height(from));
 }
 
 static void next_point(source *from, track_draft *draft, int last)
@@ -136,22 +153,23 @@ static void put_points(source *from, track_draft *draft, uint8_t *first,
     for (uint32_t i = 0; i < points; i++) {
         if (i > 0)
             next_point(from, draft, i + 1 == points);
-        put_point(from, draft, first + IND_POINT_SIZE * i);
+        put_point(from, draft, first + draft->point_size * i);
     }
-    first[IND_POINT_NEAR] = first[IND_POINT_SIZE + IND_POINT_NEAR];
+    first[IND_POINT_NEAR] = first[draft->point_size + IND_POINT_NEAR];
 }
 
 static void put_track(source *from, stored *file, uint32_t track,
                       uint32_t number, uint32_t first, uint32_t points)
 {
     uint8_t *entry = file->bytes + track;
-    track_draft draft = { { 0, 0 }, { 0, 0 }, { 0, 0 }, 0, 0, 0 };
+    track_draft draft = { { 0, 0 }, { 0, 0 }, { 0, 0 }, 0, 0, 0, 0 };
     draft.style[0] = (int)draw(from, 5);
     draft.style[1] = (int)draw(from, 5);
     draft.start[0] = start_coordinate(from, IND_LATITUDE_LIMIT);
     draft.start[1] = start_coordinate(from, IND_LONGITUDE_LIMIT);
     draft.step = largest_step(from, points);
     draft.far = once_in(from, 4);
+    draft.point_size = ind_point_size(file->bytes);
     put_points(from, &draft, file->bytes + first, points);
     entry[IND_TRACK_NUMBER] = (uint8_t)number;
     entry[IND_TRACK_PROPERTY] =
@@ -166,7 +184,7 @@ static void put_track(source *from, stored *file, uint32_t track,
              (uint32_t)(draft.start[1] + draft.increment[1]));
     put_two(entry, IND_TRACK_FIRST_POINT, first);
     put_two(entry, IND_TRACK_LAST_POINT,
-            first + IND_POINT_SIZE * (points - 1));
+            first + draft.point_size * (points - 1));
 }
 
 static void put_header(source *from, uint32_t station, uint32_t tracks,
@@ -174,6 +192,8 @@ static void put_header(source *from, uint32_t station, uint32_t tracks,
 {
     uint32_t version = once_in(from, 4) ? 65535 : 1 + draw(from, 300);
     put_opening(bytes, IND_X1_TYPE, version, station);
+    if (once_in(from, 2))
+        put_two(bytes, IND_STRUCTURE_VERSION_PLACE, IND_VERSION_2);
     bytes[IND_TRACK_COUNT_PLACE] = (uint8_t)tracks;
 }
 
@@ -182,15 +202,16 @@ void make_geography(source *from, size_wanted size, uint32_t station,
 {
     uint32_t tracks = track_count(from, size);
     uint32_t place = ind_track_place(tracks);
-    uint32_t left = (IND_LARGEST_FILE - IND_CHECKSUM_SIZE - place)
-        / IND_POINT_SIZE;
     uint32_t number = 0;
+    uint32_t point_size, left;
     put_header(from, station, tracks, file->bytes);
+    point_size = ind_point_size(file->bytes);
+    left = (IND_LARGEST_FILE - IND_CHECKSUM_SIZE - place) / point_size;
     for (uint32_t i = 0; i < tracks; i++) {
         uint32_t points = point_count(from, size, tracks - i, left);
         number = next_number(from, number, tracks - i);
         put_track(from, file, ind_track_place(i), number, place, points);
-        place += IND_POINT_SIZE * points;
+        place += point_size * points;
         left -= points;
     }
     file->length = place + IND_CHECKSUM_SIZE;

@@ -36,10 +36,10 @@ void some_point_index(source *from, const stored *file, uint32_t *numbers)
 static uint32_t position_on(source *from, const stored *file, uint32_t track)
 {
     uint32_t index = draw(from, ind_points(file->bytes, track) - 1);
-    uint32_t point = ind_first_point(file->bytes, track)
-        + IND_POINT_SIZE * index;
-    uint32_t low = ind_four(file->bytes, point);
-    uint32_t high = ind_four(file->bytes, point + IND_POINT_SIZE);
+    uint32_t low =
+        ind_four(file->bytes, ind_point_place(file->bytes, track, index));
+    uint32_t high =
+        ind_four(file->bytes, ind_point_place(file->bytes, track, index + 1));
     uint32_t end = ind_four(file->bytes, track + IND_TRACK_END_POSITION);
     uint32_t between = (uint32_t)draw_between(from, low, high);
     uint32_t middle = low + (high - low) / 2;

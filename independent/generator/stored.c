@@ -25,7 +25,7 @@ void put_opening(uint8_t *bytes, uint8_t type, uint32_t data_version,
                  uint32_t station)
 {
     bytes[IND_FILE_TYPE_PLACE] = type;
-    put_two(bytes, IND_STRUCTURE_VERSION_PLACE, IND_STRUCTURE_VERSION_READ);
+    put_two(bytes, IND_STRUCTURE_VERSION_PLACE, IND_VERSION_1);
     put_two(bytes, IND_DATA_VERSION_PLACE, data_version);
     put_two(bytes, IND_STATION_PLACE, station);
 }

@@ -19,7 +19,7 @@ void put_two(uint8_t *bytes, uint32_t place, uint32_t value);
 void put_three(uint8_t *bytes, uint32_t place, uint32_t value);
 void put_four(uint8_t *bytes, uint32_t place, uint32_t value);
 
-/* The fields that both headers begin with. */
+/* The fields that both headers begin with, in structure version 1. */
 void put_opening(uint8_t *bytes, uint8_t type, uint32_t data_version,
                  uint32_t station);
 
