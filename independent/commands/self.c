@@ -853,13 +853,15 @@ static void version_examples(void)
            "an X.2 of version 2: 4 at 1");
 }
 
-/* The verdict of the version 2 file of two points once a number of so many
- * bytes at a place of it is this one. */
+/* The verdict of the version 2 file of two points, with heights below 0, once
+ * a number of so many bytes at a place of it is this one. */
 static int high_gives(uint32_t at, uint32_t bytes, uint32_t value,
                       uint32_t number, uint32_t place)
 {
     static stored file;
     make_high(&file, 2);
+    put_two(file.bytes, HIGH_FIRST_HEIGHT, 0xFFFF);
+    put_two(file.bytes, HIGH_LAST_HEIGHT, 0x8000);
     for (uint32_t i = 0; i < bytes; i++)
         file.bytes[at + i] = (uint8_t)(value >> IND_BITS_PER_BYTE * i);
     seal(&file);
@@ -890,8 +892,8 @@ static void high_examples(void)
            "near flags 0 and 1: 7 at 38");
     expect(high_gives(HIGH_LAST_POINT, 1, 0, 7, 53),
            "no rising position: 7 at 53");
-    expect(high_gives(HIGH_FIRST_HEIGHT, 2, 0xFFFF, 0, 0)
-               && high_gives(HIGH_LAST_HEIGHT, 2, 0x8000, 0, 0),
+    expect(high_gives(HIGH_FIRST_HEIGHT, 2, 0x7FFF, 0, 0)
+               && high_gives(HIGH_LAST_HEIGHT, 2, 0, 0, 0),
            "any height is right");
 }
 
@@ -1001,6 +1003,9 @@ static void high_question_examples(void)
            "a version 1 reader answers 4 to it");
     expect(says(ind_pair(file.bytes, file.length, y.bytes, y.length), 0, 0),
            "an X.1 of version 2 and Y are a pair");
+    file.length--;
+    seal(&file);
+    expect(both_say(&file, 6, 36, 4, 1), "one byte less: 6 at 36");
 }
 
 /* Y with a station name of so many bytes and zeros after them. */

@@ -1,11 +1,10 @@
 /* 01, 'X.1, track geography': the verdict. What is about points is written
- * once for either size of a point, and compiled once for each. */
+ * once, for points of any size. */
 #include "geography.h"
 
 /* Layout of one track, its points due at a place: the faulty field. */
-static inline uint32_t track_layout_fault(const uint8_t *file, uint32_t size,
-                                          uint32_t track, uint32_t due,
-                                          uint32_t end)
+static uint32_t track_layout_fault(const uint8_t *file, uint32_t size,
+                                   uint32_t track, uint32_t due, uint32_t end)
 {
     uint32_t first = ind_first_point(file, track);
     uint32_t last = ind_last_point(file, track);
@@ -16,8 +15,7 @@ static inline uint32_t track_layout_fault(const uint8_t *file, uint32_t size,
     return IND_NO_FAULT;
 }
 
-static inline uint32_t layout_fault(const uint8_t *file, uint32_t size,
-                                    uint32_t end)
+static uint32_t layout_fault(const uint8_t *file, uint32_t size, uint32_t end)
 {
     uint32_t tracks = ind_tracks(file);
     uint32_t due = ind_track_place(tracks);
@@ -146,7 +144,7 @@ static uint32_t east_of(const uint8_t *point)
 
 /* The first point has position and both increments 0, and its near flag
  * equals the second's. */
-static inline int first_point_right(const uint8_t *point, uint32_t size)
+static int first_point_right(const uint8_t *point, uint32_t size)
 {
     const uint8_t *second = point + size;
     return position_of(point) == IND_START_POSITION && north_of(point) == 0
@@ -203,9 +201,8 @@ static inline const uint8_t *wrong_after(const uint8_t *track, uint32_t size,
 
 /* The first of a track's points in which a field or the agreement is wrong,
  * NULL if there is none. A start plus an increment of 0 is in range. */
-static inline const uint8_t *wrong_point(const uint8_t *track, uint32_t size,
-                                         const uint8_t *first,
-                                         const uint8_t *last)
+static const uint8_t *wrong_point(const uint8_t *track, uint32_t size,
+                                  const uint8_t *first, const uint8_t *last)
 {
     if (!heading_right(first) || !near_right(first)
         || !first_point_right(first, size))
@@ -216,7 +213,7 @@ static inline const uint8_t *wrong_point(const uint8_t *track, uint32_t size,
 
 /* The first track number that does not rise, or the first point in which a
  * field or the agreement is wrong. A place of a file is below 65,535. */
-static inline uint32_t wrong_place(const uint8_t *file, uint32_t size)
+static uint32_t wrong_place(const uint8_t *file, uint32_t size)
 {
     uint32_t points = ind_track_place(ind_tracks(file));
     uint32_t before = 0;
@@ -238,8 +235,8 @@ static inline uint32_t wrong_place(const uint8_t *file, uint32_t size)
 /* Fields of the header, of all entries and of all points, then agreement. One
  * pass over the points serves both. Where it stops, agreement is at fault
  * there, unless the field of some point is. */
-static inline ind_answer contents_answer(const uint8_t *file, uint32_t size,
-                                         uint32_t end)
+static ind_answer contents_answer(const uint8_t *file, uint32_t size,
+                                  uint32_t end)
 {
     uint32_t wrong, fault = entry_field_fault(file);
     if (fault != IND_NO_FAULT)
@@ -252,27 +249,22 @@ static inline ind_answer contents_answer(const uint8_t *file, uint32_t size,
                                  : ind_says(IND_AGREEMENT, wrong);
 }
 
-/* Layout, fields and agreement of a file whose points have this size. */
-static inline ind_answer points_answer(const uint8_t *file, uint32_t size,
-                                       uint32_t end)
-{
-    uint32_t fault = layout_fault(file, size, end);
-    return fault == IND_NO_FAULT ? contents_answer(file, size, end)
-                                 : ind_says(IND_LAYOUT, fault);
-}
-
 /* The verdict of a reader that knows the versions up to the newest. */
 static ind_answer verdict(const uint8_t *file, size_t length, uint32_t newest)
 {
+    uint32_t size, end;
     ind_answer answer = ind_opening(file, length, IND_X1_LEAST_LENGTH,
                                     IND_X1_TYPE, newest);
     if (answer.number != IND_ACCEPTED)
         return answer;
-    if (!ind_has_heights(file))
-        return points_answer(file, IND_POINT_SIZE_1, ind_end(length));
-    if (length < IND_X1_LEAST_LENGTH_2)
+    if (ind_has_heights(file) && length < IND_X1_LEAST_LENGTH_2)
         return ind_says(IND_LENGTH, 0);
-    return points_answer(file, IND_POINT_SIZE_2, ind_end(length));
+    size = ind_point_size(file);
+    end = ind_end(length);
+    answer = ind_unless(layout_fault(file, size, end), IND_LAYOUT);
+    if (answer.number == IND_ACCEPTED)
+        answer = contents_answer(file, size, end);
+    return answer;
 }
 
 ind_answer ind_x1(const uint8_t *file, size_t length)

@@ -142,8 +142,8 @@ static void damage_point_position(source *from, uint8_t *point,
     }
 }
 
-/* The point at a place, of the track with an entry. Another height is as right
- * as the old one. */
+/* A point and its track, by their places. Another height is as right as the
+ * old one. */
 static void damage_point(source *from, stored *file, uint32_t track,
                          uint32_t place)
 {
@@ -281,9 +281,10 @@ void break_geography(source *from, stored *file)
     switch (draw(from, 8)) {
     case 0: damage_count(from, file, end); break;
     case 1: change_length(from, file); break;
-    case 2: swap_version(file); break;
-    case 3: lay_out_otherwise(from, file); break;
-    case 4: shorten(from, file); break;
+    case 2: damage_version(from, file); break;
+    case 3: swap_version(file); break;
+    case 4: lay_out_otherwise(from, file); break;
+    case 5: shorten(from, file); break;
     default:
         damage_offsets(from, ind_point_size(file->bytes),
                        file->bytes + track, end);
