@@ -67,6 +67,8 @@ static void expect_point(const posed *ask, expected *due)
     value(due, (uint32_t)got.longitude_increment);
     value(due, (uint32_t)got.heading);
     value(due, got.near);
+    value(due, got.has_height);
+    value(due, (uint32_t)got.height);
 }
 
 static void expect_coordinate(const posed *ask, expected *due)

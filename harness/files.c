@@ -16,6 +16,9 @@ enum {
     NORTH = 7,
     EAST = 11,
     HEADING = 1200,
+    /* Of a point; the next is so much lower. */
+    HEIGHT = 300,
+    FALL = 3,
     /* Where the first track starts, and how far apart tracks are. */
     LATITUDE = 164880000,
     LONGITUDE = 455780000,
@@ -39,6 +42,7 @@ static void put_track(stored *file, uint32_t index, uint32_t first,
                       uint32_t points)
 {
     uint8_t *entry = file->bytes + ind_track_place(index);
+    uint32_t size = ind_point_size(file->bytes);
     uint32_t latitude = LATITUDE + APART * index;
     uint32_t last = points - 1;
     entry[IND_TRACK_NUMBER] = (uint8_t)(index + 1);
@@ -49,37 +53,74 @@ static void put_track(stored *file, uint32_t index, uint32_t first,
     put_four(entry, IND_TRACK_END_LATITUDE, latitude + NORTH * last);
     put_four(entry, IND_TRACK_END_LONGITUDE, LONGITUDE + EAST * last);
     put_two(entry, IND_TRACK_FIRST_POINT, first);
-    put_two(entry, IND_TRACK_LAST_POINT, first + IND_POINT_SIZE * last);
-    for (uint32_t i = 0; i < points; i++)
-        put_point(file->bytes + first + IND_POINT_SIZE * i, i);
+    put_two(entry, IND_TRACK_LAST_POINT, first + size * last);
+    for (uint32_t i = 0; i < points; i++) {
+        uint8_t *point = file->bytes + first + size * i;
+        put_point(point, i);
+        if (ind_has_heights(file->bytes))
+            put_two(point, IND_POINT_HEIGHT, HEIGHT - FALL * i);
+    }
 }
 
-static void geography(uint32_t tracks, uint32_t points, stored *file)
+/* An X.1 of this structure version that has no track yet. */
+static void empty_geography(uint32_t version, stored *file)
 {
-    uint32_t first = ind_track_place(tracks);
     memset(file, 0, sizeof *file);
     put_opening(file->bytes, IND_X1_TYPE, VERSION, STATION);
+    put_two(file->bytes, IND_STRUCTURE_VERSION_PLACE, version);
+}
+
+/* So many tracks with so many points each. */
+static void put_tracks(uint32_t tracks, uint32_t points, stored *file)
+{
+    uint32_t first = ind_track_place(tracks);
     file->bytes[IND_TRACK_COUNT_PLACE] = (uint8_t)tracks;
     for (uint32_t i = 0; i < tracks; i++) {
         put_track(file, i, first, points);
-        first += IND_POINT_SIZE * points;
+        first += ind_point_size(file->bytes) * points;
     }
     file->length = first + IND_CHECKSUM_SIZE;
     seal(file);
 }
 
-void realistic_geography(uint32_t bytes, stored *file)
+static void realistic_of(uint32_t version, uint32_t bytes, stored *file)
 {
     uint32_t bare = ind_track_place(0) + IND_CHECKSUM_SIZE;
-    uint32_t tracks = (bytes - bare)
-        / (IND_TRACK_SIZE + IND_POINT_SIZE * POINTS);
-    geography(tracks < TRACKS_MOST ? tracks : TRACKS_MOST, POINTS, file);
+    uint32_t tracks;
+    empty_geography(version, file);
+    tracks = (bytes - bare)
+        / (IND_TRACK_SIZE + ind_point_size(file->bytes) * POINTS);
+    put_tracks(tracks < TRACKS_MOST ? tracks : TRACKS_MOST, POINTS, file);
+}
+
+/* So many tracks, with as many points as fit. */
+static void fitting_tracks(uint32_t version, uint32_t tracks, uint32_t bytes,
+                           stored *file)
+{
+    uint32_t bare = ind_track_place(tracks) + IND_CHECKSUM_SIZE;
+    empty_geography(version, file);
+    put_tracks(tracks,
+               (bytes - bare) / (tracks * ind_point_size(file->bytes)), file);
+}
+
+void realistic_geography(uint32_t bytes, stored *file)
+{
+    realistic_of(IND_VERSION_1, bytes, file);
+}
+
+void realistic_heights(uint32_t bytes, stored *file)
+{
+    realistic_of(IND_VERSION_2, bytes, file);
 }
 
 void worst_geography(uint32_t bytes, stored *file)
 {
-    uint32_t bare = ind_track_place(1) + IND_CHECKSUM_SIZE;
-    geography(1, (bytes - bare) / IND_POINT_SIZE, file);
+    fitting_tracks(IND_VERSION_1, 1, bytes, file);
+}
+
+void worst_heights(uint32_t bytes, stored *file)
+{
+    fitting_tracks(IND_VERSION_2, 1, bytes, file);
 }
 
 /* ---- X.2 */
@@ -203,9 +244,7 @@ void realistic_station(uint32_t bytes, stored *files)
 
 void largest_station(uint32_t bytes, stored *files)
 {
-    uint32_t bare = ind_track_place(TRACKS_MOST) + IND_CHECKSUM_SIZE;
-    geography(TRACKS_MOST, (bytes - bare) / (TRACKS_MOST * IND_POINT_SIZE),
-              &files[0]);
+    fitting_tracks(IND_VERSION_1, TRACKS_MOST, bytes, &files[0]);
     fitting_lines(bytes, &files[0], &files[1]);
 }
 

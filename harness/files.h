@@ -12,6 +12,10 @@ void realistic_geography(uint32_t bytes, stored *file);
 /* An X.1 of one track: points alone. */
 void worst_geography(uint32_t bytes, stored *file);
 
+/* The same two in structure version 2, with heights. */
+void realistic_heights(uint32_t bytes, stored *file);
+void worst_heights(uint32_t bytes, stored *file);
+
 /* An X.2 of lines that part and meet again, with signals, joints, balises
  * with messages, and sidings. Names are as the generator makes them: some have
  * a space inside, and some joints have none. */

@@ -106,6 +106,17 @@ static const char *way_name(int lent)
     }
 }
 
+/* The function that answers a question: its name has an underscore where the
+ * question's has a hyphen. */
+static void say_function(uint32_t asked_for)
+{
+    size_t from = said_size;
+    say(asked_for == CHECKSUM ? "checksum" : question_name(asked_for));
+    for (size_t i = from; i < said_size; i++)
+        if (said[i] == '-')
+            said[i] = '_';
+}
+
 /* Which call is under way. */
 static void say_call(void)
 {
@@ -114,8 +125,7 @@ static void say_call(void)
         return;
     }
     say(" in yard_");
-    say(question_now == CHECKSUM ? "checksum"
-                                 : question_name((uint32_t)question_now));
+    say_function((uint32_t)question_now);
     say(", with ");
     say(way_name((int)way_now));
 }
@@ -191,6 +201,7 @@ static uint64_t ask_library(const call *of, const uint8_t *const file[FILES],
     const uint64_t *n = of->above;
     switch (of->ask.question) {
     case ASK_X1: return yard_x1(file[0], length[0]);
+    case ASK_X1_VERSION_1: return yard_x1_version_1(file[0], length[0]);
     case ASK_X2: return yard_x2(file[0], length[0]);
     case ASK_PAIR:
         return yard_pair(file[0], length[0], file[1], length[1]);
@@ -423,21 +434,27 @@ static void run_case(figures *seen, const generation *run, uint64_t index)
     call_each_way(seen, &of);
 }
 
+/* A question's calls, and how many were answered by each number. */
+static void print_calls(const figures *seen, uint32_t asked_for)
+{
+    const uint64_t *answers = seen->answers[asked_for];
+    unsigned long long calls = 0;
+    for (int n = 0; n < IND_NUMBERS; n++)
+        calls += answers[n];
+    printf("%-12s %10llu calls:", question_name(asked_for), calls);
+    for (int n = 0; n < IND_NUMBERS; n++)
+        if (answers[n] > 0)
+            printf(" %d:%llu", n, (unsigned long long)answers[n]);
+    putchar('\n');
+}
+
 static void print_figures(const figures *seen)
 {
-    printf("checksum    %10llu calls\n",
+    printf("%-12s %10llu calls\n", "checksum",
            (unsigned long long)seen->checksums);
-    for (uint32_t q = ASK_X1; q < QUESTIONS; q++) {
-        unsigned long long calls = 0;
-        for (int n = 0; n < IND_NUMBERS; n++)
-            calls += seen->answers[q][n];
-        printf("%-11s %10llu calls:", question_name(q), calls);
-        for (int n = 0; n < IND_NUMBERS; n++)
-            if (seen->answers[q][n] > 0)
-                printf(" %d:%llu", n,
-                       (unsigned long long)seen->answers[q][n]);
-        putchar('\n');
-    }
+    for (uint32_t q = ASK_X1; q < QUESTIONS; q++)
+        if (is_question(q))
+            print_calls(seen, q);
     printf("%llu calls, %llu of them with a null pointer, %llu differ, %llu "
            "bytes changed, no signal\n",
            (unsigned long long)seen->calls,

@@ -55,6 +55,12 @@ typedef struct {
     uint8_t near;
 } point;
 
+/* In structure version 2. */
+typedef struct {
+    point like;
+    int16_t height;
+} high_point;
+
 typedef struct {
     opening start;
     uint8_t name[STATION_NAME_SIZE];
@@ -123,7 +129,8 @@ typedef struct {
 
 typedef char records_have_their_sizes
     [sizeof(opening) == 7 && sizeof(x1_header) == 8 && sizeof(track) == 30
-     && sizeof(point) == 13 && sizeof(x2_header) == 24 && sizeof(entry) == 3
+     && sizeof(point) == 13 && sizeof(high_point) == 15
+     && sizeof(x2_header) == 24 && sizeof(entry) == 3
      && sizeof(boundary) == 12 && sizeof(turnout) == 24
      && sizeof(balise) == 16 && sizeof(signal) == 19 && sizeof(joint) == 18
      && sizeof(siding) == 32 ? 1 : -1];
@@ -135,10 +142,12 @@ static int sealed(const uint8_t *file, size_t length)
     return sum_by_eight(file, length - CHECKSUM_SIZE) == stored;
 }
 
-static int opened(const uint8_t *file, uint8_t type)
+/* Structure versions are from 1 up to the newest. */
+static int opened(const uint8_t *file, uint8_t type, uint16_t newest)
 {
     const opening *start = (const void *)file;
-    return start->type == type && start->structure == 1 && start->data != 0
+    return start->type == type && start->structure >= 1
+        && start->structure <= newest && start->data != 0
         && start->station != 0;
 }
 
@@ -175,16 +184,26 @@ static int point_right(const track *of, const point *at)
                   LONGITUDE_LIMIT);
 }
 
-static int points_right(const track *of, const point *first,
-                        const point *last)
+/* The next point, where each has this size. */
+static const point *after(const point *at, size_t size)
 {
+    return (const void *)((const uint8_t *)at + size);
+}
+
+static inline int points_right(const track *of, const point *first,
+                               const point *last, size_t size)
+{
+    const point *before = first;
     if (first->position != 0 || increment(first->latitude) != 0
-        || increment(first->longitude) != 0 || first->near != first[1].near
-        || !point_right(of, first))
+        || increment(first->longitude) != 0
+        || first->near != after(first, size)->near || !point_right(of, first))
         return 0;
-    for (const point *at = first + 1; at <= last; at++)
-        if (at->position <= at[-1].position || !point_right(of, at))
+    for (const point *at = after(first, size); at <= last;
+         at = after(at, size)) {
+        if (at->position <= before->position || !point_right(of, at))
             return 0;
+        before = at;
+    }
     return last->position == of->end_position
         && of->start_latitude + increment(last->latitude) == of->end_latitude
         && of->start_longitude + increment(last->longitude)
@@ -201,29 +220,44 @@ static const point *point_at(const uint8_t *file, uint32_t place)
     return (const void *)(file + place);
 }
 
-int plain_x1(const uint8_t *file, size_t length)
+static size_t point_size(const uint8_t *file)
+{
+    const opening *start = (const void *)file;
+    return start->structure == 1 ? sizeof(point) : sizeof(high_point);
+}
+
+/* All tracks, with points of this size. */
+static inline int tracks_right(const uint8_t *file, size_t end, size_t size)
 {
     const x1_header *header = (const void *)file;
     const track *tracks = tracks_of(file);
-    size_t end = length - CHECKSUM_SIZE, due;
-    if (length < 68 || length > LARGEST_FILE || !sealed(file, length)
-        || !opened(file, 1) || header->tracks == 0)
-        return 0;
-    due = sizeof *header + header->tracks * sizeof *tracks;
-    if (due > end)
+    size_t due = sizeof *header + header->tracks * sizeof *tracks;
+    if (header->tracks == 0 || due > end)
         return 0;
     for (int i = 0; i < header->tracks; i++) {
         const track *of = &tracks[i];
         if (of->first != due || of->last <= of->first
-            || (of->last - of->first) % sizeof(point) != 0
-            || of->last + sizeof(point) > end || !track_right(of)
+            || (size_t)(of->last - of->first) % size != 0
+            || of->last + size > end || !track_right(of)
             || (i > 0 && of->number <= of[-1].number)
             || !points_right(of, point_at(file, of->first),
-                             point_at(file, of->last)))
+                             point_at(file, of->last), size))
             return 0;
-        due = of->last + sizeof(point);
+        due = of->last + size;
     }
     return due == end;
+}
+
+/* Too short for version 2 is too short for its two points. */
+int plain_x1(const uint8_t *file, size_t length)
+{
+    size_t end = length - CHECKSUM_SIZE;
+    if (length < 68 || length > LARGEST_FILE || !sealed(file, length)
+        || !opened(file, 1, 2))
+        return 0;
+    return point_size(file) == sizeof(point)
+        ? tracks_right(file, end, sizeof(point))
+        : tracks_right(file, end, sizeof(high_point));
 }
 
 /* From low to high at a step of a width, to the nearest whole, a half up. */
@@ -239,7 +273,7 @@ int plain_coordinate(const uint8_t *file, size_t length, uint32_t number,
 {
     const x1_header *header = (const void *)file;
     const track *of = tracks_of(file);
-    const point *at;
+    const point *at, *before;
     int64_t step, width;
     int left;
     if (!plain_x1(file, length))
@@ -248,16 +282,19 @@ int plain_coordinate(const uint8_t *file, size_t length, uint32_t number,
         of++;
     if (left == 0 || position > of->end_position)
         return 0;
-    at = point_at(file, of->first) + 1;
-    while (at->position < position)
-        at++;
-    step = position - at[-1].position;
-    width = at->position - at[-1].position;
+    before = point_at(file, of->first);
+    at = after(before, point_size(file));
+    while (at->position < position) {
+        before = at;
+        at = after(at, point_size(file));
+    }
+    step = position - before->position;
+    width = at->position - before->position;
     *latitude = of->start_latitude
-        + between(increment(at[-1].latitude), increment(at->latitude), step,
+        + between(increment(before->latitude), increment(at->latitude), step,
                   width);
     *longitude = of->start_longitude
-        + between(increment(at[-1].longitude), increment(at->longitude),
+        + between(increment(before->longitude), increment(at->longitude),
                   step, width);
     return 1;
 }
@@ -605,7 +642,7 @@ static int x2_right(const uint8_t *file, size_t length, layout *found)
     starts_map starts_at;
     uint32_t end = (uint32_t)length - CHECKSUM_SIZE;
     if (length < 69 || length > LARGEST_FILE || !sealed(file, length)
-        || !opened(file, 2) || !station_name_right(header->name))
+        || !opened(file, 2, 1) || !station_name_right(header->name))
         return 0;
     memset(starts_at, 0, length);
     return boundaries_right(file, end, found, starts_at)

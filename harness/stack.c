@@ -16,18 +16,22 @@ enum { ON_X1 = 14 << 10, ON_X2 = 22 << 10, ON_PAIR = 25 << 10, ON_ROUTES = 250 <
 
 static unsigned char stack[STACK];
 static ucontext_t caller, called;
-static stored geography, application, forked, station[2];
+static stored geography, heights, application, forked, station[2];
 static uint8_t out[OUTPUT], words[WORDS];
 static uint64_t answered;
 
 static void verdict1(void) { answered = yard_x1(geography.bytes, geography.length); }
+static void verdict1_heights(void) { answered = yard_x1(heights.bytes, heights.length); }
+static void verdict1_version_1(void) { answered = yard_x1_version_1(geography.bytes, geography.length); }
 static void verdict2(void) { answered = yard_x2(application.bytes, application.length); }
 static void pair(void) { answered = yard_pair(station[0].bytes, station[0].length, station[1].bytes, station[1].length); }
 static void header1(void) { answered = yard_header1(geography.bytes, geography.length, out, OUTPUT); }
 static void header2(void) { answered = yard_header2(application.bytes, application.length, out, OUTPUT); }
 static void track(void) { answered = yard_track(geography.bytes, geography.length, 0, out, OUTPUT); }
 static void point(void) { answered = yard_point(geography.bytes, geography.length, 0, 1, out, OUTPUT); }
+static void point_height(void) { answered = yard_point(heights.bytes, heights.length, 0, 1, out, OUTPUT); }
 static void coordinate(void) { answered = yard_coordinate(geography.bytes, geography.length, 1, 1, out, OUTPUT); }
+static void coordinate_heights(void) { answered = yard_coordinate(heights.bytes, heights.length, 1, 1, out, OUTPUT); }
 static void record(void) { answered = yard_record(application.bytes, application.length, FIRST_START, out, OUTPUT); }
 
 static void routes(size_t limit)
@@ -46,10 +50,14 @@ typedef struct {
 
 static const measured calls[] = {
     { "x1", verdict1, ON_X1 },
+    { "x1, heights", verdict1_heights, ON_X1 },
+    { "x1-version-1", verdict1_version_1, ON_X1 },
     { "header1", header1, ON_X1 },
     { "track", track, ON_X1 },
     { "point", point, ON_X1 },
+    { "point, heights", point_height, ON_X1 },
     { "coordinate", coordinate, ON_X1 },
+    { "coordinate, heights", coordinate_heights, ON_X1 },
     { "x2", verdict2, ON_X2 },
     { "header2", header2, ON_X2 },
     { "record", record, ON_X2 },
@@ -78,12 +86,13 @@ int main(void)
 {
     int over = 0;
     worst_geography(LARGEST, &geography);
+    worst_heights(LARGEST, &heights);
     worst_application(LARGEST, &application);
     forks(FORKS, &forked);
     largest_station(LARGEST, station);
     for (size_t i = 0; i < sizeof calls / sizeof calls[0]; i++) {
         unsigned bytes = taken(calls[i].call);
-        printf("%-18s %6u bytes of stack, at most %6u; number %u\n", calls[i].name, bytes, calls[i].allowed, YARD_NUMBER(answered));
+        printf("%-19s %6u bytes of stack, at most %6u; number %u\n", calls[i].name, bytes, calls[i].allowed, YARD_NUMBER(answered));
         over |= bytes > calls[i].allowed;
     }
     if (over)
