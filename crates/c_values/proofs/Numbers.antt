@@ -4,7 +4,9 @@ use Prim.Native.Nat.{ℕ, suc, _+_, _-_, _*_, _%_, _^_, _<_}
 use native.Mathlib.Omega.{arith}
 use mathlib.Core.Path.{_≡_, refl, sym, ap, _∙_, subst}
 use mathlib.Core.Bool.{true, false}
+use mathlib.Core.List.{List, [], _∷_}
 use lib.Dec.{T, leb·zero}
+use lib.ListN.{getD}
 use lib.IntN.{ℤ, pos, negsuc, natAbs}
 use lib.Signed.{mag, leZ}
 use Rattle.verdict.specs.declared.Reason.{Reason}
@@ -12,8 +14,11 @@ use Rattle.verdict.specs.declared.Reason.the-variants as reason
 use Rattle.verdict.specs.declared.File.{File}
 use Rattle.verdict.specs.declared.File.the-variants as file
 use Rattle.verdict.specs.Reasons.{numberOf, fileOf}
+use Rattle.x1_records.specs.Tracks.{heightValues}
+use Rattle.x1_records.specs.declared.Height.{Height}
+use Rattle.x1_records.specs.declared.Height.the-variants.{Decimetres, NoHeight}
 use Rattle.octets.proofs.Signs.{read, kept}
-use Rattle.c_values.specs.Words.{overByte, overWord, answerWord, numberPart, filePart, placePart, wordOf}
+use Rattle.c_values.specs.Words.{overByte, overWord, answerWord, numberPart, filePart, placePart, wordOf, valueWords}
 
 -- ---- the parts come back
 
@@ -89,3 +94,10 @@ down-far (negsuc n) e = omega arith
 -- a signed field as the machine reads it back
 pub value-read : (z : ℤ) → mag z < 2 ^ 63 → (r : ℕ) → r ≡ wordOf (read z) → r ≡ wordOf z
 value-read z h r e = e ∙ ap wordOf (kept z h)
+
+-- ---- a height
+
+-- its two values one after the other
+pub height-two : (h : Height) (w : List ℕ) → w ≡ valueWords (heightValues h) → (getD w 0 0 ∷ getD w 1 0 ∷ []) ≡ valueWords (heightValues h)
+height-two (Decimetres z) w e = rw e refl
+height-two NoHeight w e = rw e refl

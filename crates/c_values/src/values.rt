@@ -2,6 +2,7 @@
 ghost use mathlib.Core.Path.{_≡_};
 ghost use mathlib.Core.List.{_∷_};
 ghost use Rattle.envelope.specs.Header.{headerValues};
+ghost use Rattle.x1_records.specs.Tracks.{heightValues};
 ghost use Rattle.x1_questions.specs.Answers.{trackValues, pointValues, coordinateValues};
 ghost use Rattle.x2_verdict.specs.Answers.{namedHeaderValues, valueCount, boundaryFields, filled, recordValues};
 ghost use Rattle.route_lister.specs.Answered.{tallyValues};
@@ -12,6 +13,7 @@ use envelope::Header;
 use names::Name;
 use route_walks::Tally;
 use x1_questions::Coordinate;
+use x1_records::Height;
 use x1_records::Point;
 use x1_records::Track;
 use x2_records::Balise;
@@ -30,7 +32,9 @@ pub const NAMED_HEADER_VALUES: usize = 5;
 
 pub const TRACK_VALUES: usize = 11;
 
-pub const POINT_VALUES: usize = 5;
+pub const POINT_VALUES: usize = 7;
+
+const HEIGHT_VALUES: usize = 2;
 
 pub const COORDINATE_VALUES: usize = 2;
 
@@ -87,22 +91,36 @@ pub fn track_words(t: Track) -> [u32; TRACK_VALUES]
         word(t.end_position),
         signed_word(t.end_latitude),
         signed_word(t.end_longitude),
-        word(t.first),
-        word(t.last),
+        word(t.first as usize),
+        word(t.last as usize),
         word(t.points()),
     ]
 }
 
-// A point.
+// Whether a point has a height, and the height.
+fn height_words(h: Height) -> [u32; HEIGHT_VALUES]
+    ensures { λ r. ⌜ r ≡ valueWords (heightValues h) ⌝ }
+{
+    match h {
+        Height::Decimetres(z) => [1, signed_word(z)],
+        Height::NoHeight => [0, 0],
+    }
+}
+
+// A point, its height last.
 pub fn point_words(p: Point) -> [u32; POINT_VALUES]
     ensures { λ r. ⌜ r ≡ valueWords (pointValues p) ⌝ }
 {
+    let height = p.height;
+    let high = height_words(height);
     [
         word(p.position),
         signed_word(p.latitude_increment),
         signed_word(p.longitude_increment),
         signed_word(p.heading),
         word(p.near),
+        high[0],
+        high[1],
     ]
 }
 
