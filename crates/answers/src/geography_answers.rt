@@ -2,18 +2,21 @@
 ghost use mathlib.Core.Path.{_≡_};
 ghost use Rattle.verdict.specs.Reasons.{numberOf, numberIn};
 ghost use Rattle.verdict.specs.Answers.{answerNumber};
-ghost use Rattle.x1_verdict.specs.Facts.{verdictOf};
+ghost use Rattle.x1_verdict.specs.Facts.{verdictBy, verdictOf};
 ghost use Rattle.x1_questions.specs.Questions.{trackOf, pointOf, coordinateAsked};
 ghost use Rattle.x1_questions.specs.Answers.{trackAnswer, pointAnswer, coordinateAnswer};
 use text::head;
 use text::line;
 use text::lines;
 use text::signed_line;
+use text::text_line;
 use verdict::Fault;
+use verdict::Verdict;
 use x1_questions::Coordinate;
 use x1_questions::CoordinateAnswer;
 use x1_questions::PointAnswer;
 use x1_questions::TrackAnswer;
+use x1_records::Height;
 use x1_records::Point;
 use x1_records::Track;
 
@@ -32,14 +35,27 @@ pub fn answered() {
     head(b"answer", 0, 0);
 }
 
+// A verdict.
+pub fn judged(v: Verdict) -> usize
+    ensures { λ r. ⌜ r ≡ numberIn v ⌝ }
+{
+    let n = v.number();
+    head(b"answer", n, v.place());
+    n
+}
+
 // The question x1.
 pub fn x1(f: &[u8]) -> usize
     ensures { λ r. ⌜ r ≡ numberIn (verdictOf (now (f .entry))) ⌝ }
 {
-    let v = x1_verdict::verdicts::verdict_of(f);
-    let n = v.number();
-    head(b"answer", n, v.place());
-    n
+    judged(x1_verdict::verdicts::verdict_of(f))
+}
+
+// The question x1-version-1.
+pub fn x1_version_1(f: &[u8]) -> usize
+    ensures { λ r. ⌜ r ≡ numberIn (verdictBy 1 (now (f .entry))) ⌝ }
+{
+    judged(x1_verdict::verdicts::version_1_verdict(f))
 }
 
 fn start_lines(t: Track) {
@@ -60,7 +76,7 @@ fn track_lines(t: Track) {
     lines(b"number property", &name);
     start_lines(t);
     end_lines(t);
-    let points = [t.first, t.last, t.points()];
+    let points = [t.first as usize, t.last as usize, t.points()];
     lines(b"first_offset last_offset points", &points);
 }
 
@@ -77,6 +93,14 @@ pub fn track(f: &[u8], index: usize) -> usize
     }
 }
 
+// A point's height; a dash for none.
+fn height_line(h: Height) {
+    match h {
+        Height::Decimetres(z) => signed_line(b"height", z),
+        Height::NoHeight => text_line(b"height", b"-"),
+    }
+}
+
 fn point_lines(p: Point) {
     answered();
     line(b"position", p.position);
@@ -84,6 +108,8 @@ fn point_lines(p: Point) {
     signed_line(b"longitude_increment", p.longitude_increment);
     signed_line(b"heading", p.heading);
     line(b"near", p.near);
+    let height = p.height;
+    height_line(height);
 }
 
 // The question point.

@@ -10,6 +10,7 @@ pub use geography_answers::coordinate;
 pub use geography_answers::point;
 pub use geography_answers::track;
 pub use geography_answers::x1;
+pub use geography_answers::x1_version_1;
 pub use header_answers::header1;
 pub use header_answers::header2;
 pub use pair_answers::pair;

@@ -6,9 +6,9 @@ ghost use Rattle.x2_verdict.specs.Facts.{verdictOf};
 ghost use Rattle.x2_verdict.specs.Questions.{recordOf};
 ghost use Rattle.x2_verdict.specs.Answers.{recordAnswer};
 use crate::geography_answers::answered;
+use crate::geography_answers::judged;
 use crate::geography_answers::refused;
 use names::Name;
-use text::head;
 use text::line;
 use text::lines;
 use text::message_line;
@@ -30,10 +30,7 @@ use x2_verdict::RecordAnswer;
 pub fn x2(f: &[u8]) -> usize
     ensures { λ r. ⌜ r ≡ numberIn (verdictOf (now (f .entry))) ⌝ }
 {
-    let v = x2_verdict::verdict_of(f);
-    let n = v.number();
-    head(b"answer", n, v.place());
-    n
+    judged(x2_verdict::verdict_of(f))
 }
 
 // What every record's answer begins with.
