@@ -25,6 +25,7 @@ use c_values::words::answer;
 use c_values::words::refused;
 use c_values::words::show;
 use route_lister::RoutesAnswer;
+use verdict::Verdict;
 use x1_questions::CoordinateAnswer;
 use x1_questions::HeaderAnswer;
 use x1_questions::PointAnswer;
@@ -40,13 +41,27 @@ pub extern "C" fn yard_checksum(bytes: &[u8]) -> u32
     checksum::of(bytes) as u32
 }
 
+// The number that is returned for a verdict of one file.
+fn judged(v: Verdict) -> u64
+    ensures { λ r. ⌜ r ≡ verdictShown v ⌝ }
+{
+    answer(v.number(), 0, v.place())
+}
+
 // The verdict of an X.1.
 #[no_mangle]
 pub extern "C" fn yard_x1(file: &[u8]) -> u64
     ensures { λ r. ⌜ r ≡ verdictShown (geography.verdictOf (now (file .entry))) ⌝ }
 {
-    let v = x1_verdict::verdicts::verdict_of(file);
-    answer(v.number(), 0, v.place())
+    judged(x1_verdict::verdicts::verdict_of(file))
+}
+
+// The verdict of an X.1 by a reader that knows structure version 1 alone.
+#[no_mangle]
+pub extern "C" fn yard_x1_version_1(file: &[u8]) -> u64
+    ensures { λ r. ⌜ r ≡ verdictShown (geography.verdictBy 1 (now (file .entry))) ⌝ }
+{
+    judged(x1_verdict::verdicts::version_1_verdict(file))
 }
 
 // The verdict of an X.2.
@@ -54,8 +69,7 @@ pub extern "C" fn yard_x1(file: &[u8]) -> u64
 pub extern "C" fn yard_x2(file: &[u8]) -> u64
     ensures { λ r. ⌜ r ≡ verdictShown (application.verdictOf (now (file .entry))) ⌝ }
 {
-    let v = x2_verdict::verdict_of(file);
-    answer(v.number(), 0, v.place())
+    judged(x2_verdict::verdict_of(file))
 }
 
 // The verdict of a station's two files, the X.1 first.
