@@ -12,8 +12,9 @@ use octets::u16_at;
 
 // The questions, a line for each: the words of its command and, after two spaces or more, what it answers. Help is these lines; a question is
 // known by its word, and its number is that of its line.
-const QUESTIONS: [u8; 965] = *b"\
+const QUESTIONS: [u8; 1083] = *b"\
 yardask x1 FILE                                the verdict of an X.1 file: its number and the place of the fault\n\
+yardask x1-version-1 FILE                      the verdict of an X.1 by a reader that knows structure version 1 alone\n\
 yardask x2 FILE                                the verdict of an X.2 file\n\
 yardask pair FILE1 FILE2                       the verdict of a station's two files\n\
 yardask header1 FILE                           the versions and the station of an X.1\n\
@@ -26,25 +27,27 @@ yardask routes FILE START LIMIT BUDGET ROOM    the routes of an X.2 from a bound
 
 const X1: usize = 1;
 
-const X2: usize = 2;
+const X1_VERSION_1: usize = 2;
 
-const PAIR: usize = 3;
+const X2: usize = 3;
 
-const HEADER1: usize = 4;
+const PAIR: usize = 4;
 
-const HEADER2: usize = 5;
+const HEADER1: usize = 5;
 
-const TRACK: usize = 6;
+const HEADER2: usize = 6;
 
-const POINT: usize = 7;
+const TRACK: usize = 7;
 
-const COORDINATE: usize = 8;
+const POINT: usize = 8;
 
-const RECORD: usize = 9;
+const COORDINATE: usize = 9;
 
-const ROUTES: usize = 10;
+const RECORD: usize = 10;
 
-const HELP: usize = 11;
+const ROUTES: usize = 11;
+
+const HELP: usize = 12;
 
 const NO_QUESTION: usize = 0;
 
@@ -331,6 +334,8 @@ fn read_file(i: usize, room: &mut [u8]) -> usize {
 fn answer(question: usize, f: &[u8], a: usize, b: usize) {
     if question == X1 {
         answers::x1(f);
+    } else if question == X1_VERSION_1 {
+        answers::x1_version_1(f);
     } else if question == X2 {
         answers::x2(f);
     } else if question == HEADER1 {

@@ -1,8 +1,9 @@
 // Many questions in one run. Standard input is a sequence of cases: the question in 1 byte (x1, x2, pair, track, point, coordinate,
-// record, routes, header1 and header2 are 1 to 10), four numbers of 4 bytes each, two lengths of 4 bytes each, and the bytes of the first
-// and of the second file; all numbers are little-endian. Standard output is, for each case, what yardask prints, and an empty line. Input
-// that ends inside a case, an unknown question, or a list of routes that does not fit the 65,535 words that are here where the case lends
-// more, is a line on standard error and ends the run.
+// record, routes, header1 and header2 are 1 to 10; 11 to 15 are kept for questions to come and unknown until then; x1-version-1 is 16),
+// four numbers of 4 bytes each, two lengths of 4 bytes each, and the bytes of the first and of the second file; all numbers are
+// little-endian. Standard output is, for each case, what yardask prints, and an empty line. Input that ends inside a case, an unknown
+// question, or a list of routes that does not fit the 65,535 words that are here where the case lends more, is a line on standard error and
+// ends the run.
 ghost use Prim.Native.Nat.{_≤_};
 use libc::STDERR_FILENO;
 use libc::STDIN_FILENO;
@@ -36,6 +37,8 @@ const ROUTES: usize = 8;
 const HEADER1: usize = 9;
 
 const HEADER2: usize = 10;
+
+const X1_VERSION_1: usize = 16;
 
 // Where the four numbers stand, and the bytes of each.
 const NUMBERS: usize = 1;
@@ -139,6 +142,10 @@ fn file_answered(question: usize, first: &[u8], second: &[u8]) -> bool {
     }
     if question == HEADER2 {
         answers::header2(first);
+        return true;
+    }
+    if question == X1_VERSION_1 {
+        answers::x1_version_1(first);
         return true;
     }
     false
