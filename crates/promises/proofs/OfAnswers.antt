@@ -4,6 +4,8 @@ use Rattle.promises.specs.Determined.{Determined}
 use Rattle.promises.proofs.Equations.{by-equation}
 use Rattle.answers.proofs.x1.Kinds as x1-kinds
 use Rattle.answers.proofs.x1.Reads as x1-reads
+use Rattle.answers.proofs.x1_version_1.Kinds as x1-version-1-kinds
+use Rattle.answers.proofs.x1_version_1.Reads as x1-version-1-reads
 use Rattle.answers.proofs.track.Kinds as track-kinds
 use Rattle.answers.proofs.track.Reads as track-reads
 use Rattle.answers.proofs.point.Kinds as point-kinds
@@ -23,6 +25,9 @@ use Rattle.answers.proofs.header2.Reads as header2-reads
 
 pub x1-determined : Determined 1 x1-kinds.ps x1-kinds.r x1-reads.Pre x1-reads.Post
 x1-determined κs a = by-equation (λ v w. refl)
+
+pub x1-version-1-determined : Determined 1 x1-version-1-kinds.ps x1-version-1-kinds.r x1-version-1-reads.Pre x1-version-1-reads.Post
+x1-version-1-determined κs a = by-equation (λ v w. refl)
 
 pub track-determined : Determined 1 track-kinds.ps track-kinds.r track-reads.Pre track-reads.Post
 track-determined κs a = by-equation (λ v w. refl)

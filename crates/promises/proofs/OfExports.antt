@@ -8,6 +8,8 @@ use Rattle.exports.proofs.yard_checksum.Kinds as yard-checksum-kinds
 use Rattle.exports.proofs.yard_checksum.Reads as yard-checksum-reads
 use Rattle.exports.proofs.yard_x1.Kinds as yard-x1-kinds
 use Rattle.exports.proofs.yard_x1.Reads as yard-x1-reads
+use Rattle.exports.proofs.yard_x1_version_1.Kinds as yard-x1-version-1-kinds
+use Rattle.exports.proofs.yard_x1_version_1.Reads as yard-x1-version-1-reads
 use Rattle.exports.proofs.yard_x2.Kinds as yard-x2-kinds
 use Rattle.exports.proofs.yard_x2.Reads as yard-x2-reads
 use Rattle.exports.proofs.yard_pair.Kinds as yard-pair-kinds
@@ -32,6 +34,9 @@ yard-checksum-determined κs a = by-equation (λ v w. refl)
 
 pub yard-x1-determined : Determined 1 yard-x1-kinds.ps yard-x1-kinds.r yard-x1-reads.Pre yard-x1-reads.Post
 yard-x1-determined κs a = by-equation (λ v w. refl)
+
+pub yard-x1-version-1-determined : Determined 1 yard-x1-version-1-kinds.ps yard-x1-version-1-kinds.r yard-x1-version-1-reads.Pre yard-x1-version-1-reads.Post
+yard-x1-version-1-determined κs a = by-equation (λ v w. refl)
 
 pub yard-x2-determined : Determined 1 yard-x2-kinds.ps yard-x2-kinds.r yard-x2-reads.Pre yard-x2-reads.Post
 yard-x2-determined κs a = by-equation (λ v w. refl)

@@ -2,6 +2,8 @@
 use mathlib.Core.Path.{refl}
 use Rattle.promises.specs.Determined.{Determined}
 use Rattle.promises.proofs.Equations.{by-equation, by-part}
+use Rattle.x1_layout.proofs.size_of.Kinds as size-of-kinds
+use Rattle.x1_layout.proofs.size_of.Reads as size-of-reads
 use Rattle.x1_layout.proofs.points_at.Kinds as points-at-kinds
 use Rattle.x1_layout.proofs.points_at.Reads as points-at-reads
 use Rattle.x1_layout.proofs.is_first.Kinds as is-first-kinds
@@ -10,6 +12,9 @@ use Rattle.x1_layout.proofs.entry_before.Kinds as entry-before-kinds
 use Rattle.x1_layout.proofs.entry_before.Reads as entry-before-reads
 use Rattle.x1_layout.proofs.check_layout.Kinds as check-layout-kinds
 use Rattle.x1_layout.proofs.check_layout.Reads as check-layout-reads
+
+pub size-of-determined : Determined 1 size-of-kinds.ps size-of-kinds.r size-of-reads.Pre size-of-reads.Post
+size-of-determined κs a = by-equation (λ v w. refl)
 
 pub points-at-determined : Determined 1 points-at-kinds.ps points-at-kinds.r points-at-reads.Pre points-at-reads.Post
 points-at-determined κs a = by-part (λ x p. p .0) (λ v w. refl)
