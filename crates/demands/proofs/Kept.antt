@@ -3,7 +3,7 @@ use mathlib.Core.Path.{_≡_, refl}
 use mathlib.Core.List.{List}
 use Prim.Native.Nat.{ℕ}
 use Rattle.verdict.specs.Answers.{Answer, answered, refused, answerNumber}
-use Rattle.promises.proofs.OfExports.{yard-checksum-determined, yard-x1-determined, yard-x2-determined, yard-pair-determined, yard-header1-determined, yard-header2-determined, yard-track-determined, yard-point-determined, yard-coordinate-determined, yard-record-determined, yard-routes-determined}
+use Rattle.promises.proofs.OfExports.{yard-checksum-determined, yard-x1-determined, yard-x1-version-1-determined, yard-x2-determined, yard-pair-determined, yard-header1-determined, yard-header2-determined, yard-track-determined, yard-point-determined, yard-coordinate-determined, yard-record-determined, yard-routes-determined}
 use Rattle.c_values.specs.Shown.{leaves}
 use Rattle.export_theorems.proofs.Fit.{track-back, point-back, coordinate-back, record-back}
 use Rattle.x1_obeys.specs.Obeys.{entryPlace}
@@ -11,11 +11,14 @@ use Rattle.x1_theorems.proofs.Numbers as x1
 use Rattle.x1_lookup.specs.Lookup.{numberAt}
 use Rattle.x1_lookup.proofs.Lookup.{found-iff}
 use Rattle.x1_theorems.proofs.Asked as survey
+use Rattle.x1_theorems.proofs.Heights.{height-read}
+use Rattle.x1_theorems.proofs.Base.{as-ever, new-refused, others-alike}
 use Rattle.x1_theorems.proofs.Coordinates.{coordinate-nearest, coordinate-only-one}
 use Rattle.x2_theorems.proofs.Numbers as x2
 use Rattle.x2_theorems.proofs.Asked as application
 use Rattle.x2_theorems.proofs.Values.{enums-kept, names-read}
 use Rattle.pair_theorems.proofs.Whole.{pair-is}
+use Rattle.pair_theorems.proofs.Base.{pair-as-ever}
 use Rattle.x2_layout.specs.Layout.{layoutOf}
 use Rattle.route_graph.proofs.Read.{object-read}
 use Rattle.route_theorems.proofs.Listed as yard
@@ -33,6 +36,7 @@ pub returns : Returns
 returns = record {
   checksum = yard-checksum-determined;
   first = yard-x1-determined;
+  first-by-version-1 = yard-x1-version-1-determined;
   second = yard-x2-determined;
   pair = yard-pair-determined;
   first-header = yard-header1-determined;
@@ -62,6 +66,11 @@ accepts = record {
   record-there = application.record-asked;
   enums = enums-kept;
   names = names-read;
+  heights = height-read;
+  as-ever = as-ever;
+  pair-as-ever = pair-as-ever;
+  new-refused = new-refused;
+  others-alike = others-alike;
   track-back = λ f out. track-back out f;
   point-back = λ f out. point-back out f;
   position-back = λ f out. coordinate-back out f;

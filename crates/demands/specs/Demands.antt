@@ -1,7 +1,7 @@
 -- The three promises, each in its own words and then as what it needs. f is the bytes of an X.1 or X.2, and g those of the X.2 of a pair:
 -- any bytes, since no caller vets input. `Answered checks n p` reads: in the order of 01's table the first check that is not passed has
--- the number n, and p is the place where 01 has it reported; 0 and 0 where all are passed. `Asked` puts a file's own fault before the
--- question's own checks.
+-- the number n, and p is the place where 01 has it reported; 0 and 0 where all are passed. `Reported` says the same where a number stands
+-- twice in the table, as 1 does in X.1's. `Asked` puts a file's own fault before the question's own checks.
 use Prim.Native.Nat.{ℕ, _≤_, _<_}
 use mathlib.Core.Path.{_≡_}
 use mathlib.Core.Logic.{_↔_}
@@ -11,13 +11,17 @@ use Rattle.verdict.specs.declared.Fault.{Fault}
 use Rattle.verdict.specs.declared.Verdict.the-variants as verdict
 use Rattle.verdict.specs.Reasons.{numberIn, placeIn, pairNumberIn, pairPlaceIn, pairFileIn}
 use Rattle.verdict.specs.Answers.{Answer, answerNumber, answerPlace}
-use Rattle.verdict.specs.Order.{Answered, Asked}
+use Rattle.verdict.specs.Order.{Answered, Reported, Asked}
 use Rattle.promises.specs.Determined.{Determined}
 use Rattle.x1_questions.specs.declared.answers.Coordinate.{Coordinate}
+use Rattle.x1_questions.specs.declared.answers.PointAnswer.the-variants as point-answer
+use Rattle.x1_records.specs.declared.Point.{Point}
 use Rattle.x1_layout.specs.Layout.{countOf}
-use Rattle.x1_verdict.specs.Facts.{verdictOf as x1Verdict}
-use Rattle.x1_obeys.specs.Obeys.{entryPlace, Obeys as X1Obeys}
+use Rattle.x1_verdict.specs.Facts.{verdictBy as x1VerdictBy, verdictOf as x1Verdict}
+use Rattle.x1_obeys.specs.Obeys.{structureOf, sizeOf, entryPlace, pointPlace, Obeys as X1Obeys}
 use Rattle.x1_theorems.specs.Faults.{checks as x1Checks}
+use Rattle.x1_theorems.specs.Heights.{HeightRead}
+use Rattle.x1_theorems.specs.Base.{AsEver, NewFile}
 use Rattle.x1_lookup.specs.Lookup.{numberAt}
 use Rattle.x1_questions.specs.Answers.{headerAnswer, trackAnswer, pointAnswer, coordinateAnswer}
 use Rattle.x1_theorems.specs.Asked as survey
@@ -38,6 +42,7 @@ use Rattle.x2_theorems.specs.Asked as application
 use Rattle.x2_theorems.specs.Values.{EnumsKept, NamesRead}
 use Rattle.pair.specs.Pair.{pairOf}
 use Rattle.pair_theorems.specs.Faults.{PairAnswered}
+use Rattle.pair_theorems.specs.Base.{pairWas}
 use Rattle.route_graph.specs.Objects.{objectAt}
 use Rattle.route_graph.specs.Read.{objectOf}
 use Rattle.route_walks.specs.declared.Tally.{Tally}
@@ -55,6 +60,8 @@ use Rattle.exports.proofs.yard_checksum.Kinds as checksum-kinds
 use Rattle.exports.proofs.yard_checksum.Reads as checksum-reads
 use Rattle.exports.proofs.yard_x1.Kinds as x1-kinds
 use Rattle.exports.proofs.yard_x1.Reads as x1-reads
+use Rattle.exports.proofs.yard_x1_version_1.Kinds as x1-version-1-kinds
+use Rattle.exports.proofs.yard_x1_version_1.Reads as x1-version-1-reads
 use Rattle.exports.proofs.yard_x2.Kinds as x2-kinds
 use Rattle.exports.proofs.yard_x2.Reads as x2-reads
 use Rattle.exports.proofs.yard_pair.Kinds as pair-kinds
@@ -87,6 +94,7 @@ Shows a n p = (answerNumber a ≡ n) × (answerPlace a ≡ p)
 pub record Returns : Type 0 where
   pub checksum : Determined 1 checksum-kinds.ps checksum-kinds.r checksum-reads.Pre checksum-reads.Post
   pub first : Determined 1 x1-kinds.ps x1-kinds.r x1-reads.Pre x1-reads.Post
+  pub first-by-version-1 : Determined 1 x1-version-1-kinds.ps x1-version-1-kinds.r x1-version-1-reads.Pre x1-version-1-reads.Post
   pub second : Determined 1 x2-kinds.ps x2-kinds.r x2-reads.Pre x2-reads.Post
   pub pair : Determined 2 pair-kinds.ps pair-kinds.r pair-reads.Pre pair-reads.Post
   pub first-header : Determined 2 header1-kinds.ps header1-kinds.r header1-reads.Pre header1-reads.Post
@@ -109,7 +117,7 @@ pub record Returns : Type 0 where
 pub record Accepts : Type 0 where
   -- accepted exactly, and refused exactly: by which number and where
   pub first-accepted : (f : List ℕ) → (numberIn (x1Verdict f) ≡ 0) ↔ X1Obeys f
-  pub first-answered : (f : List ℕ) (n p : ℕ) → ((numberIn (x1Verdict f) ≡ n) × (placeIn (x1Verdict f) ≡ p)) ↔ Answered (x1Checks f) n p
+  pub first-answered : (f : List ℕ) (n p : ℕ) → ((numberIn (x1Verdict f) ≡ n) × (placeIn (x1Verdict f) ≡ p)) ↔ Reported (x1Checks f) n p
   pub second-accepted : (f : List ℕ) → (numberIn (x2Verdict f) ≡ 0) ↔ X2Obeys f
   pub second-answered : (f : List ℕ) (n p : ℕ) → ((numberIn (x2Verdict f) ≡ n) × (placeIn (x2Verdict f) ≡ p)) ↔ Answered (x2Checks f) n p
   pub pair-answered : (f g : List ℕ) (d n p : ℕ)
@@ -131,16 +139,25 @@ pub record Accepts : Type 0 where
   -- 02: Ticket10.7
   pub names : (f : List ℕ) → x2Verdict f ≡ verdict.Accepted → (at : ℕ)
       → List·Memᴰ at (starts f (layoutOf f)) → NamesRead f at (recordAt f (kindAt (layoutOf f) at) at)
+  -- the height of a point is the one that its bytes mean, and a file of version 1 has none
+  pub heights : (f : List ℕ) (i j : ℕ) (p : Point) → pointOf f i j ≡ point-answer.Point p
+      → HeightRead f (pointPlace f (sizeOf f) (entryPlace i) j) (p .height)
+  -- a file of version 1 reads as ever, alone and in a pair
+  pub as-ever : (f : List ℕ) → structureOf f ≡ 1 → AsEver f
+  pub pair-as-ever : (f g : List ℕ) → structureOf f ≡ 1 → pairOf f g ≡ pairWas f g
+  -- the version 1 reader answers 4 at 1 to the new file, and to every other what the reader answers that users have
+  pub new-refused : (f : List ℕ) → NewFile f → (numberIn (x1VerdictBy 1 f) ≡ 4) × (placeIn (x1VerdictBy 1 f) ≡ 1)
+  pub others-alike : (f : List ℕ) → (NewFile f → ⊥) → x1VerdictBy 1 f ≡ x1Verdict f
   -- each value of an answer comes back from its four bytes in a C caller's output, read as unsigned or signed
   pub track-back : (f out : List ℕ) (i : ℕ) → AnswerBack trackSigned (trackAnswer (trackOf f i)) out
-  pub point-back : (f out : List ℕ) (i j : ℕ) → AnswerBack pointSigned (pointAnswer (pointOf f i j)) out
+  pub point-back : (f out : List ℕ) → ((i : ℕ) → getD f i 0 < 256) → (i j : ℕ) → AnswerBack pointSigned (pointAnswer (pointOf f i j)) out
   pub position-back : (f out : List ℕ) (number x : ℕ) → AnswerBack coordinateSigned (coordinateAnswer (coordinateAsked f number x)) out
   pub record-back : (f out : List ℕ) → ((i : ℕ) → getD f i 0 < 256) → (x : ℕ) → AnswerBack recordSigned (recordAnswer (recordOf f x)) out
   -- at each position up to the end of a track, the nearest to the exact value between two neighbouring points; and no other
   pub nearest : (f : List ℕ) → X1Obeys f → (i : ℕ) → i < countOf f → (x : ℕ) → x ≤ endPositionOf f (entryPlace i)
       → (r : Coordinate) × (coordinateAsked f (numberAt f (entryPlace i)) x ≡ coordinate.Coordinate r)
-      × CoordinateAt f 13 (entryPlace i) x r
-  pub no-other : (f : List ℕ) → X1Obeys f → (i : ℕ) → i < countOf f → (x : ℕ) (r : Coordinate) → CoordinateAt f 13 (entryPlace i) x r
+      × CoordinateAt f (sizeOf f) (entryPlace i) x r
+  pub no-other : (f : List ℕ) → X1Obeys f → (i : ℕ) → i < countOf f → (x : ℕ) (r : Coordinate) → CoordinateAt f (sizeOf f) (entryPlace i) x r
       → coordinateAsked f (numberAt f (entryPlace i)) x ≡ coordinate.Coordinate r
 
 -- ---- 3. 'From a boundary of an accepted X.2, within a limit and a budget, every legal route is listed once and only once, normal before

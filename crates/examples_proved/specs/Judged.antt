@@ -9,6 +9,7 @@ use Rattle.verdict.specs.Reasons.{numberIn, placeIn, pairNumberIn, pairPlaceIn,
 use Rattle.verdict.specs.Facts.{firstFault}
 use Rattle.verdict.specs.Walk.{walk, startsFrom}
 use Rattle.names.specs.Names.{bytesBetween, lead, nameLength, isName, objectName, codeCount, codes, stationName}
+use Rattle.x1_records.specs.Places.{pointSize, leastLengthIn}
 use Rattle.x1_layout.specs.Layout as x1-layout
 use Rattle.x1_verdict.specs.Fields as x1-fields
 use Rattle.x1_verdict.specs.Agreement as x1-agreement
@@ -52,6 +53,31 @@ track last sum =
     ++ (1 ∷ 0 ∷ 0 ∷ 0 ∷ 0 ∷ 0 ∷ 0 ∷ 0 ∷ 0 ∷ 0 ∷ 0 ∷ 0 ∷ 0 ∷ [])
     ++ sum
 
+-- the same with heights (02, ticket 11): its structure version, the last offset (53 where it is right), the height of the second point and the
+-- checksum. The first point's height is 0
+abbrev pub high-track : ℕ → ℕ → List ℕ → List ℕ → List ℕ
+high-track version last height sum =
+    (1 ∷ version ∷ 0 ∷ 1 ∷ 0 ∷ 1 ∷ 0 ∷ 1 ∷ [])
+    ++ (1 ∷ 1 ∷ 0 ∷ 0 ∷ 0 ∷ 0 ∷ 0 ∷ 0 ∷ 0 ∷ 0 ∷ 0 ∷ 0 ∷ 0 ∷ 0 ∷ 1 ∷ 0 ∷ 0 ∷ 0 ∷ 0 ∷ 0 ∷ 0 ∷ 0 ∷ 0 ∷ 0 ∷ 0 ∷ 0 ∷ 38 ∷ 0 ∷ last ∷ 0 ∷ [])
+    ++ (0 ∷ 0 ∷ 0 ∷ 0 ∷ 0 ∷ 0 ∷ 0 ∷ 0 ∷ 0 ∷ 0 ∷ 0 ∷ 0 ∷ 0 ∷ 0 ∷ 0 ∷ [])
+    ++ (1 ∷ 0 ∷ 0 ∷ 0 ∷ 0 ∷ 0 ∷ 0 ∷ 0 ∷ 0 ∷ 0 ∷ 0 ∷ 0 ∷ 0 ∷ [])
+    ++ height
+    ++ sum
+
+-- a height of -1
+abbrev below : List ℕ
+below = 0xFF ∷ 0xFF ∷ []
+
+abbrev pub one-high : List ℕ
+one-high = high-track 2 53 below (0xDF ∷ 0xB3 ∷ 0xEC ∷ 0x41 ∷ [])
+
+-- a version 2 file of 71 bytes, and one of version 3 of 70 bytes
+abbrev pub too-short : List ℕ
+too-short = high-track 2 53 (0xFF ∷ []) (0x5A ∷ 0x1A ∷ 0x4C ∷ 0x9D ∷ [])
+
+abbrev pub unknown-version : List ℕ
+unknown-version = high-track 3 53 [] (0xC7 ∷ 0x62 ∷ 0xCA ∷ 0x55 ∷ [])
+
 abbrev pub y : List ℕ
 y = yard 68 (0x5D ∷ 0xC8 ∷ 0x1A ∷ 0x1A ∷ [])
 
@@ -62,12 +88,15 @@ one-track = track 51 (0xDD ∷ 0xA9 ∷ 0xA6 ∷ 0x4C ∷ [])
 pub data Case : Type 0 where
   -- a file, the number and the place of its verdict, as X.1 and as X.2
   first : List ℕ → ℕ → ℕ → Case
+  -- the same by the version 1 reader
+  first-by-version-1 : List ℕ → ℕ → ℕ → Case
   second : List ℕ → ℕ → ℕ → Case
   -- the two of a pair, and the file, the number and the place of its verdict
   pair : List ℕ → List ℕ → ℕ → ℕ → ℕ → Case
 
 abbrev pub Says : Case → Type 0
 Says (first f n p) = (numberIn (x1.verdictOf f) ≡ n) × (placeIn (x1.verdictOf f) ≡ p)
+Says (first-by-version-1 f n p) = (numberIn (x1.verdictBy 1 f) ≡ n) × (placeIn (x1.verdictBy 1 f) ≡ p)
 Says (second f n p) = (numberIn (x2.verdictOf f) ≡ n) × (placeIn (x2.verdictOf f) ≡ p)
 Says (pair f g d n p) = (pairFileIn (pairOf f g) ≡ d) × (pairNumberIn (pairOf f g) ≡ n) × (pairPlaceIn (pairOf f g) ≡ p)
 
@@ -87,22 +116,27 @@ table =
     ∷ first (track 50 (0x79 ∷ 0x80 ∷ 0x68 ∷ 0x41 ∷ [])) 6 36
     ∷ first (track 38 (0xA9 ∷ 0xBC ∷ 0xB2 ∷ 0xAA ∷ [])) 6 36
     ∷ pair one-track y 0 0 0
+    ∷ first one-high 0 0
+    ∷ first (high-track 2 52 below (0xB7 ∷ 0x16 ∷ 0x01 ∷ 0x6D ∷ [])) 6 36
+    ∷ first (high-track 2 51 below (0xAF ∷ 0x6C ∷ 0x81 ∷ 0xAB ∷ [])) 6 36
+    ∷ first (high-track 3 53 below (0x3F ∷ 0xB3 ∷ 0xD6 ∷ 0xCA ∷ [])) 4 1
+    ∷ first too-short 1 0
+    ∷ first unknown-version 4 1
+    ∷ first-by-version-1 one-track 0 0
+    ∷ first-by-version-1 one-high 4 1
+    ∷ first-by-version-1 too-short 4 1
+    ∷ pair one-high y 0 0 0
     ∷ []
 
 -- THEOREM: every case of the table holds.
 pub judged : All table
 unfolding checksumOf checksumFrom byteStep bitSteps bitStep step numAt signed signedAt flatMap firstFault walk startsFrom bytesBetween
     lead nameLength isName objectName codeCount codes stationName x1-layout.entries x1-layout.dueAt x1-layout.layoutFacts x1-fields.allPoints
-    x1-fields.fieldFacts x1-agreement.pointsOf x1-agreement.trackAgrees x1-agreement.agreementFacts x1.checkFacts x1.facts firstWhere
+    x1-fields.fieldFacts x1-agreement.pointsOf x1-agreement.trackAgrees x1-agreement.agreementFacts x1.sizedFacts x1.factsBy pointSize
+    leastLengthIn firstWhere
     findTrack layoutOf madeOf groupsFrom nextStart nextField groupEnd groupEnds baliseBytes walkLayout madeFacts oneGroup groupFacts
     x2-layout.indexes x2-layout.offsetsLayout x2-layout.layoutFacts kindAt sizeOf isStart x2-fields.entriesFields x2-kinds.messageFields
     x2-kinds.kindFields x2-fields.fieldFacts x2-agreement.entriesAgree x2-agreement.kindAgrees x2-agreement.agreementFacts
     x2-links.isTarget x2-links.targetFacts x2-links.linksTo x2-links.returnFacts x2.recordFacts x2.checkFacts x2.facts recordsPair pairFacts
     pairOf
-judged = (
-  (refl, refl),
-  (
-    (refl, refl),
-    ((refl, refl), ((refl, refl), ((refl, refl), ((refl, refl), ((refl, refl), ((refl, refl), ((refl, refl, refl), tt))))))),
-  ),
-)
+judged = ((refl, refl), ((refl, refl), ((refl, refl), ((refl, refl), ((refl, refl), ((refl, refl), ((refl, refl), ((refl, refl), ((refl, refl, refl), ((refl, refl), ((refl, refl), ((refl, refl), ((refl, refl), ((refl, refl), ((refl, refl), ((refl, refl), ((refl, refl), ((refl, refl), ((refl, refl, refl), tt)))))))))))))))))))

@@ -12,6 +12,9 @@ use lib.Signed.{mag}
 use Rattle.octets.specs.Octets.{numAt, signed, halfOf}
 use Rattle.octets.proofs.Signs.{low, high}
 use Rattle.verdict.specs.Answers.{Answer, answerValues}
+use Rattle.x1_records.specs.declared.Height.{Height}
+use Rattle.x1_records.specs.declared.Height.the-variants.{Decimetres, NoHeight}
+use Rattle.x1_records.specs.Tracks.{heightValues}
 use Rattle.x1_questions.specs.declared.answers.HeaderAnswer.{HeaderAnswer}
 use Rattle.x1_questions.specs.declared.answers.HeaderAnswer.the-variants as header
 use Rattle.x1_questions.specs.declared.answers.TrackAnswer.{TrackAnswer}
@@ -108,11 +111,15 @@ track-size a = answer-size (trackAnswer a) 11 (count a)
     count (track.Track t) = refl
     count (track.Refused t) = refl
 
-pub point-size : (a : PointAnswer) → length (laidBytes (valueWords (answerValues (pointAnswer a)))) ≡ 20
-point-size a = answer-size (pointAnswer a) 5 (count a)
+pub point-size : (a : PointAnswer) → length (laidBytes (valueWords (answerValues (pointAnswer a)))) ≡ 28
+point-size a = answer-size (pointAnswer a) 7 (count a)
   where
-    count : (a : PointAnswer) → length (answerValues (pointAnswer a)) ≡ 5
-    count (point.Point p) = refl
+    height-count : (h : Height) → length (heightValues h) ≡ 2
+    height-count (Decimetres z) = refl
+    height-count NoHeight = refl
+
+    count : (a : PointAnswer) → length (answerValues (pointAnswer a)) ≡ 7
+    count (point.Point p) = let h = height-count (p .height) in omega arith
     count (point.Refused t) = refl
 
 pub coordinate-size : (a : CoordinateAnswer) → length (laidBytes (valueWords (answerValues (coordinateAnswer a)))) ≡ 8

@@ -13,7 +13,7 @@ use Rattle.verdict.specs.declared.Reason.the-variants.{Room}
 use Rattle.verdict.specs.Reasons.{numberOf}
 use Rattle.verdict.specs.Answers.{Answer, answered, refused}
 use Rattle.tables.specs.Table.{Sign, unsigned, signed, Row}
-use Rattle.x1_records.specs.Rows.{entryTable, pointTable}
+use Rattle.x1_records.specs.Rows.{entryTable, pointTable, height}
 use Rattle.x1_questions.specs.Answers.{headerAnswer, trackAnswer, pointAnswer, coordinateAnswer}
 use Rattle.x1_questions.specs.Questions.{headerOf, trackOf, pointOf, coordinateAsked}
 use Rattle.x2_verdict.specs.Answers.{namedHeaderAnswer, recordAnswer}
@@ -70,7 +70,8 @@ track-signs : signsOf entryTable ++ (false ∷ []) ≡ trackSigned
 unfolding signsOf isSigned
 track-signs = refl
 
-point-signs : signsOf pointTable ≡ pointSigned
+-- whether a point has a height stands before it
+point-signs : signsOf pointTable ++ (false ∷ signsOf (height ∷ [])) ≡ pointSigned
 unfolding signsOf isSigned
 point-signs = refl
 
@@ -86,8 +87,9 @@ module _ (out f : List ℕ) where
   pub track-back : (i : ℕ) → AnswerBack trackSigned (trackAnswer (trackOf f i)) out
   track-back i = answer-back trackSigned (trackAnswer (trackOf f i)) out (track-parts out f i .number-is) (track-fits f i)
 
-  pub point-back : (i j : ℕ) → AnswerBack pointSigned (pointAnswer (pointOf f i j)) out
-  point-back i j = answer-back pointSigned (pointAnswer (pointOf f i j)) out (point-parts out f i j .number-is) (point-fits f i j)
+  -- the file's bytes are below 256, as those of every slice are
+  pub point-back : ((k : ℕ) → getD f k 0 < 256) → (i j : ℕ) → AnswerBack pointSigned (pointAnswer (pointOf f i j)) out
+  point-back bytes i j = answer-back pointSigned (pointAnswer (pointOf f i j)) out (point-parts out f i j .number-is) (point-fits f bytes i j)
 
   pub coordinate-back : (number x : ℕ) → AnswerBack coordinateSigned (coordinateAnswer (coordinateAsked f number x)) out
   coordinate-back number x =

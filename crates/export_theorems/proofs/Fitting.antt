@@ -19,11 +19,16 @@ use Rattle.x1_questions.specs.declared.answers.HeaderAnswer.the-variants as hea
 use Rattle.x1_questions.specs.declared.answers.TrackAnswer.{TrackAnswer}
 use Rattle.x1_questions.specs.declared.answers.TrackAnswer.the-variants as track
 use Rattle.x1_questions.specs.declared.answers.PointAnswer.{PointAnswer}
+use Rattle.x1_records.specs.declared.Height.{Height}
+use Rattle.x1_records.specs.declared.Height.the-variants.{Decimetres, NoHeight}
+use Rattle.x1_records.specs.Tracks.{heightValues}
 use Rattle.x1_questions.specs.declared.answers.PointAnswer.the-variants as point
 use Rattle.x1_questions.specs.declared.answers.CoordinateAnswer.{CoordinateAnswer}
 use Rattle.x1_questions.specs.declared.answers.CoordinateAnswer.the-variants as coordinate
 use Rattle.x1_questions.specs.Answers.{headerAnswer, trackAnswer, pointAnswer, coordinateAnswer}
 use Rattle.x1_questions.specs.Questions.{headerOf, trackOf, pointOf, coordinateAsked}
+use Rattle.x1_theorems.specs.Heights.{HeightRange}
+use Rattle.x1_theorems.proofs.Heights.{height-range}
 use Rattle.x1_theorems.proofs.Ranges.{header-range, track-range, point-range, coordinate-range}
 use Rattle.x2_verdict.specs.declared.NamedHeaderAnswer.{NamedHeaderAnswer}
 use Rattle.x2_verdict.specs.declared.NamedHeaderAnswer.the-variants as named
@@ -119,9 +124,14 @@ module _ (f : List ℕ) where
           (omega arith, (omega arith, (omega arith, (start-latitude, (start-longitude, (omega arith, (end-latitude, (end-longitude, (omega arith, (omega arith, (omega arith, tt)))))))))))
       by-answer (track.Refused t) e = tt
 
-  pub point-fits : (i j : ℕ) → AnswerFits pointSigned (pointAnswer (pointOf f i j))
-  point-fits i j = by-answer (pointOf f i j) refl
+  -- the file's bytes are below 256, as those of every slice are
+  pub point-fits : ((k : ℕ) → getD f k 0 < 256) → (i j : ℕ) → AnswerFits pointSigned (pointAnswer (pointOf f i j))
+  point-fits bytes i j = by-answer (pointOf f i j) refl
     where
+      height-fits : (h : Height) → HeightRange h → AllFit (false ∷ true ∷ []) (heightValues h)
+      height-fits (Decimetres z) r = (omega arith, (near z 32768 r (omega arith), tt))
+      height-fits NoHeight r = (omega arith, (omega arith, tt))
+
       by-answer : (a : PointAnswer) → pointOf f i j ≡ a → AnswerFits pointSigned (pointAnswer a)
       by-answer (point.Point p) e =
           let r = point-range f i j p e in
@@ -130,7 +140,7 @@ module _ (f : List ℕ) where
           let longitude = near (p .«longitude_increment») 1296000000 (r .longitude-increment) (omega arith) in
           let heading = near (p .heading) 31416 (r .heading) (omega arith) in
           let flag = r .near in
-          (omega arith, (latitude, (longitude, (heading, (omega arith, tt)))))
+          (omega arith, (latitude, (longitude, (heading, (omega arith, height-fits (p .height) (height-range f i j p e bytes))))))
       by-answer (point.Refused t) e = tt
 
   pub coordinate-fits : (number x : ℕ) → AnswerFits coordinateSigned (coordinateAnswer (coordinateAsked f number x))

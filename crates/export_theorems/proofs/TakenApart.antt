@@ -21,7 +21,7 @@ use Rattle.pair.specs.Pair.{pairOf}
 use Rattle.route_lister.specs.Answered.{routesAnswer}
 use Rattle.route_question.specs.Routes.{routesAsked}
 use Rattle.places.specs.Places.{placeOver}
-use Rattle.places.proofs.X1.{x1-place}
+use Rattle.places.proofs.X1.{x1-place-by}
 use Rattle.places.proofs.X2.{x2-place}
 use Rattle.places.proofs.Pair.{pair-place}
 use Rattle.places.proofs.Questions.{header1-place, header2-place, track-place, point-place, coordinate-place, record-place, routes-place}
@@ -43,8 +43,9 @@ verdict-parts : (v : Verdict) → placeIn v < placeOver → TakenApart (verdictS
 verdict-parts verdict.Accepted h = word-parts 0 0 0 (omega arith) (omega arith) h
 verdict-parts (verdict.Refused t) h = word-parts (numberOf (t .reason)) 0 (t .place) (number-fits (t .reason)) (omega arith) h
 
-pub x1-parts : (f : List ℕ) → TakenApart (verdictShown (geography.verdictOf f)) (numberIn (geography.verdictOf f)) 0 (placeIn (geography.verdictOf f))
-x1-parts f = verdict-parts (geography.verdictOf f) (x1-place f)
+-- of the version 1 reader, and of the one that knows both
+pub x1-parts : (newest : ℕ) (f : List ℕ) → TakenApart (verdictShown (geography.verdictBy newest f)) (numberIn (geography.verdictBy newest f)) 0 (placeIn (geography.verdictBy newest f))
+x1-parts newest f = verdict-parts (geography.verdictBy newest f) (x1-place-by newest f)
 
 pub x2-parts : (f : List ℕ) → TakenApart (verdictShown (file.verdictOf f)) (numberIn (file.verdictOf f)) 0 (placeIn (file.verdictOf f))
 x2-parts f = verdict-parts (file.verdictOf f) (x2-place f)

@@ -26,9 +26,9 @@ header2Signed = false ∷ false ∷ false ∷ false ∷ false ∷ []
 abbrev pub trackSigned : List Bool
 trackSigned = false ∷ false ∷ false ∷ true ∷ true ∷ false ∷ true ∷ true ∷ false ∷ false ∷ false ∷ []
 
--- position, both increments, heading, near flag
+-- position, both increments, heading, near flag; whether there is a height, and the height
 abbrev pub pointSigned : List Bool
-pointSigned = false ∷ true ∷ true ∷ true ∷ false ∷ []
+pointSigned = false ∷ true ∷ true ∷ true ∷ false ∷ false ∷ true ∷ []
 
 -- latitude, longitude
 abbrev pub coordinateSigned : List Bool

@@ -1,8 +1,8 @@
--- THEOREMS (02, ticket 11): a point that is handed out has the height that its bytes mean, and none in a version 1 file.
+-- THEOREMS (02, ticket 11): a point that is handed out has the height that its bytes mean, and none in a version 1 file; any height is right.
 use Prim.Native.Nat.{ℕ, _+_, _<_}
 use mathlib.Core.Path.{_≡_, refl, sym, ap, subst, _∙_}
 use mathlib.Core.Bool.{Bool, true, false, cond}
-use mathlib.Core.List.{List}
+use mathlib.Core.List.{List, [], _∷_, _++_}
 use lib.IntN.{ℤ, pos, negsuc, natAbs}
 use lib.ListN.{getD}
 use lib.Signed.{mag}
@@ -12,12 +12,14 @@ use Rattle.octets.specs.declared.Width.the-variants.{Two}
 use Rattle.octets.proofs.Reading.{one, more}
 use Rattle.octets.proofs.Signs.{of-number}
 use Rattle.tables.specs.Table.{signedOf}
+use Rattle.tables.specs.Rows.{tableFacts}
 use Rattle.x1_records.specs.Places.{pointSize}
 use Rattle.x1_records.specs.Rows as rows
 use Rattle.x1_records.specs.Tracks.{heightAt, pointAt}
 use Rattle.x1_records.specs.declared.Height.{Height}
 use Rattle.x1_records.specs.declared.Height.the-variants.{Decimetres, NoHeight}
 use Rattle.x1_records.specs.declared.Point.{Point}
+use Rattle.x1_fields.specs.Fields.{pointFields}
 use Rattle.x1_obeys.specs.Obeys.{structureOf, sizeOf, entryPlace, pointPlace}
 use Rattle.x1_questions.specs.declared.answers.PointAnswer.the-variants as point
 use Rattle.x1_questions.specs.Questions.{pointOf}
@@ -60,3 +62,11 @@ module _ (f : List ℕ) (i j : ℕ) (p : Point) (e : pointOf f i j ≡ point.Poi
       by-size : (t : Bool) → HeightRange (cond t (Decimetres (signedOf f place rows.height)) NoHeight)
       by-size true = small (signedOf f place rows.height) (two-small f bytes (place + rows.height .offset))
       by-size false = tt
+
+-- THEOREM: any height is right: the facts of all fields of a point are those of table 3, whatever the point's size.
+pub any-height : (f : List ℕ) (at size : ℕ) → tableFacts f at (rows.sizedTable size) ≡ pointFields f at
+any-height f at size = go (rows.hasHeight size)
+  where
+    go : (t : Bool) → tableFacts f at (rows.pointTable ++ cond t (rows.height ∷ []) []) ≡ pointFields f at
+    go true = refl
+    go false = refl
