@@ -1,5 +1,5 @@
 -- The number that is returned has its three parts in it, each of which comes back; every number of the paper is one byte. A value as four
--- bytes, from how far it is from 0.
+-- bytes, from how far it is from 0; the two values of a height.
 use Prim.Native.Nat.{ℕ, suc, _+_, _-_, _*_, _%_, _^_, _<_}
 use native.Mathlib.Omega.{arith}
 use mathlib.Core.Path.{_≡_, refl, sym, ap, _∙_, subst}

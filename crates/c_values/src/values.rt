@@ -112,15 +112,15 @@ pub fn point_words(p: Point) -> [u32; POINT_VALUES]
     ensures { λ r. ⌜ r ≡ valueWords (pointValues p) ⌝ }
 {
     let height = p.height;
-    let high = height_words(height);
+    let words = height_words(height);
     [
         word(p.position),
         signed_word(p.latitude_increment),
         signed_word(p.longitude_increment),
         signed_word(p.heading),
         word(p.near),
-        high[0],
-        high[1],
+        words[0],
+        words[1],
     ]
 }
 

@@ -7,9 +7,9 @@ use Rattle.c_values.proofs.values.point_words.Tie as tie
 returns : tie.Need-returns
 returns c =
     let v = c .before .before .before .before .before .before .before .before .before .args .p in
-    let high = c .before .before .before .before .before .before .before .before .height-words in
+    let words = c .before .before .before .before .before .before .before .before .height-words in
     simp (
-      height-two (v .height) (high .result) (high .ensures),
+      height-two (v .height) (words .result) (words .ensures),
       c .word2 .ensures,
       value-read (v .heading) (c .before .before .struct-told3 .given .1 .1 .1 .0 .1) _ (c .before .signed-word3 .ensures),
       value-read (v .«longitude_increment») (c .before .before .before .before .struct-told2 .given .1 .1 .0 .1) _ (c .before .before .before .signed-word2 .ensures),
