@@ -140,13 +140,18 @@ pub record Accepts : Type 0 where
   pub names : (f : List ℕ) → x2Verdict f ≡ verdict.Accepted → (at : ℕ)
       → List·Memᴰ at (starts f (layoutOf f)) → NamesRead f at (recordAt f (kindAt (layoutOf f) at) at)
   -- the height of a point is the one that its bytes mean, and a file of version 1 has none
+  -- 02: Ticket11.2
   pub heights : (f : List ℕ) (i j : ℕ) (p : Point) → pointOf f i j ≡ point-answer.Point p
       → HeightRead f (pointPlace f (sizeOf f) (entryPlace i) j) (p .height)
   -- a file of version 1 reads as ever, alone and in a pair
+  -- 02: Ticket11.5
   pub as-ever : (f : List ℕ) → structureOf f ≡ 1 → AsEver f
+  -- 02: Ticket11.5
   pub pair-as-ever : (f g : List ℕ) → structureOf f ≡ 1 → pairOf f g ≡ pairWas f g
   -- the version 1 reader answers 4 at 1 to the new file, and to every other what the reader answers that users have
+  -- 02: Ticket11.6
   pub new-refused : (f : List ℕ) → NewFile f → (numberIn (x1VerdictBy 1 f) ≡ 4) × (placeIn (x1VerdictBy 1 f) ≡ 1)
+  -- 02: Ticket11.6
   pub others-alike : (f : List ℕ) → (NewFile f → ⊥) → x1VerdictBy 1 f ≡ x1Verdict f
   -- each value of an answer comes back from its four bytes in a C caller's output, read as unsigned or signed
   pub track-back : (f out : List ℕ) (i : ℕ) → AnswerBack trackSigned (trackAnswer (trackOf f i)) out

@@ -47,6 +47,7 @@ structureOf f = numAt 2 f structureAt
 
 -- the checksum covers all before it; the file type is the one that is due; the structure version is one of 1 to the newest that the
 -- reader knows
+-- 02: Ticket11.8
 abbrev pub sealFacts : List ℕ → ℕ → ℕ → List Fact
 sealFacts f type newest =
     isNumber reason.Checksum f 0 (endOf f) Four (checksumOf (take (endOf f) f))

@@ -18,7 +18,8 @@ use Rattle.verdict.proofs.Facts.{Agrees, agrees}
 use Rattle.verdict.specs.Facts.{Claim, test, Holds}
 use Rattle.names.specs.declared.Naming.{Naming}
 use Rattle.names.specs.declared.Naming.the-variants.{Bytes, NoName}
-use Rattle.names.specs.Names.{byteAfter, zeros, namingOf, bytesIn, countIn, nameAt, IsName, IsNaming, objectName, ObjectName}
+use Rattle.names.specs.Names.{byteAfter, zeros, namingOf, bytesIn, nameAt, IsName, IsNaming, objectName, ObjectName}
+use Rattle.names.specs.inner.Count.{countIn}
 use Rattle.names.specs.Written.{fieldAt}
 use Rattle.names.proofs.Names.{zeros-iff, one-length, no-first, naming-is, naming-only, object-name-iff, same-name}
 

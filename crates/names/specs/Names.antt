@@ -99,11 +99,6 @@ abbrev pub bytesIn : Naming → ℕ
 bytesIn (Bytes n) = n
 bytesIn NoName = 0
 
--- the same as one number: one more than a name has room for where there is none
-abbrev pub countIn : Naming → ℕ
-countIn (Bytes n) = n
-countIn NoName = objectBytes + 1
-
 -- the name at p: its place, and how many bytes it has
 unfoldable pub nameAt : List ℕ → ℕ → Name
 nameAt f p = record { place = p; bytes = bytesIn (namingOf f p) }

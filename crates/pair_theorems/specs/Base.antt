@@ -9,5 +9,6 @@ use Rattle.x2_layout.specs.Layout.{layoutOf}
 use Rattle.x2_verdict.specs.Facts as application
 use Rattle.pair.specs.Pair.{ofFirst, ofSecond, ofPair, pairFacts}
 
+-- 02: Ticket11.5
 abbrev pub pairWas : List ℕ → List ℕ → PairVerdict
 pairWas f g = ofFirst (verdictWas f) (ofSecond (application.verdictOf g) (ofPair (firstFault (pairFacts f g (layoutOf g)))))

@@ -14,6 +14,7 @@ use Rattle.x1_records.specs.Places.{entriesAt, entrySize, pointSize}
 use Rattle.x1_records.specs.Rows as rows
 
 -- the size of a file's points: that of its structure version
+-- 02: Ticket11.3, Ticket11.10
 abbrev pub sizeOf : List ℕ → ℕ
 sizeOf f = pointSize (structureOf f)
 
@@ -77,5 +78,6 @@ countLayout f =
 abbrev pub stopLayout : List ℕ → ℕ → List Fact
 stopLayout f size = endsAt (lastOf f (pointsAt f - entrySize)) (stopBefore f size (pointsAt f)) (endOf f) ∷ []
 
+-- 02: Ticket11.3
 unfoldable pub layoutFacts : List ℕ → ℕ → List Fact
 layoutFacts f size = countLayout f ++ (flatMap (entryLayout f size) (entries f) ++ stopLayout f size)

@@ -28,6 +28,7 @@ pointPlace f size e j = firstOf f e + size * j
 
 -- ---- layout
 
+-- 02: Ticket11.3
 pub record LayoutObeys (f : List ℕ) (size : ℕ) : Type 0 where
   -- there is a track, and the entries end by End
   -- 01: Fault1.layout.1
@@ -127,6 +128,7 @@ pub record AgreementObeys (f : List ℕ) (size : ℕ) : Type 0 where
 -- ---- the file
 
 -- The file obeys, as a reader takes it that knows the structure versions up to the newest.
+-- 02: Ticket11.6
 pub record ObeysBy (newest : ℕ) (f : List ℕ) : Type 0 where
   -- 01: No.1
   pub least : 68 ≤ length f
@@ -137,9 +139,12 @@ pub record ObeysBy (newest : ℕ) (f : List ℕ) : Type 0 where
   -- 01: X1.header.1
   pub file-type : numAt 1 f typeAt ≡ 1
   -- 01: X1.fields.1
+  -- 02: Ticket11.8
   pub structure-version : Between 1 newest (structureOf f)
   -- a file with heights has at least 72 bytes
+  -- 02: Ticket11.9
   pub least-with-heights : 2 ≤ structureOf f → 72 ≤ length f
+  -- 02: Ticket11.10
   pub layout : LayoutObeys f (sizeOf f)
   pub fields : FieldsObey f (sizeOf f)
   pub agreement : AgreementObeys f (sizeOf f)

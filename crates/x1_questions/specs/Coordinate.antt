@@ -25,6 +25,7 @@ NearestAt f y x p q r =
 
 -- r is the coordinate at position x
 -- 01: Coord.1
+-- 02: Ticket11.3
 pub record CoordinateAt (f : List ℕ) (size e x : ℕ) (r : Coordinate) : Type 0 where
   pub point : ℕ
   pub between : Neighbours f size e x point

@@ -25,14 +25,10 @@ each-size P a b version = go (ltb version heightsFrom)
     go true = a
     go false = b
 
--- a point has some bytes, and no more than those of version 2
+-- a point has some bytes
 pub size-positive : (version : ℕ) → 0 < pointSize version
 unfolding pointSize
 size-positive = each-size (λ s. 0 < s) (omega arith) (omega arith)
-
-pub size-most : (version : ℕ) → pointSize version ≤ pointSize 2
-unfolding pointSize
-size-most = each-size (λ s. s ≤ pointSize 2) (omega arith) (omega arith)
 
 -- the fields of table 3 stand in it
 pub size-wide : (version : ℕ) → rows.near .offset + rows.near .width ≤ pointSize version

@@ -7,10 +7,12 @@ use lib.Dec.{ltb}
 -- ---- structure versions
 
 -- from this one on each point has a height
+-- 02: Ticket11.2
 abbrev pub heightsFrom : ℕ
 heightsFrom = 2
 
 -- the newest one that is known
+-- 02: Ticket11.8
 abbrev pub newestVersion : ℕ
 newestVersion = 2
 
@@ -24,6 +26,8 @@ abbrev pub entrySize : ℕ
 entrySize = 30
 
 -- a point's size in a structure version: 13 bytes, and with the height 15. No other definition names these numbers
+-- 01: X1.header.3
+-- 02: Ticket11.2
 unfoldable pub pointSize : ℕ → ℕ
 pointSize version = cond (ltb version heightsFrom) 13 15
 
@@ -33,6 +37,7 @@ pointSize version = cond (ltb version heightsFrom) 13 15
 abbrev pub leastLength : ℕ
 leastLength = 68
 
+-- 02: Ticket11.9
 unfoldable pub leastLengthIn : ℕ → ℕ
 leastLengthIn version = cond (ltb version heightsFrom) leastLength 72
 

@@ -1,5 +1,6 @@
--- Tables 2 and 3 of the standard (01, 'X.1, track geography' and 'Fields'; 02, ticket 11): a row for each field in the page's order, with its name, its
--- place in the record, its width, its sign, and what may stand in it. Everything else that is said of a field follows from its row.
+-- Tables 2 and 3 of the standard (01, 'X.1, track geography' and 'Fields'; 02, ticket 11): a row for each field in the page's order, with
+-- its name, its place in the record, its width, its sign, and what may stand in it. Everything else that is said of a field follows from its
+-- row.
 use Prim.Native.Nat.{ℕ, _+_}
 use mathlib.Core.Bool.{Bool, cond}
 use mathlib.Core.List.{List, [], _∷_, _++_}
@@ -85,6 +86,7 @@ pointTable = position ∷ latitudeIncrement ∷ longitudeIncrement ∷ heading �
 
 -- ---- ticket 11: a height in decimetres at the point's end. Any height is right
 
+-- 02: Ticket11.1, Ticket11.2
 abbrev pub height : Row
 height = signedRow "height" (near .offset + near .width) 2 any
 
@@ -93,5 +95,6 @@ abbrev pub hasHeight : ℕ → Bool
 hasHeight size = leb (height .offset + height .width) size
 
 -- all fields of a point of a size
+-- 02: Ticket11.2, Ticket11.4
 abbrev pub sizedTable : ℕ → List Row
 sizedTable size = pointTable ++ cond (hasHeight size) (height ∷ []) []

@@ -13,6 +13,7 @@ use Rattle.x1_records.specs.declared.Height.{Height}
 use Rattle.x1_records.specs.declared.Height.the-variants.{Decimetres, NoHeight}
 
 -- 01: Bytes.2, X1.header.2
+-- 02: Ticket11.3
 unfoldable pub trackAt : List ℕ → ℕ → ℕ → Track
 trackAt f size at = record {
   number = valueOf f at rows.number;
@@ -29,6 +30,7 @@ trackAt f size at = record {
 }
 
 -- the height of the point at a place, and none where a point of its size has none
+-- 02: Ticket11.2
 unfoldable pub heightAt : List ℕ → ℕ → ℕ → Height
 heightAt f size at = cond (rows.hasHeight size) (Decimetres (signedOf f at rows.height)) NoHeight
 
@@ -39,6 +41,7 @@ heightValues (Decimetres z) = pos 1 ∷ z ∷ []
 heightValues NoHeight = pos 0 ∷ pos 0 ∷ []
 
 -- 01: Bytes.2, X1.header.3
+-- 02: Ticket11.3
 unfoldable pub pointAt : List ℕ → ℕ → ℕ → Point
 pointAt f size at = record {
   position = valueOf f at rows.position;

@@ -50,6 +50,7 @@ sealWas f =
 abbrev pub factsWas : List ℕ → List Fact
 factsWas f = lengthBetween f leastLength mostLength ∷ (sealWas f ++ sizedFacts f (pointSize 1))
 
+-- 02: Ticket11.5
 abbrev pub verdictWas : List ℕ → Verdict
 verdictWas f = shownOf (firstFault (factsWas f))
 
@@ -80,11 +81,13 @@ coordinateWas f number x = afterVerdict coordinate.Refused (verdictWas f) (onFou
 -- ---- what is said of them
 
 -- the same answer, and at its end that there is no height: two values more, both 0
+-- 02: Ticket11.5
 abbrev pub withoutHeight : Answer → Answer
 withoutHeight (answered values) = answered (values ++ (pos 0 ∷ pos 0 ∷ []))
 withoutHeight (refused n t) = refused (2 + n) t
 
 -- a file reads as ever: its verdict and every answer are what they were, and a point reports that it has no height
+-- 02: Ticket11.5
 pub record AsEver (f : List ℕ) : Type 0 where
   pub verdict : verdictOf f ≡ verdictWas f
   pub header : headerOf f ≡ headerWas f
@@ -93,6 +96,7 @@ pub record AsEver (f : List ℕ) : Type 0 where
   pub coordinate : (number x : ℕ) → coordinateAsked f number x ≡ coordinateWas f number x
 
 -- the new file: structure version 2, and its length, its checksum and its type pass
+-- 02: Ticket11.6
 pub record NewFile (f : List ℕ) : Type 0 where
   pub length-passes : Between 68 65535 (length f)
   pub checksum : numAt 4 f (endOf f) ≡ checksumOf (take (endOf f) f)

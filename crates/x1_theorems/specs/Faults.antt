@@ -110,6 +110,7 @@ pub data TrackAtFault (f : List ℕ) (size i p : ℕ) : Type 0 where
 -- ---- 01's table, with ticket 11 of 02: the structure version is one that the reader knows, and a file with heights has its own least length
 
 -- 01: No.1, No.2, No.3, No.4, No.6, No.5, No.7, Order.1
+-- 02: Ticket11.8, Ticket11.9
 abbrev pub checksBy : ℕ → List ℕ → List Check
 checksBy newest f =
     check 1 (Between 68 65535 (length f)) (λ p. p ≡ 0)

@@ -10,7 +10,9 @@ use Rattle.x1_obeys.specs.Obeys.{Within, structureOf}
 
 -- none in a file of version 1; in one of version 2 the two signed bytes at the point's end, where a point of version 1 would end
 pub record HeightRead (f : List ℕ) (at : ℕ) (h : Height) : Type 0 where
+  -- 02: Ticket11.5
   pub none : structureOf f ≡ 1 → h ≡ NoHeight
+  -- 02: Ticket11.2
   pub some : structureOf f ≡ 2 → h ≡ Decimetres (signedAt 2 f (at + pointSize 1))
 
 -- and it lies in the range of two signed bytes

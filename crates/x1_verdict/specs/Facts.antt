@@ -18,11 +18,13 @@ abbrev pub fileType : ℕ
 fileType = 1
 
 -- what is checked over the size of a point: the layout, the fields and the agreement
+-- 02: Ticket11.3
 unfoldable pub sizedFacts : List ℕ → ℕ → List Fact
 sizedFacts f size = layoutFacts f size ++ (fieldFacts f size ++ agreementFacts f size)
 
 -- all facts, for a reader that knows the structure versions up to the newest: the length, the seal, the least length in the file's own
 -- version, and the rest over the size of a point in it
+-- 02: Ticket11.6
 unfoldable pub factsBy : ℕ → List ℕ → List Fact
 factsBy newest f =
     lengthBetween f leastLength mostLength
@@ -32,6 +34,7 @@ factsBy newest f =
 abbrev pub judgedBy : ℕ → List ℕ → Judged
 judgedBy newest f = firstFault (factsBy newest f)
 
+-- 02: Ticket11.6
 abbrev pub verdictBy : ℕ → List ℕ → Verdict
 verdictBy newest f = shownOf (judgedBy newest f)
 

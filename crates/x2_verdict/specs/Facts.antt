@@ -22,6 +22,7 @@ abbrev pub fileType : ℕ
 fileType = 2
 
 -- the newest structure version, and the only one (02, ticket 11: 'X.2 and X.3 stay at version 1')
+-- 02: Ticket11.7
 abbrev pub newestVersion : ℕ
 newestVersion = 1
 

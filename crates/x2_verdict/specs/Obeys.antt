@@ -23,6 +23,7 @@ pub record Obeys (f : List ℕ) : Type 0 where
   -- 01: X2.header.1
   pub file-type : numAt 1 f typeAt ≡ fileType
   -- 01: X2.header.1
+  -- 02: Ticket11.7
   pub structure-version : structureOf f ≡ 1
   pub layout : LayoutObeys f (layoutOf f)
   pub fields : FieldsObey f (layoutOf f)

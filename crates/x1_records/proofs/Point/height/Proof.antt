@@ -1,10 +1,8 @@
 -- `x1_records::Point::height` meets its contract.
-use mathlib.Core.Path.{ap}
 use native.Mathlib.Omega.{arith}
 use borrow.Author.Needs.{needs}
 use borrow.Author.Tests.{lt-leb, le-leb}
 use Rattle.x1_records.specs.Tracks.{heightAt}
-use Rattle.x1_records.specs.declared.Height.the-variants.{Decimetres}
 use Rattle.x1_records.proofs.Reading.{held}
 use Rattle.x1_records.proofs.Point.height.Statement.{statement}
 use Rattle.x1_records.proofs.Point.height.Tie as tie
