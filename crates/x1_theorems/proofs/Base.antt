@@ -34,7 +34,7 @@ use Rattle.x1_questions.specs.declared.answers.CoordinateAnswer.the-variants as
 use Rattle.x1_questions.specs.Questions.{headerOf, trackOf, pointIn, pointOf, onFound, coordinateAsked}
 use Rattle.x1_questions.specs.Answers.{pointAnswer}
 use Rattle.x1_theorems.specs.Base.{verdictWas, headerWas, trackWas, pointWas, pointAnswerWas, coordinateWas, withoutHeight, AsEver, NewFile}
-use Rattle.x1_theorems.proofs.Numbers.{answered-by}
+use Rattle.x1_theorems.proofs.Numbers.{same-iff, answered-by}
 
 -- ---- two lists of facts that are answered alike
 
@@ -60,9 +60,6 @@ held c m a h = go (test c) (agrees c)
     go : (t : Bool) → Agrees t (Holds c) → shownOf (cond t (firstFault a) (Refused m)) ≡ verdictFor a
     go true x = refl
     go false x = absurd (x h)
-
-same-iff : {A : Type 0} → A ↔ A
-same-iff = (λ h. h, λ h. h)
 
 -- ---- the version 1 reader
 

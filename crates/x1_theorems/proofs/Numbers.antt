@@ -39,7 +39,7 @@ number-accepted Accepted = (λ e. refl, λ e. refl)
 number-accepted (Refused m) = (λ e. absurd (some-number (m .reason) e), λ e. absurd (some-number (m .reason) (ap (λ (v : Judged). numberIn (shownOf v)) e)))
 
 -- a fact that says of itself what the table says
-same-iff : {A : Type 0} → A ↔ A
+pub same-iff : {A : Type 0} → A ↔ A
 same-iff = (λ h. h, λ h. h)
 
 -- ---- check by check
