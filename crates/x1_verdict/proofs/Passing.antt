@@ -9,12 +9,12 @@ use mathlib.Core.Logic.{⊎-elim}
 use native.Mathlib.Omega.{arith}
 use lib.Dec.{ltb, leb, eqb}
 use lib.IntN.{natAbs}
-use borrow.Author.Tests.{le-leb, le-ltb}
+use borrow.Author.Tests.{ltb-true, leb-true, eqb-true, le-leb, lt-ltb, le-ltb, eq-eqb, ne-eqb}
 use Rattle.octets.specs.Octets.{halfOf, signed, signedAt, Is}
 use Rattle.octets.proofs.Signs.{low-distance, high-distance}
 use Rattle.verdict.specs.declared.Judged.{Judged}
 use Rattle.verdict.specs.declared.Judged.the-variants.{Accepted}
-use Rattle.verdict.specs.Facts.{atMost, either, test, allTests, judge}
+use Rattle.verdict.specs.Facts.{same, atMost, either, test, allTests, judge}
 use Rattle.verdict.proofs.Facts.{tested, tests-append}
 use Rattle.verdict.proofs.Orders.{and-true}
 use Rattle.verdict.proofs.Checks.{passes-over, judge-stop}
@@ -28,8 +28,8 @@ use Rattle.x1_verdict.specs.declared.agreement.Frame.{Frame}
 use Rattle.x1_verdict.specs.Fields.{allPoints}
 use Rattle.x1_verdict.specs.Agreement.{opens, rises, stays, closes, numberAgrees, pointAgrees, trackAgrees, agreementFacts}
 use Rattle.x1_verdict.specs.inner.FirstOff.{pointsFrom, Later, LaterOff}
-use Rattle.x1_verdict.specs.inner.Pass.{fieldsFrom, PointPassed, EdgePassed, FieldsPassed, LaterPassed, TrackPassed, Passing, TracksPassed, AllPassed}
-use Rattle.x1_verdict.proofs.Checks.{later-tested, points-judged}
+use Rattle.x1_verdict.specs.inner.Pass.{fieldsFrom, FieldsIfSmall, PointPassed, EdgePassed, LastPassed, FieldsPassed, LaterPassed, TrackPassed, Passing, TracksPassed, AllPassed}
+use Rattle.x1_verdict.proofs.Checks.{point-tested, later-tested, points-judged}
 use Rattle.x1_verdict.proofs.Tracks.{record-over, later-over, off-none, track-tested}
 
 -- ---- one point
@@ -48,29 +48,69 @@ heading-small f p k a h =
     (λ (g : headingLeast ≤ k). omega (arith, is, high-distance (halfOf 2) k (omega arith) (omega (arith, a .below))))
     ((tested (either (atMost k headingMost) (atMost (headingLeast) k))) .0 h)
 
-module _ (f : List ℕ) (size e p : ℕ) where
-  pub edge-passed : (x y : Bool) → x ≡ allTests (pointFields f p) → y ≡ allTests (pointAgrees f size e p) → (x && y) ≡ true → EdgePassed f size e p
-  edge-passed x y i j h =
-      let both = and-true x y h in
-      record { fields = sym i ∙ both .0; agrees = sym j ∙ both .1 }
+-- the fields of a point, if its position is not above the limit: k is its heading without sign, y the test of its near flag
+pub fields-passed :
+    (f : List ℕ) (p k : ℕ) → Is 2 f (fieldPlace p heading) k → (y : Bool) → y ≡ test (liesBetween 0 1 (valueOf f p near))
+    → ((leb k headingMost || leb (headingLeast) k) && y) ≡ true → FieldsIfSmall f p
+fields-passed f p k a y b h g =
+    let both = and-true (leb k headingMost || leb (headingLeast) k) y h in
+    simp (bool.and-true, le-leb 0 (valueOf f p position) (omega arith), le-leb (valueOf f p position) positionMost g, le-leb _ _ (heading-small f p k a (both .0)), sym b ∙ both .1)
 
-  -- neither the first nor the last one: n is its position, m that of the point before it
-  pub later-passed :
-      (t : Frame) → Later f size e t p → (m n : ℕ) → m ≡ valueOf f (p - size) position → n ≡ valueOf f p position
-      → (k : ℕ) → Is 2 f (fieldPlace p heading) k → (y z : Bool) → y ≡ test (liesBetween 0 1 (valueOf f p near)) → z ≡ allTests (stays f e p)
-      → (ltb m n && ((leb k headingMost || leb (headingLeast) k) && (y && z))) ≡ true → PointPassed f size e p
-  later-passed t l m n i j k a y z b d h =
-      let x = leb k headingMost || leb (headingLeast) k in
-      let rises = and-true (ltb m n) (x && (y && z)) h in
-      let headed = and-true x (y && z) (rises .1) in
-      let nearby = and-true y z (headed .1) in
+-- the tests of a point: of its fields (x) and of every point (z); of the first one (o), and of the last one (d)
+module _ (f : List ℕ) (size e p : ℕ) (x z : Bool) (a : x ≡ true → FieldsIfSmall f p) (b : z ≡ allTests (stays f e p)) where
+  pub first-passed :
+      (last : ℕ) → p ≡ firstOf f e → last ≡ lastOf f e → 0 < size → (o : Bool) → o ≡ allTests (opens f size p) → (ltb p last && (o && (z && x))) ≡ true
+      → EdgePassed f size e p
+  first-passed last i j pos o q h =
+      let alone = and-true (ltb p last) (o && (z && x)) h in
+      let opened = and-true o (z && x) (alone .1) in
+      let stayed = and-true z x (opened .1) in
+      let n : p ≡ last → ⊥ = λ r. omega (arith, ltb-true p last (alone .0)) in
+      let zero : valueOf f p position ≡ 0 = (tested (same (valueOf f p position) 0)) .0 (and-true (test (same (valueOf f p position) 0)) _ (sym q ∙ opened .0) .0) in
       record {
-        fields = λ g. simp (bool.and-true, le-leb 0 (valueOf f p position) (omega arith), le-leb (valueOf f p position) positionMost g, le-leb _ _ (heading-small f p k a (headed .0)), sym b ∙ nearby .0);
+        fields = a (stayed .1) (omega (arith, zero));
         agrees =
-            sym (later-tested f size (ltb m n) z e (t .first) (t .last) p (l .frame .first) (l .frame .last) (l .after) (l .before) (simp (bool.and-true, i, j)) d)
-            ∙ simp (rises .0, nearby .1);
+            sym (point-tested f size o z true e p last p i j (rw (lt-ltb p (p + size) (omega arith)) q) b (rw (ne-eqb p last n)))
+            ∙ simp (opened .0, stayed .0);
       }
 
+  -- neither the first nor the last one: n is its position, m that of the point before it
+  module _ (m n : ℕ) (i : m ≡ valueOf f (p - size) position) (j : n ≡ valueOf f p position) where
+    rising : ltb m n ≡ allTests (rises f size p)
+    rising = simp (bool.and-true, i, j)
+
+    pub later-passed : (t : Frame) → Later f size e t p → (ltb m n && (x && z)) ≡ true → PointPassed f size e p
+    later-passed t l h =
+        let rises = and-true (ltb m n) (x && z) h in
+        let rest = and-true x z (rises .1) in
+        record {
+          fields = a (rest .0);
+          agrees =
+              sym (later-tested f size (ltb m n) z e (t .first) (t .last) p (l .frame .first) (l .frame .last) (l .after) (l .before) rising b)
+              ∙ simp (rises .0, rest .1);
+        }
+
+    pub last-passed :
+        (first last : ℕ) → first ≡ firstOf f e → last ≡ lastOf f e → first + size ≤ p → (d : Bool) → d ≡ allTests (closes f e p)
+        → (eqb p last && (ltb m n && (leb n positionMost && (x && (z && d))))) ≡ true → LastPassed f size e p
+    last-passed first last k l after d q h =
+        let at = and-true (eqb p last) (ltb m n && (leb n positionMost && (x && (z && d)))) h in
+        let rises = and-true (ltb m n) (leb n positionMost && (x && (z && d))) (at .1) in
+        let limited = and-true (leb n positionMost) (x && (z && d)) (rises .1) in
+        let fields = and-true x (z && d) (limited .1) in
+        let rest = and-true z d (fields .1) in
+        let here = eqb-true p last (at .0) in
+        record {
+          edge = record {
+            fields = a (fields .0) (omega (arith, leb-true n positionMost (limited .0), j));
+            agrees =
+                sym (point-tested f size (ltb m n) z d e first last p k l (rw (le-ltb p (first + size) after) rising) b (rw (eq-eqb p last here) q))
+                ∙ simp (rises .0, rest .0, rest .1);
+          };
+          here = here ∙ l;
+        }
+
+module _ (f : List ℕ) (size e p : ℕ) where
   -- what the tests of a point say of its position: it is not above the limit, and above that of the point before it
   position-small : allTests (pointFields f p) ≡ true → valueOf f p position ≤ positionMost
   position-small h =

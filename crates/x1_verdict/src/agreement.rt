@@ -200,7 +200,7 @@ fn number_agrees(v: Judged, f: &[u8], e: u32) -> Judged
 }
 
 // The first point of a track obeys.
-fn opening_obeys(f: &[u8], size: u8, p: u32) -> bool
+pub fn opening_obeys(f: &[u8], size: u8, p: u32) -> bool
     ensures { λ r. ⌜ r ≡ allTests (opens (now (f .entry)) size p) ⌝ }
 {
     let step = size as usize;
@@ -273,6 +273,20 @@ fn stays_in(v: Judged, f: &[u8], e: u32, p: u32) -> Judged
     sum_within(w, f, LONGITUDE, e, p, LONGITUDE_MOST)
 }
 
+// The last point of a track obeys.
+pub fn closing_obeys(f: &[u8], e: u32, t: Frame, p: u32) -> bool
+    requires { ⌜ FrameOf (now f) e t ⌝ }
+    ensures { λ r. ⌜ r ≡ allTests (closes (now (f .entry)) e p) ⌝ }
+{
+    let end = number_of(f, e, Track::END_POSITION);
+    let end_north = signed_of(f, e, Track::END_LATITUDE);
+    let end_east = signed_of(f, e, Track::END_LONGITUDE);
+    let position = equals(f, p, Point::POSITION, end);
+    let north = sum_equals(f, t.latitude, end_north, p, Point::LATITUDE_INCREMENT);
+    let east = sum_equals(f, t.longitude, end_east, p, Point::LONGITUDE_INCREMENT);
+    position & (north & east)
+}
+
 // A point of a track obeys where it is the last one.
 fn end_obeys(f: &[u8], e: u32, t: Frame, p: u32) -> bool
     requires { ⌜ FrameOf (now f) e t ⌝ }
@@ -281,13 +295,7 @@ fn end_obeys(f: &[u8], e: u32, t: Frame, p: u32) -> bool
     if p != t.last as u32 {
         return true;
     }
-    let end = number_of(f, e, Track::END_POSITION);
-    let end_north = signed_of(f, e, Track::END_LATITUDE);
-    let end_east = signed_of(f, e, Track::END_LONGITUDE);
-    let position = equals(f, p, Point::POSITION, end);
-    let north = sum_equals(f, t.latitude, end_north, p, Point::LATITUDE_INCREMENT);
-    let east = sum_equals(f, t.longitude, end_east, p, Point::LONGITUDE_INCREMENT);
-    position & (north & east)
+    closing_obeys(f, e, t, p)
 }
 
 // A point of a track, where it is the last one.

@@ -3,16 +3,17 @@
 // so that together they are all points.
 ghost use mathlib.Core.Path.{_≡_};
 ghost use mathlib.Core.Bool.{true};
-ghost use Prim.Native.Nat.{_-_, _^_, _<_};
+ghost use Prim.Native.Nat.{_+_, _-_, _^_, _≤_, _<_};
 ghost use Rattle.tables.specs.Table.{valueOf};
 ghost use Rattle.x1_records.specs.Rows.{position};
 ghost use Rattle.x1_verdict.specs.Agreement.{FrameOf};
 ghost use Rattle.x1_verdict.specs.inner.FirstOff.{Later};
-ghost use Rattle.x1_verdict.specs.inner.Pass.{PointPassed, EdgePassed, LaterPassed, TrackPassed, TracksPassed, AllPassed};
+ghost use Rattle.x1_verdict.specs.inner.Pass.{FieldsIfSmall, PointPassed, EdgePassed, LastPassed, LaterPassed, TrackPassed, TracksPassed, AllPassed};
 use crate::agreement::Frame;
+use crate::agreement::closing_obeys;
 use crate::agreement::frame_of;
 use crate::agreement::number_obeys;
-use crate::agreement::point_obeys;
+use crate::agreement::opening_obeys;
 use crate::agreement::stay_obeys;
 use crate::fields::entries_fields;
 use envelope::end_of;
@@ -23,6 +24,7 @@ use x1_fields::header_fields;
 use x1_layout::points_at;
 use x1_records::ENTRIES;
 use x1_records::HEADING_MOST;
+use x1_records::POSITION_MOST;
 use x1_records::Point;
 use x1_records::Track;
 
@@ -35,14 +37,30 @@ struct Passed {
     next: u32,
 }
 
-// The point at p, the first or the last one of the entry at e, obeys by its fields and agrees.
-fn edge_passes(f: &[u8], size: u8, e: u32, t: Frame, p: u32) -> bool
-    requires { ⌜ FrameOf (now f) e t ⌝ }
-    ensures { λ r. ⌜ (r ≡ true → EdgePassed (now (f .entry)) size e p) ⌝ }
+// The point at p obeys by its fields, but for the limit of its position.
+fn fields_pass(f: &[u8], p: u32) -> bool
+    ensures { λ r. ⌜ (r ≡ true → FieldsIfSmall (now (f .entry)) p) ⌝ }
 {
-    let fields = x1_fields::point_obeys(f, p);
-    let agrees = point_obeys(f, size, e, t, p);
-    fields & agrees
+    let heading = number_of(f, p, Point::HEADING);
+    let heads = (heading <= HEADING_MOST) | (HEADING_LEAST <= heading);
+    let near = lies_between(f, p, Point::NEAR, 0, 1);
+    heads & near
+}
+
+// The first point of the entry at e, which is not its last one, agrees and obeys by its fields. Its position is 0, which is no more than
+// the limit.
+fn first_passes(f: &[u8], size: u8, e: u32, t: Frame) -> bool
+    requires { ⌜ FrameOf (now f) e t × (0 < size) ⌝ }
+    ensures { λ r. ⌜ (r ≡ true → EdgePassed (now (f .entry)) size e (t .first)) ⌝ }
+{
+    let p = t.first as u32;
+    if f.len() < p as usize + Point::SIZE as usize {
+        return false;
+    }
+    let opens = opening_obeys(f, size, p);
+    let stays = stay_obeys(f, e, t, p);
+    let fields = fields_pass(f, p);
+    (t.first < t.last) & (opens & (stays & fields))
 }
 
 // The point at p, neither the first nor the last one of the entry at e, agrees and obeys by its fields, but for the limit of its position:
@@ -52,11 +70,26 @@ fn later_passes(f: &[u8], size: u8, e: u32, t: Frame, before: usize, here: usize
     ensures { λ r. ⌜ (r ≡ true → PointPassed (now (f .entry)) size e p) ⌝ }
 {
     let rises = before < here;
-    let heading = number_of(f, p, Point::HEADING);
-    let heads = (heading <= HEADING_MOST) | (HEADING_LEAST <= heading);
-    let near = lies_between(f, p, Point::NEAR, 0, 1);
+    let fields = fields_pass(f, p);
     let stays = stay_obeys(f, e, t, p);
-    rises & (heads & (near & stays))
+    rises & (fields & stays)
+}
+
+// The point at p, after the first one of the entry at e, is its last one, agrees and obeys by its fields.
+fn last_passes(f: &[u8], size: u8, e: u32, t: Frame, p: u32) -> bool
+    requires { ⌜ FrameOf (now f) e t × (t .first + size ≤ p) ⌝ }
+    ensures { λ r. ⌜ (r ≡ true → LastPassed (now (f .entry)) size e p) ⌝ }
+{
+    if f.len() < p as usize + Point::SIZE as usize {
+        return false;
+    }
+    let before = number_of(f, p - size as u32, Point::POSITION);
+    let here = number_of(f, p, Point::POSITION);
+    let fields = fields_pass(f, p);
+    let stays = stay_obeys(f, e, t, p);
+    let closes = closing_obeys(f, e, t, p);
+    let last = p == t.last as u32;
+    last & ((before < here) & ((here <= POSITION_MOST) & (fields & (stays & closes))))
 }
 
 // How far the pass comes over the points of the entry at e after its first one and before its last. It stops where one does not pass, or
@@ -92,12 +125,11 @@ fn track_passes(f: &[u8], size: u8, e: u32, due: u32) -> Passed
     let t = frame_of(f, e);
     let first = t.first as u32;
     let number = number_obeys(f, e);
-    let opens = edge_passes(f, size, e, t, first);
+    let opens = first_passes(f, size, e, t);
     let last = later_pass(f, size, e, t);
-    let closes = edge_passes(f, size, e, t, last);
-    let reached = t.last as u32 <= last;
+    let closes = last_passes(f, size, e, t, last);
     Passed {
-        obeys: (first == due) & (number & (opens & (reached & closes))),
+        obeys: (first == due) & (number & (opens & closes)),
         next: last + size as u32,
     }
 }

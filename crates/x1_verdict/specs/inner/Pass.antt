@@ -11,7 +11,7 @@ use Rattle.verdict.specs.Walk.{startsFrom}
 use Rattle.tables.specs.Table.{valueOf}
 use Rattle.x1_records.specs.Places.{entrySize, positionMost}
 use Rattle.x1_records.specs.Rows.{position}
-use Rattle.x1_layout.specs.Layout.{endOf, pointsAt, firstOf}
+use Rattle.x1_layout.specs.Layout.{endOf, pointsAt, firstOf, lastOf}
 use Rattle.x1_fields.specs.Fields.{pointFields}
 use Rattle.x1_verdict.specs.Fields.{allPoints, fieldFacts}
 use Rattle.x1_verdict.specs.Agreement.{pointAgrees, trackAgrees, agreementFacts}
@@ -25,15 +25,24 @@ fieldsFrom f size p = flatMap (pointFields f) (startsFrom (λ _. size) (endOf f)
 abbrev pub tracksFrom : List ℕ → ℕ → ℕ → List Fact
 tracksFrom f size e = flatMap (trackAgrees f size) (startsFrom (λ _. entrySize) (pointsAt f) e)
 
+-- the point at p obeys by its fields if its position is not above the limit
+abbrev pub FieldsIfSmall : List ℕ → ℕ → Type 0
+FieldsIfSmall f p = valueOf f p position ≤ positionMost → allTests (pointFields f p) ≡ true
+
 -- the point at p agrees, as one of the entry at e, and obeys by its fields if its position is not above the limit
 pub record PointPassed (f : List ℕ) (size e p : ℕ) : Type 0 where
-  pub fields : valueOf f p position ≤ positionMost → allTests (pointFields f p) ≡ true
+  pub fields : FieldsIfSmall f p
   pub agrees : allTests (pointAgrees f size e p) ≡ true
 
 -- the point at p agrees, as one of the entry at e, and obeys by its fields
 pub record EdgePassed (f : List ℕ) (size e p : ℕ) : Type 0 where
   pub fields : allTests (pointFields f p) ≡ true
   pub agrees : allTests (pointAgrees f size e p) ≡ true
+
+-- so does the last one of the entry at e, and it stands at p
+pub record LastPassed (f : List ℕ) (size e p : ℕ) : Type 0 where
+  pub edge : EdgePassed f size e p
+  pub here : p ≡ lastOf f e
 
 -- the fields of the points from one place on and before another obey
 pub record FieldsPassed (f : List ℕ) (size from p : ℕ) : Type 0 where

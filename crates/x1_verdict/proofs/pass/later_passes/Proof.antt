@@ -6,18 +6,11 @@ use Rattle.x1_verdict.proofs.pass.later_passes.Tie as tie
 
 returns : tie.Need-returns
 returns c = λ h.
-    let heading = c .before .before .number-of in
-    let near = c .before .lies-between in
     let stays = c .stay-obeys in
-    let s = c .before .before .before .before in
+    let fields = c .before .fields-pass in
+    let s = c .before .before .before in
     let a = s .args in
-    later-passed (a .f .now) (a .size) (a .e) (a .p) (a .t) (s .pre .0) (a .before) (a .here) (s .pre .1) (s .pre .2) (heading .result) (heading .ensures) (near .result) (stays .result) (near .ensures) (stays .ensures) h
+    later-passed (a .f .now) (a .size) (a .e) (a .p) (fields .result) (stays .result) (fields .ensures) (stays .ensures) (a .before) (a .here) (s .pre .1) (s .pre .2) (a .t) (s .pre .0) h
 
 pub later-passes-spec : {M : Type 1} → statement M
-later-passes-spec =
-    tie.close
-    (tie.spec
-    (λ c κs. search needs)
-    (λ c κs. search needs)
-    (λ c κs. search needs)
-    returns)
+later-passes-spec = tie.close (tie.spec (λ c κs. search needs) (λ c κs. search needs) returns)

@@ -1,32 +1,35 @@
 -- `x1_verdict::pass::track_passes` meets its contract.
 use mathlib.Core.Bool.{_&&_}
 use native.Mathlib.Omega.{arith}
-use lib.Dec.{eqb, leb}
-use borrow.Author.Tests.{eqb-true, leb-true}
+use lib.Dec.{eqb}
+use borrow.Author.Tests.{eqb-true}
 use Rattle.verdict.proofs.Orders.{and-true}
 use Rattle.x1_verdict.proofs.Passing.{track-passed}
 use borrow.Author.Needs.{needs}
 use Rattle.x1_verdict.proofs.pass.track_passes.Statement.{statement}
 use Rattle.x1_verdict.proofs.pass.track_passes.Tie as tie
 
+last-passes-requires : tie.Need-last-passes-requires
+last-passes-requires c κs =
+    let frame = c .before .before .before .before .frame-of .ensures in
+    (frame, omega (arith, frame .first, c .later-pass .ensures .after))
+
 returns : tie.Need-returns
 returns c =
-    let closes = c .before .edge-passes2 in
-    let later = c .before .before .later-pass in
-    let opens = c .before .before .before .edge-passes in
-    let number = c .before .before .before .before .number-obeys in
-    let frame = c .before .before .before .before .before .before .frame-of in
-    let s = c .before .before .before .before .before .before .before .before in
-    let a = s .args in
-    let reached = leb (frame .result .last) (later .result) in (
+    let closes = c .last-passes in
+    let later = c .before .later-pass in
+    let opens = c .before .before .first-passes in
+    let number = c .before .before .before .number-obeys in
+    let frame = c .before .before .before .before .before .frame-of in
+    let s = c .before .before .before .before .before .before .before in
+    let a = s .args in (
       λ h.
-          let due = and-true (eqb (frame .result .first) (a .due)) (number .result && (opens .result && (reached && closes .result))) h in
-          let numbered = and-true (number .result) (opens .result && (reached && closes .result)) (due .1) in
-          let opened = and-true (opens .result) (reached && closes .result) (numbered .1) in
-          let closed = and-true reached (closes .result) (opened .1) in
-          let after = leb-true (frame .result .last) (later .result) (closed .0) in
-          track-passed (a .f .now) (a .size) (a .e) (s .pre) (later .result) (later .ensures) (omega (arith, after, frame .ensures .last)) (a .due) (frame .result .first) (frame .ensures .first)
-          (eqb-true (frame .result .first) (a .due) (due .0)) (number .result) (number .ensures) (numbered .0) (opens .ensures (opened .0)) (closes .ensures (closed .1)),
+          let due = and-true (eqb (frame .result .first) (a .due)) (number .result && (opens .result && closes .result)) h in
+          let numbered = and-true (number .result) (opens .result && closes .result) (due .1) in
+          let edges = and-true (opens .result) (closes .result) (numbered .1) in
+          let last = closes .ensures (edges .1) in
+          track-passed (a .f .now) (a .size) (a .e) (s .pre) (later .result) (later .ensures) (omega (arith, last .here)) (a .due) (frame .result .first) (frame .ensures .first)
+          (eqb-true (frame .result .first) (a .due) (due .0)) (number .result) (number .ensures) (numbered .0) (opens .ensures (edges .0)) (last .edge),
       omega (arith, later .ensures .small),
     )
 
@@ -39,7 +42,6 @@ track-passes-spec =
     (λ c κs. search needs)
     (λ c κs. search needs)
     (λ c κs. search needs)
-    (λ c κs. search needs)
-    (λ c. search needs)
+    last-passes-requires
     (λ c. search needs)
     returns)
