@@ -180,20 +180,20 @@ module _ (f : List ℕ) (size e : ℕ) (pos : 0 < size) (p : ℕ) (later : Later
 
 pub passing-start : (f : List ℕ) (size : ℕ) → Passing f size entriesAt (pointsAt f)
 unfolding agreementFacts entries
-passing-start f size = record { fields = record { so = refl }; agrees = refl }
+passing-start f size = record { fields = record { so = refl }; agrees = λ v. refl }
 
 pub passing-over :
     (f : List ℕ) (size e due next : ℕ) → e < pointsAt f → Passing f size e due → TrackPassed f size e due next → Passing f size (e + entrySize) next
 passing-over f size e due next h passing track = record {
   fields = record { so = track .fields .so ∙ passing .fields .so };
-  agrees = passes-over (λ _. entrySize) (pointsAt f) (trackAgrees f size) (λ x. omega arith) Accepted e true h (sym (track .agrees)) (e + entrySize) refl refl ∙ passing .agrees;
+  agrees = λ v. passes-over (λ _. entrySize) (pointsAt f) (trackAgrees f size) (λ x. omega arith) v e true h (sym (track .agrees)) (e + entrySize) refl refl ∙ passing .agrees v;
 }
 
 pub passing-all : (f : List ℕ) (size e due : ℕ) → pointsAt f ≤ e → endOf f ≤ due → Passing f size e due → TracksPassed f size
 unfolding allPoints
 passing-all f size e due h g passing = record {
   fields = sym (judge-stop (λ _. size) (endOf f) (pointFields f) Accepted due g) ∙ passing .fields .so;
-  agrees = sym (judge-stop (λ _. entrySize) (pointsAt f) (trackAgrees f size) Accepted e h) ∙ passing .agrees;
+  agrees = sym (judge-stop (λ _. entrySize) (pointsAt f) (trackAgrees f size) Accepted e h) ∙ passing .agrees Accepted;
 }
 
 -- ---- the fields of the header and of the entries too: x and y are the verdicts on them

@@ -13,6 +13,7 @@ ghost use Rattle.tables.specs.Table.{signedOf};
 ghost use Rattle.x1_layout.specs.Layout.{firstOf, lastOf};
 ghost use Rattle.x1_verdict.specs.Agreement.{SumOf, Roomy, FrameOf, fieldRow, pointMark, sumWithin, sumIs, numberAgrees, opens, rises, stays, closes, pointAgrees, pointsOf, trackAgrees, agreementFacts};
 ghost use Rattle.x1_verdict.specs.inner.FirstOff.{Later, LaterOff, FirstOff};
+use crate::pass::tracks_reached;
 use octets::byte_at;
 use octets::distance;
 use rules::above;
@@ -32,7 +33,6 @@ use x1_layout::entry_before;
 use x1_layout::is_first;
 use x1_layout::points_at;
 use x1_records::Axis;
-use x1_records::ENTRIES;
 use x1_records::LATITUDE;
 use x1_records::LATITUDE_MOST;
 use x1_records::LONGITUDE;
@@ -224,17 +224,6 @@ fn opens_at(v: Judged, f: &[u8], size: u8, p: u32) -> Judged
     is_same(w, f, p, Point::NEAR, second)
 }
 
-// A point of a track obeys as its first one or as a later one.
-fn start_obeys(f: &[u8], size: u8, first: u16, p: u32) -> bool
-    ensures { λ r. ⌜ r ≡ allTests (cond (ltb p (first + size)) (opens (now (f .entry)) size p) (rises (now (f .entry)) size p)) ⌝ }
-{
-    let step = size as u32;
-    if p < first as u32 + step {
-        return opening_obeys(f, size, p);
-    }
-    number_of(f, p - step, Point::POSITION) < number_of(f, p, Point::POSITION)
-}
-
 // A point of a track, as its first one or as a later one.
 fn starts_right(v: Judged, f: &[u8], size: u8, first: u16, p: u32) -> Judged
     ensures { λ r. ⌜ r ≡ judge v (cond (ltb p (first + size)) (opens (now (f .entry)) size p) (rises (now (f .entry)) size p)) ⌝ }
@@ -287,17 +276,6 @@ pub fn closing_obeys(f: &[u8], e: u32, t: Frame, p: u32) -> bool
     position & (north & east)
 }
 
-// A point of a track obeys where it is the last one.
-fn end_obeys(f: &[u8], e: u32, t: Frame, p: u32) -> bool
-    requires { ⌜ FrameOf (now f) e t ⌝ }
-    ensures { λ r. ⌜ r ≡ allTests (cond (eqb p (t .last)) (closes (now (f .entry)) e p) []) ⌝ }
-{
-    if p != t.last as u32 {
-        return true;
-    }
-    closing_obeys(f, e, t, p)
-}
-
 // A point of a track, where it is the last one.
 fn ends_right(v: Judged, f: &[u8], e: u32, last: u16, p: u32) -> Judged
     ensures { λ r. ⌜ r ≡ judge v (cond (eqb p last) (closes (now (f .entry)) e p) []) ⌝ }
@@ -311,17 +289,6 @@ fn ends_right(v: Judged, f: &[u8], e: u32, last: u16, p: u32) -> Judged
     sum_is(w, f, LONGITUDE, e, p)
 }
 
-// One point of the entry at e obeys.
-pub fn point_obeys(f: &[u8], size: u8, e: u32, t: Frame, p: u32) -> bool
-    requires { ⌜ FrameOf (now f) e t ⌝ }
-    ensures { λ r. ⌜ r ≡ allTests (pointAgrees (now (f .entry)) size e p) ⌝ }
-{
-    if f.len() < p as usize + Point::SIZE as usize {
-        return point_agrees(Judged::Accepted, f, size, e, t.first, t.last, p).is_accepted();
-    }
-    start_obeys(f, size, t.first, p) && (stay_obeys(f, e, t, p) && end_obeys(f, e, t, p))
-}
-
 // One point of the entry at e.
 fn point_agrees(v: Judged, f: &[u8], size: u8, e: u32, first: u16, last: u16, p: u32) -> Judged
     requires { ⌜ (first ≡ firstOf (now f) e) × (last ≡ lastOf (now f) e) ⌝ }
@@ -332,13 +299,21 @@ fn point_agrees(v: Judged, f: &[u8], size: u8, e: u32, first: u16, last: u16, p:
     ends_right(w, f, e, last, p)
 }
 
+// One point of the entry at e obeys.
+fn point_obeys(f: &[u8], size: u8, e: u32, first: u16, last: u16, p: u32) -> bool
+    requires { ⌜ (first ≡ firstOf (now f) e) × (last ≡ lastOf (now f) e) ⌝ }
+    ensures { λ r. ⌜ r ≡ allTests (pointAgrees (now (f .entry)) size e p) ⌝ }
+{
+    point_agrees(Judged::Accepted, f, size, e, first, last, p).is_accepted()
+}
+
 // A point of the entry at e obeys that is neither its first nor its last one.
 fn later_obeys(f: &[u8], size: u8, e: u32, t: Frame, p: u32) -> bool
     requires { ⌜ Later (now f) size e t p ⌝ }
     ensures { λ r. ⌜ r ≡ allTests (pointAgrees (now (f .entry)) size e p) ⌝ }
 {
     if f.len() < p as usize + Point::SIZE as usize {
-        return point_agrees(Judged::Accepted, f, size, e, t.first, t.last, p).is_accepted();
+        return point_obeys(f, size, e, t.first, t.last, p);
     }
     let before = number_of(f, p - size as u32, Point::POSITION);
     let rises = before < number_of(f, p, Point::POSITION);
@@ -370,14 +345,14 @@ fn first_off(f: &[u8], size: u8, e: u32) -> u32
 {
     let t = frame_of(f, e);
     let first = t.first as u32;
-    if !point_obeys(f, size, e, t, first) {
+    if !point_obeys(f, size, e, t.first, t.last, first) {
         return first;
     }
     let p = later_off(f, size, e, t);
     if p < t.last as u32 {
         return p;
     }
-    if !point_obeys(f, size, e, t, p) {
+    if !point_obeys(f, size, e, t.first, t.last, p) {
         return p;
     }
     p + size as u32
@@ -417,13 +392,15 @@ fn track_agrees(v: Judged, f: &[u8], size: u8, e: u32) -> Judged
     points_agree(w, f, size, e)
 }
 
-// The verdict so far, then the agreement: the facts of the first track that does not obey are the verdict.
+// The verdict so far, then the agreement: the facts of the first track that does not obey are the verdict. It is none of those that the
+// pass came over.
 pub fn check_agreement(v: Judged, f: &[u8], size: u8) -> Judged
     requires { ⌜ 0 < size ⌝ }
     ensures { λ r. ⌜ r ≡ judge v (agreementFacts (now (f .entry)) size) ⌝ }
 {
+    let reached = tracks_reached(f, size);
     let points = points_at(f);
-    let mut e = ENTRIES;
+    let mut e = reached.entry;
     while e < points {
         if !track_obeys(f, size, e) {
             return track_agrees(v, f, size, e);

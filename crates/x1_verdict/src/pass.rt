@@ -1,6 +1,6 @@
 // One pass over the tracks of a file and their points: whether each point obeys by its fields and agrees, so that an accepted file is read
-// once. Where it stops, nothing is said, and the checks go in turn. The points of a track are due where those of the track before it end,
-// so that together they are all points.
+// once. Where it stops, nothing is said, and the checks go in turn, that of the agreement from the track where it stops. The points of a
+// track are due where those of the track before it end, so that together they are all points.
 ghost use mathlib.Core.Path.{_≡_};
 ghost use mathlib.Core.Bool.{true};
 ghost use Prim.Native.Nat.{_+_, _-_, _^_, _≤_, _<_};
@@ -8,7 +8,7 @@ ghost use Rattle.tables.specs.Table.{valueOf};
 ghost use Rattle.x1_records.specs.Rows.{position};
 ghost use Rattle.x1_verdict.specs.Agreement.{FrameOf};
 ghost use Rattle.x1_verdict.specs.inner.FirstOff.{Later};
-ghost use Rattle.x1_verdict.specs.inner.Pass.{FieldsIfSmall, PointPassed, EdgePassed, LastPassed, LaterPassed, TrackPassed, TracksPassed, AllPassed};
+ghost use Rattle.x1_verdict.specs.inner.Pass.{FieldsIfSmall, PointPassed, EdgePassed, LastPassed, LaterPassed, TrackPassed, Passing, TracksPassed, AllPassed};
 use crate::agreement::Frame;
 use crate::agreement::closing_obeys;
 use crate::agreement::frame_of;
@@ -35,6 +35,13 @@ const HEADING_LEAST: usize = 0x1_0000 - HEADING_MOST;
 struct Passed {
     obeys: bool,
     next: u32,
+}
+
+// How far the pass came over the tracks: the entry of the first one that does not pass, or the place after them all, and where the points
+// are due from there on.
+pub struct Reached {
+    pub entry: u32,
+    pub due: u32,
 }
 
 // The point at p obeys by its fields, but for the limit of its position.
@@ -80,7 +87,9 @@ fn last_passes(f: &[u8], size: u8, e: u32, t: Frame, p: u32) -> bool
     requires { ⌜ FrameOf (now f) e t × (t .first + size ≤ p) ⌝ }
     ensures { λ r. ⌜ (r ≡ true → LastPassed (now (f .entry)) size e p) ⌝ }
 {
-    if f.len() < p as usize + Point::SIZE as usize {
+    let point = p as usize + Point::SIZE as usize;
+    let entry = e as usize + Track::SIZE as usize;
+    if (f.len() < point) | (f.len() < entry) {
         return false;
     }
     let before = number_of(f, p - size as u32, Point::POSITION);
@@ -134,10 +143,10 @@ fn track_passes(f: &[u8], size: u8, e: u32, due: u32) -> Passed
     }
 }
 
-// Every track agrees, and all points obey: those of one track after those of the other reach End.
-fn tracks_pass(f: &[u8], size: u8) -> bool
+// How far the pass comes over the tracks.
+pub fn tracks_reached(f: &[u8], size: u8) -> Reached
     requires { ⌜ 0 < size ⌝ }
-    ensures { λ r. ⌜ (r ≡ true → TracksPassed (now (f .entry)) size) ⌝ }
+    ensures { λ r. ⌜ Passing (now (f .entry)) size (r .entry) (r .due) ⌝ }
 {
     let points = points_at(f);
     let mut due = points;
@@ -145,12 +154,23 @@ fn tracks_pass(f: &[u8], size: u8) -> bool
     while e < points {
         let track = track_passes(f, size, e, due);
         if !track.obeys {
-            return false;
+            return Reached { entry: e, due: due };
         }
         due = track.next;
         e = e + Track::SIZE as u32;
     }
-    end_of(f) <= due as usize
+    Reached { entry: e, due: due }
+}
+
+// Every track agrees, and all points obey: those of one track after those of the other reach End.
+fn tracks_pass(f: &[u8], size: u8) -> bool
+    requires { ⌜ 0 < size ⌝ }
+    ensures { λ r. ⌜ (r ≡ true → TracksPassed (now (f .entry)) size) ⌝ }
+{
+    let reached = tracks_reached(f, size);
+    let all = points_at(f) <= reached.entry;
+    let ends = end_of(f) <= reached.due as usize;
+    all & ends
 }
 
 // Whether all fields obey and every track agrees: the fields of the header and of the entries, which are few, then the pass.

@@ -64,7 +64,7 @@ pub record TrackPassed (f : List ℕ) (size e due next : ℕ) : Type 0 where
 -- the tracks before the entry at e agree, and the fields of the points before `due` obey
 pub record Passing (f : List ℕ) (size e due : ℕ) : Type 0 where
   pub fields : FieldsPassed f size (pointsAt f) due
-  pub agrees : judge Accepted (tracksFrom f size e) ≡ judge Accepted (agreementFacts f size)
+  pub agrees : (v : Judged) → judge v (tracksFrom f size e) ≡ judge v (agreementFacts f size)
 
 -- so do all tracks, and the fields of all points
 pub record TracksPassed (f : List ℕ) (size : ℕ) : Type 0 where

@@ -22,29 +22,29 @@ abbrev μ-loop : tie.MeasureT-loop
 μ-loop v f size points e₀ e = points - e
 
 loop-holds : tie.Need-loop-holds Inv-loop μ-loop
-unfolding entries
-loop-holds c = refl
+unfolding agreementFacts
+loop-holds c = c .before .tracks-reached .ensures .agrees (c .before .before .before .args .v)
 
 returns : tie.Need-returns Inv-loop μ-loop
 unfolding agreementFacts
 returns c =
     let t = c .before .before .track-obeys in
     let s = c .before .before .before .before in
-    let a = s .before .before .before .args in
+    let a = s .before .before .before .before .args in
     fails-here (λ _. entrySize) (pointsAt (a .f .now)) (trackAgrees (a .f .now) (a .size)) (λ x. omega arith) (a .v) (s .loop .e) (t .result) (omega (arith, s .before .points-at .ensures .0)) (t .ensures) _ (c .before .if1 .taken) (c .track-agrees .ensures) ∙ s .loop .inv
 
 loop-again : tie.Need-loop-again Inv-loop μ-loop
 loop-again c =
     let t = c .before .track-obeys in
     let s = c .before .before .before in
-    let a = s .before .before .before .args in
+    let a = s .before .before .before .before .args in
     passes-over (λ _. entrySize) (pointsAt (a .f .now)) (trackAgrees (a .f .now) (a .size)) (λ x. omega arith) (a .v) (s .loop .e) (t .result) (omega (arith, s .before .points-at .ensures .0)) (t .ensures) _ (c .if1 .left) refl ∙ s .loop .inv
 
 returns-2 : tie.Need-returns-2 Inv-loop μ-loop
 unfolding agreementFacts
 returns-2 c =
     let s = c .before in
-    let a = s .before .before .before .args in
+    let a = s .before .before .before .before .args in
     sym (judge-stop (λ _. entrySize) (pointsAt (a .f .now)) (trackAgrees (a .f .now) (a .size)) _ _ (omega (arith, s .before .points-at .ensures .0))) ∙ s .loop .inv
 
 pub check-agreement-spec : {M : Type 1} → statement M
@@ -53,6 +53,7 @@ check-agreement-spec =
     (tie.spec
     Inv-loop
     μ-loop
+    (λ c κs. search needs)
     (λ c κs. search needs)
     loop-holds
     (λ c κs. search needs)

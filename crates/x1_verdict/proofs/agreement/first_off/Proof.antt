@@ -5,6 +5,11 @@ use borrow.Author.Needs.{needs}
 use Rattle.x1_verdict.proofs.agreement.first_off.Statement.{statement}
 use Rattle.x1_verdict.proofs.agreement.first_off.Tie as tie
 
+point-obeys-requires : tie.Need-point-obeys-requires
+point-obeys-requires c κs =
+    let frame = c .before .frame-of .ensures in
+    (frame .first, frame .last)
+
 returns : tie.Need-returns
 returns c =
     let first = c .before .point-obeys in
@@ -22,6 +27,11 @@ returns-2 c =
     let a = s .args in
     off-later (a .f .now) (a .size) (a .e) (s .pre) (frame .frame-of .result .first) (frame .frame-of .ensures .first) (first .point-obeys .result) (first .point-obeys .ensures) (later .before .if1 .left)
     (later .later-off .result) (later .later-off .ensures) (omega (arith, c .if2 .taken, frame .frame-of .ensures .last))
+
+point-obeys-requires-2 : tie.Need-point-obeys-requires-2
+point-obeys-requires-2 c κs =
+    let frame = c .before .before .before .before .before .before .frame-of .ensures in
+    (frame .first, frame .last)
 
 returns-3 : tie.Need-returns-3
 returns-3 c =
@@ -51,12 +61,12 @@ first-off-spec =
     (tie.spec
     (λ c κs. search needs)
     (λ c. search needs)
-    (λ c κs. search needs)
+    point-obeys-requires
     returns
     (λ c κs. search needs)
     (λ c. search needs)
     returns-2
-    (λ c κs. search needs)
+    point-obeys-requires-2
     returns-3
     (λ c. search needs)
     returns-4)

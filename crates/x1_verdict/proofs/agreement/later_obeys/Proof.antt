@@ -1,17 +1,15 @@
 -- `x1_verdict::agreement::later_obeys` meets its contract: the tests of its parts; where the file ends inside the point, what its facts say.
 use mathlib.Core.Bool.{and-true}
 use lib.Dec.{ltb}
-use Rattle.verdict.proofs.Facts.{tests-judged}
-use Rattle.x1_verdict.specs.Agreement.{pointAgrees}
 use Rattle.x1_verdict.proofs.Checks.{later-tested}
 use borrow.Author.Needs.{needs}
 use Rattle.x1_verdict.proofs.agreement.later_obeys.Statement.{statement}
 use Rattle.x1_verdict.proofs.agreement.later_obeys.Tie as tie
 
-returns : tie.Need-returns
-returns c =
-    let a = c .before .before .before .before .args in
-    tests-judged _ _ (pointAgrees (a .f .now) (a .size) (a .e) (a .p)) (c .before .point-agrees .ensures) (c .is-accepted .ensures)
+point-obeys-requires : tie.Need-point-obeys-requires
+point-obeys-requires c κs =
+    let frame = c .before .before .pre .frame in
+    (frame .first, frame .last)
 
 returns-2 : tie.Need-returns-2
 returns-2 c =
@@ -28,9 +26,8 @@ later-obeys-spec =
     (tie.spec
     (λ c. search needs)
     (λ c. search needs)
-    (λ c κs. search needs)
-    (λ c κs. search needs)
-    returns
+    point-obeys-requires
+    (λ c. c .point-obeys .ensures)
     (λ c. search needs)
     (λ c κs. search needs)
     (λ c κs. search needs)

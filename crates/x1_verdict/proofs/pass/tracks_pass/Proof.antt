@@ -1,64 +1,29 @@
--- `x1_verdict::pass::tracks_pass` meets its contract. The invariant: the tracks before the entry at e agree, and the fields of the points
--- before `due` obey.
-use Prim.Native.Nat.{_-_, _^_, _<_}
-use mathlib.Core.Path.{sym, subst}
-use mathlib.Core.Bool.{true≢false}
+-- `x1_verdict::pass::tracks_pass` meets its contract.
 use native.Mathlib.Omega.{arith}
-use borrow.Author.Tests.{leb-true, not-false}
-use Rattle.x1_records.specs.Places.{entriesAt}
-use Rattle.x1_verdict.specs.inner.Pass.{Passing}
-use Rattle.x1_verdict.proofs.Passing.{passing-start, passing-over, passing-all}
+use lib.Dec.{leb}
+use borrow.Author.Tests.{leb-true}
+use Rattle.verdict.proofs.Orders.{and-true}
+use Rattle.x1_verdict.proofs.Passing.{passing-all}
 use borrow.Author.Needs.{needs}
 use Rattle.x1_verdict.proofs.pass.tracks_pass.Statement.{statement}
 use Rattle.x1_verdict.proofs.pass.tracks_pass.Tie as tie
 
-abbrev Inv-loop : tie.InvT-loop
-Inv-loop f size points due₀ e₀ due e = Passing f size e due × (due < 2 ^ 18)
-
-abbrev μ-loop : tie.MeasureT-loop
-μ-loop f size points due₀ e₀ due e = points - e
-
-loop-holds : tie.Need-loop-holds Inv-loop μ-loop
-loop-holds c =
-    let a = c .before .before .args in
-    let at = c .points-at .ensures in
-    (subst (Passing (a .f .now) (a .size) entriesAt) (sym (at .0)) (passing-start (a .f .now) (a .size)), omega (arith, at .1))
-
-returns : tie.Need-returns Inv-loop μ-loop
-returns c = λ h. absurd (true≢false (sym h))
-
-loop-again : tie.Need-loop-again Inv-loop μ-loop
-loop-again c =
-    let track = c .before .before .track-passes in
-    let h = c .before .before .before .before .loop in
-    let at = c .before .before .before .before .before .points-at .ensures in
-    let a = c .before .before .before .before .before .before .before .args in
-    (passing-over (a .f .now) (a .size) (h .e) (h .due) (track .result .next) (omega (arith, at .0)) (h .inv .0) (track .ensures .0 (not-false (track .result .obeys) (c .if1 .left))), track .ensures .1)
-
-cast-result : tie.Need-cast-result Inv-loop μ-loop
-cast-result c = search needs
-
-returns-2 : tie.Need-returns-2 Inv-loop μ-loop
-returns-2 c = λ g.
-    let h = c .before .before .loop in
-    let at = c .before .before .before .points-at .ensures in
-    let a = c .before .before .before .before .before .args in
-    passing-all (a .f .now) (a .size) (h .e) (h .due) (omega (arith, at .0)) (omega (arith, leb-true (c .end-of .result) (h .due) g, c .end-of .ensures)) (h .inv .0)
+returns : tie.Need-returns
+returns c = λ h.
+    let end = c .before .end-of in
+    let at = c .before .before .before .points-at in
+    let reached = c .before .before .before .before .tracks-reached in
+    let a = c .before .before .before .before .before .before .args in
+    let both = and-true (leb (at .result) (reached .result .entry)) (leb (end .result) (reached .result .due)) h in
+    passing-all (a .f .now) (a .size) (reached .result .entry) (reached .result .due) (omega (arith, leb-true (at .result) (reached .result .entry) (both .0), at .ensures .0))
+    (omega (arith, leb-true (end .result) (reached .result .due) (both .1), end .ensures)) (reached .ensures)
 
 pub tracks-pass-spec : {M : Type 1} → statement M
 tracks-pass-spec =
     tie.close
     (tie.spec
-    Inv-loop
-    μ-loop
     (λ c κs. search needs)
-    loop-holds
     (λ c κs. search needs)
-    returns
-    (λ c. search needs)
-    (λ c. search needs)
-    (λ c. search needs)
-    loop-again
     (λ c κs. search needs)
-    cast-result
-    returns-2)
+    (λ c. search needs)
+    returns)
