@@ -87,9 +87,7 @@ fn last_passes(f: &[u8], size: u8, e: u32, t: Frame, p: u32) -> bool
     requires { ⌜ FrameOf (now f) e t × (t .first + size ≤ p) ⌝ }
     ensures { λ r. ⌜ (r ≡ true → LastPassed (now (f .entry)) size e p) ⌝ }
 {
-    let point = p as usize + Point::SIZE as usize;
-    let entry = e as usize + Track::SIZE as usize;
-    if (f.len() < point) | (f.len() < entry) {
+    if f.len() < p as usize + Point::SIZE as usize {
         return false;
     }
     let before = number_of(f, p - size as u32, Point::POSITION);
@@ -126,11 +124,18 @@ fn later_pass(f: &[u8], size: u8, e: u32, t: Frame) -> u32
 }
 
 // The track of the entry at e, whose points are due at a place: its number agrees, its points stand there, and each obeys and agrees.
+// It does not pass where the file ends inside the entry.
 fn track_passes(f: &[u8], size: u8, e: u32, due: u32) -> Passed
     requires { ⌜ 0 < size ⌝ }
     ensures { λ r. ⌜ (r .obeys ≡ true → TrackPassed (now (f .entry)) size e due (r .next)) ⌝ }
     ensures { λ r. ⌜ r .next < 2 ^ 18 ⌝ }
 {
+    if f.len() < e as usize + Track::SIZE as usize {
+        return Passed {
+            obeys: false,
+            next: 0,
+        };
+    }
     let t = frame_of(f, e);
     let first = t.first as u32;
     let number = number_obeys(f, e);

@@ -28,8 +28,6 @@ last-passes-spec =
     (tie.spec
     (λ c. search needs)
     (λ c. search needs)
-    (λ c. search needs)
-    (λ c. search needs)
     returns
     (λ c. search needs)
     (λ c κs. search needs)

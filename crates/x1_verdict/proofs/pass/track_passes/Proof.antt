@@ -1,5 +1,7 @@
 -- `x1_verdict::pass::track_passes` meets its contract.
-use mathlib.Core.Bool.{_&&_}
+use Prim.Native.Nat.{_^_, _<_}
+use mathlib.Core.Path.{sym}
+use mathlib.Core.Bool.{_&&_, true≢false}
 use native.Mathlib.Omega.{arith}
 use lib.Dec.{eqb}
 use borrow.Author.Tests.{eqb-true}
@@ -9,19 +11,24 @@ use borrow.Author.Needs.{needs}
 use Rattle.x1_verdict.proofs.pass.track_passes.Statement.{statement}
 use Rattle.x1_verdict.proofs.pass.track_passes.Tie as tie
 
+returns : tie.Need-returns
+returns c =
+    let small : 0 < 2 ^ 18 = omega arith in
+    (λ h. absurd (true≢false (sym h)), small)
+
 last-passes-requires : tie.Need-last-passes-requires
 last-passes-requires c κs =
     let frame = c .before .before .before .before .frame-of .ensures in
     (frame, omega (arith, frame .first, c .later-pass .ensures .after))
 
-returns : tie.Need-returns
-returns c =
+returns-2 : tie.Need-returns-2
+returns-2 c =
     let closes = c .last-passes in
     let later = c .before .later-pass in
     let opens = c .before .before .first-passes in
     let number = c .before .before .before .number-obeys in
     let frame = c .before .before .before .before .before .frame-of in
-    let s = c .before .before .before .before .before .before .before in
+    let s = c .before .before .before .before .before .before .before .before in
     let a = s .args in (
       λ h.
           let due = and-true (eqb (frame .result .first) (a .due)) (number .result && (opens .result && closes .result)) h in
@@ -37,6 +44,9 @@ pub track-passes-spec : {M : Type 1} → statement M
 track-passes-spec =
     tie.close
     (tie.spec
+    (λ c. search needs)
+    (λ c. search needs)
+    returns
     (λ c κs. search needs)
     (λ c. search needs)
     (λ c κs. search needs)
@@ -44,4 +54,4 @@ track-passes-spec =
     (λ c κs. search needs)
     last-passes-requires
     (λ c. search needs)
-    returns)
+    returns-2)

@@ -1,6 +1,6 @@
 -- `x1_verdict::pass::tracks_reached` meets its contract. The invariant: the tracks before the entry at e agree, and the fields of the
 -- points before `due` obey.
-use Prim.Native.Nat.{_-_, _^_, _<_}
+use Prim.Native.Nat.{_-_}
 use mathlib.Core.Path.{sym, subst}
 use native.Mathlib.Omega.{arith}
 use borrow.Author.Tests.{not-false}
