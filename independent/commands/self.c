@@ -1,12 +1,13 @@
 /* 01's 'Yard examples', the roundings of 'Readings that look right', the
  * headers and the track of the example files, balise groups by 02's ticket 2,
- * names by its ticket 10 and heights by its ticket 11, each asserted of the
- * core. */
+ * the lookup of tracks by its ticket 7, names by its ticket 10 and heights by
+ * its ticket 11, each asserted of the core. */
 #include <stdio.h>
 #include <string.h>
 
 #include "answer.h"
 #include "commands.h"
+#include "generator/stand.h"
 #include "list.h"
 
 /* Yard Y: its places and its links. */
@@ -80,6 +81,14 @@ enum {
     N_SIGNAL_GROUP = 35,
     N_JOINT_GROUP = 37,
     N_SIDING_GROUP = 39
+};
+
+/* X.1s to look tracks up in: two points each, and the end of a track at so
+ * many times its number. */
+enum {
+    NUMBERED = 256,
+    NUMBERED_END = 10,
+    NUMBERED_POINT_SIZE = 13
 };
 
 enum {
@@ -1008,6 +1017,225 @@ static void high_question_examples(void)
     expect(both_say(&file, 6, 36, 4, 1), "one byte less: 6 at 36");
 }
 
+/* A track with two points, both at a latitude of its number and a longitude
+ * of as much below 0. */
+static void put_numbered(uint8_t *bytes, uint32_t place, uint32_t number,
+                         uint32_t first)
+{
+    uint8_t *track = bytes + place;
+    uint32_t last = first + NUMBERED_POINT_SIZE;
+    track[IND_TRACK_NUMBER] = (uint8_t)number;
+    track[IND_TRACK_PROPERTY] = 1;
+    put_four(track, IND_TRACK_START_LATITUDE, number);
+    put_four(track, IND_TRACK_START_LONGITUDE, 0 - number);
+    put_four(track, IND_TRACK_END_POSITION, NUMBERED_END * number);
+    put_four(track, IND_TRACK_END_LATITUDE, number);
+    put_four(track, IND_TRACK_END_LONGITUDE, 0 - number);
+    put_two(track, IND_TRACK_FIRST_POINT, first);
+    put_two(track, IND_TRACK_LAST_POINT, last);
+    put_four(bytes, last + IND_POINT_POSITION, NUMBERED_END * number);
+}
+
+/* Which track numbers are present, and the X.1 with these tracks. */
+typedef struct {
+    uint8_t present[NUMBERED];
+    stored file;
+} numbered;
+
+static void make_numbered(numbered *of)
+{
+    uint8_t *bytes = of->file.bytes;
+    uint32_t tracks = 0, place = IND_TRACKS_PLACE, first;
+    memset(&of->file, 0, sizeof of->file);
+    put_opening(bytes, IND_X1_TYPE, 1, 1);
+    for (uint32_t number = 0; number < NUMBERED; number++)
+        tracks += of->present[number];
+    bytes[IND_TRACK_COUNT_PLACE] = (uint8_t)tracks;
+    first = IND_TRACKS_PLACE + IND_TRACK_SIZE * tracks;
+    for (uint32_t number = 0; number < NUMBERED; number++) {
+        if (!of->present[number])
+            continue;
+        put_numbered(bytes, place, number, first);
+        place += IND_TRACK_SIZE;
+        first += IND_LEAST_POINTS * NUMBERED_POINT_SIZE;
+    }
+    of->file.length = first + IND_CHECKSUM_SIZE;
+    seal(&of->file);
+}
+
+/* The station of eight tracks at the edges of the four words. */
+static void make_edges(numbered *of)
+{
+    static const uint8_t edges[] = { 1, 63, 64, 127, 128, 191, 192, 255 };
+    memset(of->present, 0, sizeof of->present);
+    for (size_t i = 0; i < sizeof edges; i++)
+        of->present[edges[i]] = 1;
+    make_numbered(of);
+}
+
+/* The station of all 255 tracks, or of all but this one. */
+static void make_all_but(numbered *of, uint32_t absent)
+{
+    memset(of->present, 1, sizeof of->present);
+    of->present[0] = 0;
+    of->present[absent] = 0;
+    make_numbered(of);
+}
+
+static int coordinate_says(const numbered *of, uint32_t number,
+                           uint32_t position, uint32_t due)
+{
+    ind_coordinate found = ind_coordinate_at(of->file.bytes, of->file.length,
+                                             number, position);
+    int32_t at = due == 0 ? (int32_t)number : 0;
+    return says(found.answer, due, 0) && found.latitude == at
+        && found.longitude == -at;
+}
+
+/* A number's coordinate at the start, at the end and one beyond it: 11 for
+ * each where there is no such track. */
+static int number_found(const numbered *of, uint32_t number)
+{
+    uint32_t end = NUMBERED_END * number;
+    int present = number < NUMBERED && of->present[number];
+    return coordinate_says(of, number, 0, present ? 0 : 11)
+        && coordinate_says(of, number, end, present ? 0 : 11)
+        && coordinate_says(of, number, end + 1, present ? 12 : 11);
+}
+
+/* So many numbers from one on. */
+static int numbers_found(const numbered *of, uint32_t from, uint32_t count)
+{
+    for (uint32_t i = 0; i < count; i++)
+        if (!number_found(of, from + i))
+            return 0;
+    return 1;
+}
+
+/* Of one track alone, each number in turn: all numbers. */
+static int lone_found(void)
+{
+    static numbered of;
+    int right = 1;
+    for (uint32_t number = 1; number < NUMBERED; number++) {
+        memset(of.present, 0, sizeof of.present);
+        of.present[number] = 1;
+        make_numbered(&of);
+        right = right && numbers_found(&of, 0, NUMBERED);
+    }
+    return right;
+}
+
+/* Of all tracks but one, each number in turn: it and those beside it. */
+static int gap_found(void)
+{
+    static numbered of;
+    int right = 1;
+    for (uint32_t number = 1; number < NUMBERED; number++) {
+        make_all_but(&of, number);
+        right = right && numbers_found(&of, number - 1, 3);
+    }
+    return right;
+}
+
+static void lookup_examples(void)
+{
+    static numbered of;
+    make_edges(&of);
+    expect(numbers_found(&of, 0, NUMBERED),
+           "of tracks 1, 63, 64, 127, 128, 191, 192 and 255, numbers 0 to "
+           "255");
+    expect(numbers_found(&of, 256, 768) && numbers_found(&of, 0x10000, 256)
+               && numbers_found(&of, 0x80000000, 256)
+               && numbers_found(&of, 0xFFFFFF00, 256),
+           "numbers above 255 are absent");
+    make_all_but(&of, 0);
+    expect(numbers_found(&of, 0, 2 * NUMBERED),
+           "of all 255 tracks, numbers 0 to 511");
+    expect(lone_found(), "of one track alone, whichever, numbers 0 to 255");
+    expect(gap_found(),
+           "of all tracks but one, whichever, it and those beside it");
+}
+
+/* A record of a yard that names a track, the leg by which it does, and where
+ * the header names it too; 0 where it does not. */
+typedef struct {
+    stored *yard;
+    ind_object record;
+    uint32_t leg;
+    uint32_t entry;
+    const char *sentence;
+} stand_example;
+
+/* The pair once the record stands on this track at this position. */
+static int stand_gives(const stand_example *example, const numbered *of,
+                       uint32_t number, uint32_t position, uint32_t due)
+{
+    stored *yard = example->yard;
+    stand at = stand_of(example->record, example->leg);
+    uint32_t place = due == 11 ? at.track : due == 12 ? at.position : 0;
+    ind_answer answer;
+    yard->bytes[at.track] = (uint8_t)number;
+    if (example->entry != 0)
+        yard->bytes[example->entry + IND_ENTRY_TRACK] = (uint8_t)number;
+    if (at.position != 0)
+        put_four(yard->bytes, at.position, position);
+    seal(yard);
+    answer = ind_pair(of->file.bytes, of->file.length, yard->bytes,
+                      yard->length);
+    return says(answer, due, place) && answer.file == (due == 0 ? 0 : 2);
+}
+
+/* The record on each track in turn, at its end and one beyond it; then at the
+ * start of track 1 again. */
+static int stand_right(const stand_example *example, const numbered *of)
+{
+    int positioned = stand_of(example->record, example->leg).position != 0;
+    int right = 1;
+    for (uint32_t number = 1; number < NUMBERED; number++) {
+        uint32_t end = NUMBERED_END * number;
+        int present = of->present[number];
+        right = right
+            && stand_gives(example, of, number, end, present ? 0 : 11)
+            && stand_gives(example, of, number, end + 1,
+                           !present ? 11 : positioned ? 12 : 0);
+    }
+    return stand_gives(example, of, 1, 0, 0) && right;
+}
+
+/* Each kind of record, among others that stay on track 1. */
+static void stand_examples(void)
+{
+    static stored y, g, n;
+    static numbered of_eight, of_all;
+    static const stand_example stands[] = {
+        { &n, { IND_START_BOUNDARY, N_START }, 0, N_START_ENTRY,
+          "a start boundary on each track" },
+        { &n, { IND_END_BOUNDARY, N_END }, 0, N_END_ENTRY,
+          "an end boundary on each track" },
+        { &y, { IND_TURNOUT, Y_TURNOUT }, 0, 0,
+          "a turnout's tip on each track" },
+        { &y, { IND_TURNOUT, Y_TURNOUT }, 1, 0,
+          "a turnout's normal leg on each track" },
+        { &y, { IND_TURNOUT, Y_TURNOUT }, 2, 0,
+          "a turnout's reverse leg on each track" },
+        { &g, { IND_BALISE, G_ONE }, 0, 0, "a balise on each track" },
+        { &g, { IND_BALISE, G_FOUR }, 0, 0, "a member on each track" },
+        { &n, { IND_SIGNAL, N_SIGNAL }, 0, 0, "a signal on each track" },
+        { &n, { IND_JOINT, N_JOINT }, 0, 0, "a joint on each track" },
+        { &n, { IND_SIDING, N_SIDING }, 0, 0, "a siding on each track" }
+    };
+    make_y(&y, Y_SECOND_END);
+    make_g(&g);
+    make_n(&n);
+    make_edges(&of_eight);
+    make_all_but(&of_all, 0);
+    for (size_t i = 0; i < sizeof stands / sizeof *stands; i++)
+        expect(stand_right(&stands[i], &of_eight)
+                   && stand_right(&stands[i], &of_all),
+               stands[i].sentence);
+}
+
 /* Y with a station name of so many bytes and zeros after them. */
 static int name_prints(const uint8_t *name, size_t size, const char *due)
 {
@@ -1093,6 +1321,8 @@ int command_self(void)
     high_examples();
     height_examples();
     high_question_examples();
+    lookup_examples();
+    stand_examples();
     list_example();
     printf("%lu passed, %lu failed\n", passed, failed);
     return failed == 0 ? RUN_WELL : RUN_BAD;
