@@ -36,6 +36,16 @@ static void right_geography(source *from, const wanted *kinds, stored *file)
     make_geography(from, size, station, file);
 }
 
+/* A right X.1 in which tracks are looked up by their numbers. */
+static void numbered_geography(source *from, size_wanted size,
+                               uint32_t station, stored *file)
+{
+    if (once_in(from, 2))
+        make_geography(from, size, station, file);
+    else
+        make_edge_geography(from, size, station, file);
+}
+
 /* A right X.2. */
 static void right_application(source *from, const wanted *kinds, stored *file)
 {
@@ -168,7 +178,7 @@ static void ask_pair(source *from, const wanted *kinds, asked *ask)
            X2_TO = 75 };
     uint32_t choice = draw(from, 100);
     uint32_t damages = 1 + draw(from, 2);
-    make_geography(from, size, station, &ask->files[0]);
+    numbered_geography(from, size, station, &ask->files[0]);
     make_yard(from, other_size, station, &made);
     lay_out(&made, &ask->files[0], &ask->files[1]);
     if (choice < DISAGREEING) {
@@ -188,10 +198,19 @@ static void ask_of_geography(source *from, const wanted *kinds, asked *ask)
     right_geography(from, kinds, file);
     if (ask->question == ASK_TRACK)
         ask->numbers[0] = some_track_index(from, file);
-    else if (ask->question == ASK_POINT)
-        some_point_index(from, file, ask->numbers);
     else
-        some_position(from, file, ask->numbers);
+        some_point_index(from, file, ask->numbers);
+    if (once_in(from, 5))
+        spoil(from, 0, file);
+}
+
+static void ask_coordinate(source *from, const wanted *kinds, asked *ask)
+{
+    stored *file = &ask->files[0];
+    size_wanted size = some_size(from, kinds);
+    uint32_t station = some_station(from);
+    numbered_geography(from, size, station, file);
+    some_position(from, file, ask->numbers);
     if (once_in(from, 5))
         spoil(from, 0, file);
 }
@@ -261,6 +280,7 @@ void build_case(const generation *run, uint64_t index, asked *ask)
     case ASK_X1_VERSION_1:
     case ASK_X2: ask_verdict(&from, &run->kinds, ask); break;
     case ASK_PAIR: ask_pair(&from, &run->kinds, ask); break;
+    case ASK_COORDINATE: ask_coordinate(&from, &run->kinds, ask); break;
     case ASK_RECORD: ask_record(&from, &run->kinds, ask); break;
     case ASK_ROUTES: ask_routes(&from, &run->kinds, ask); break;
     case ASK_HEADER1:

@@ -3,56 +3,56 @@
 
 #include "core/core.h"
 #include "questions.h"
+#include "stand.h"
 
-/* A track number that the geography has not, 0 if it has all. */
+/* The index of the track with this number, or the number of all tracks where
+ * it is absent. */
+static uint32_t index_of(const stored *geography, uint32_t number)
+{
+    uint32_t i = 0;
+    while (i < ind_tracks(geography->bytes)
+           && geography->bytes[ind_track_place(i) + IND_TRACK_NUMBER]
+               != number)
+        i++;
+    return i;
+}
+
+/* The number of a track of the geography. */
+static uint8_t some_track(source *from, const stored *geography)
+{
+    uint32_t index = some_entry(from, geography);
+    return geography->bytes[ind_track_place(index) + IND_TRACK_NUMBER];
+}
+
+/* A track number that the geography has not, 0 if it has all: the first from
+ * one on that it has, or that stands at the same place of another word, or
+ * from any. */
 static uint8_t absent_track(source *from, const stored *geography)
 {
-    uint8_t number = (uint8_t)draw(from, 256);
-    for (int tried = 0; tried < 256; tried++, number++) {
-        uint32_t i = 0;
-        while (i < ind_tracks(geography->bytes)
-               && geography->bytes[ind_track_place(i)] != number)
-            i++;
-        if (number != 0 && i == ind_tracks(geography->bytes))
+    uint32_t present = some_track(from, geography);
+    uint32_t any = draw(from, 256);
+    const uint32_t firsts[] = { present, present - 1, present ^ 64,
+                                present ^ 128, any };
+    uint8_t number = (uint8_t)ONE_OF(from, firsts);
+    for (int tried = 0; tried < 256; tried++, number++)
+        if (number != 0
+            && index_of(geography, number) == ind_tracks(geography->bytes))
             return number;
-    }
     return 0;
 }
 
-/* The end of the track with this number. */
-static uint32_t end_of_track(const stored *geography, uint8_t number)
+/* A position at or beyond the end of a track, or of one of the two whose
+ * entries stand beside its own. */
+static uint32_t some_end(source *from, const stored *geography,
+                         uint32_t index)
 {
-    for (uint32_t i = 0; i < ind_tracks(geography->bytes); i++) {
-        uint32_t entry = ind_track_place(i);
-        if (geography->bytes[entry + IND_TRACK_NUMBER] == number)
-            return ind_four(geography->bytes, entry + IND_TRACK_END_POSITION);
-    }
-    return 0;
-}
-
-/* Where a record has a track, and the position on it; 0 for no position. */
-static void some_stand(source *from, ind_object record, uint32_t *track,
-                       uint32_t *position)
-{
-    uint32_t leg = draw(from, 3);
-    uint32_t tracks[IND_KINDS] = { 0, IND_BOUNDARY_TRACK, IND_BOUNDARY_TRACK,
-                                   IND_TURNOUT_FRONT_TRACK, IND_BALISE_TRACK,
-                                   IND_SIGNAL_TRACK, IND_JOINT_TRACK,
-                                   IND_SIDING_TRACK };
-    uint32_t positions[IND_KINDS] = { 0, IND_BOUNDARY_POSITION,
-                                      IND_BOUNDARY_POSITION,
-                                      IND_TURNOUT_TIP_POSITION,
-                                      IND_BALISE_POSITION,
-                                      IND_SIGNAL_POSITION,
-                                      IND_JOINT_POSITION, 0 };
-    *track = record.start + tracks[record.kind];
-    *position = record.start + positions[record.kind];
-    if (record.kind == IND_TURNOUT) {
-        *track += leg;
-        *position += 4 * leg;
-    }
-    if (positions[record.kind] == 0)
-        *position = 0;
+    uint32_t end = end_of_track(geography, index);
+    uint32_t before = end_of_track(geography, index - 1);
+    uint32_t after = end_of_track(geography, index + 1);
+    const uint32_t values[] = { end,    end + 1,    end + 1, end + 1,
+                                before, before + 1, after,   after + 1,
+                                0,      IND_LARGEST_POSITION };
+    return ONE_OF(from, values);
 }
 
 /* A boundary's track stands in the header too. */
@@ -65,22 +65,23 @@ static void copy_to_header(stored *file, const ind_layout *layout,
             file->bytes[record.start + IND_BOUNDARY_TRACK];
 }
 
+/* A record on another track, on one that is absent, or at the end of its
+ * track. */
 static void damage_stand(source *from, const stored *geography, stored *file,
                          const ind_layout *layout)
 {
     ind_object record = some_record(from, file, layout);
+    stand at = stand_of(record, draw(from, LEGS));
     uint8_t absent = absent_track(from, geography);
-    uint32_t track, position, end;
-    some_stand(from, record, &track, &position);
-    end = end_of_track(geography, file->bytes[track]);
-    if (once_in(from, 2) && absent != 0) {
-        file->bytes[track] = absent;
-        copy_to_header(file, layout, record);
-    } else if (position != 0) {
-        const uint32_t values[] = { end, end + 1, end + 1, end + 1, 0,
-                                    IND_LARGEST_POSITION };
-        put_four(file->bytes, position, ONE_OF(from, values));
-    }
+    uint8_t *track = &file->bytes[at.track];
+    if (once_in(from, 2))
+        *track = some_track(from, geography);
+    if (once_in(from, 2) && absent != 0)
+        *track = absent;
+    else if (at.position != 0)
+        put_four(file->bytes, at.position,
+                 some_end(from, geography, index_of(geography, *track)));
+    copy_to_header(file, layout, record);
 }
 
 void damage_pair(source *from, const stored *geography, stored *file)

@@ -17,6 +17,13 @@ typedef enum {
 void make_geography(source *from, size_wanted size, uint32_t station,
                     stored *file);
 
+/* The same, its track numbers at and beside the edges of the four words of 64
+ * numbers that 02's ticket 7 looks tracks up in. Some of the words may have
+ * none. Now and then, seldom in a small file, all numbers of the words are
+ * there, or all but one or a few. */
+void make_edge_geography(source *from, size_wanted size, uint32_t station,
+                         stored *file);
+
 /* A point's height, in the two bytes that it takes. */
 uint32_t some_height(source *from);
 

@@ -3,11 +3,18 @@
  * heights. */
 #include "make.h"
 
+#include <stddef.h>
+
 #include "core/core.h"
 
 enum {
     TRACK_NUMBERS = 255,
     SURVEY_STEP = 20000,
+    /* In a small file, beside the two that each track has. */
+    SPARE_POINTS = 100,
+    /* 02's ticket 7: the numbers present are held as four words of 64. */
+    WORD_NUMBERS = 64,
+    ALL_WORDS = 15,
     /* So many tracks fill a file of points without heights to its last byte;
      * with heights three bytes are always left. */
     TRACKS_OF_FULL_FILE = 17
@@ -27,6 +34,16 @@ static uint32_t track_count(source *from, size_wanted size)
     default:
         return once_in(from, 2) ? TRACKS_OF_FULL_FILE : 1 + draw(from, 60);
     }
+}
+
+/* How many points there may be, whose first stands at this place. */
+static uint32_t points_left(size_wanted size, uint32_t tracks, uint32_t place,
+                            uint32_t point_size)
+{
+    uint32_t fitting =
+        (IND_LARGEST_FILE - IND_CHECKSUM_SIZE - place) / point_size;
+    uint32_t few = IND_LEAST_POINTS * tracks + SPARE_POINTS;
+    return size == SIZE_SMALL && few < fitting ? few : fitting;
 }
 
 /* Points for the first of so many tracks, with so many points still left. In a
@@ -52,6 +69,46 @@ static uint32_t next_number(source *from, uint32_t before, uint32_t to_come)
     if (once_in(from, 3))
         return before + 1;
     return before + 1 + (once_in(from, 8) ? spare : draw(from, spare + 1));
+}
+
+static const uint8_t word_edges[] = { 1,   2,   62,  63,  64,  65,
+                                      126, 127, 128, 129, 190, 191,
+                                      192, 193, 254, 255 };
+
+/* Whether a number stands in one of these words, a bit for each. */
+static int in_words(uint32_t number, uint32_t words)
+{
+    return (int)(words >> number / WORD_NUMBERS & 1);
+}
+
+/* About half of the edges of these words, at least one number; gives back how
+ * many. */
+static uint32_t edge_numbers(source *from, uint32_t words, uint8_t *numbers)
+{
+    uint32_t count = 0;
+    for (uint32_t i = 0; i < sizeof word_edges; i++)
+        if (in_words(word_edges[i], words) && once_in(from, 2))
+            numbers[count++] = word_edges[i];
+    if (count == 0)
+        numbers[count++] = ONE_OF(from, word_edges);
+    return count;
+}
+
+/* All numbers of these words, all but one, or all but a few; gives back how
+ * many. */
+static uint32_t dense_numbers(source *from, uint32_t words, uint8_t *numbers)
+{
+    enum { ALL_BUT_ONE = 1, ALL_BUT_A_FEW };
+    uint32_t style = draw(from, 3), count = 0;
+    uint32_t missing = once_in(from, 2) ? ONE_OF(from, word_edges)
+                                        : 1 + draw(from, TRACK_NUMBERS);
+    for (uint32_t number = 1; number <= TRACK_NUMBERS; number++) {
+        int left_out = (style == ALL_BUT_ONE && number == missing)
+            || (style == ALL_BUT_A_FEW && once_in(from, 30));
+        if (in_words(number, words) && !left_out)
+            numbers[count++] = (uint8_t)number;
+    }
+    return count;
 }
 
 static int32_t start_coordinate(source *from, int32_t limit)
@@ -197,23 +254,44 @@ static void put_header(source *from, uint32_t station, uint32_t tracks,
     bytes[IND_TRACK_COUNT_PLACE] = (uint8_t)tracks;
 }
 
-void make_geography(source *from, size_wanted size, uint32_t station,
-                    stored *file)
+/* So many tracks with these numbers, or any that rise where there are none. */
+static void put_tracks(source *from, size_wanted size, uint32_t station,
+                       uint32_t tracks, const uint8_t *numbers, stored *file)
 {
-    uint32_t tracks = track_count(from, size);
     uint32_t place = ind_track_place(tracks);
     uint32_t number = 0;
     uint32_t point_size, left;
     put_header(from, station, tracks, file->bytes);
     point_size = ind_point_size(file->bytes);
-    left = (IND_LARGEST_FILE - IND_CHECKSUM_SIZE - place) / point_size;
+    left = points_left(size, tracks, place, point_size);
     for (uint32_t i = 0; i < tracks; i++) {
         uint32_t points = point_count(from, size, tracks - i, left);
-        number = next_number(from, number, tracks - i);
+        number = numbers == NULL ? next_number(from, number, tracks - i)
+                                 : numbers[i];
         put_track(from, file, ind_track_place(i), number, place, points);
         place += point_size * points;
         left -= points;
     }
     file->length = place + IND_CHECKSUM_SIZE;
     seal(file);
+}
+
+void make_geography(source *from, size_wanted size, uint32_t station,
+                    stored *file)
+{
+    put_tracks(from, size, station, track_count(from, size), NULL, file);
+}
+
+void make_edge_geography(source *from, size_wanted size, uint32_t station,
+                         stored *file)
+{
+    uint8_t numbers[TRACK_NUMBERS];
+    uint32_t words = 1 + draw(from, ALL_WORDS);
+    int dense = once_in(from, size == SIZE_SMALL ? 50 : 3);
+    uint32_t tracks;
+    if (dense && once_in(from, 2))
+        words = ALL_WORDS;
+    tracks = dense ? dense_numbers(from, words, numbers)
+                   : edge_numbers(from, words, numbers);
+    put_tracks(from, size, station, tracks, numbers, file);
 }

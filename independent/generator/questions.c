@@ -31,34 +31,65 @@ void some_point_index(source *from, const stored *file, uint32_t *numbers)
     numbers[0] = once_in(from, 6) ? some_track_index(from, file) : track;
 }
 
-/* A position at, beside or between two neighbouring points, or at or beyond
- * the track's end. */
-static uint32_t position_on(source *from, const stored *file, uint32_t track)
+uint32_t some_entry(source *from, const stored *file)
 {
-    uint32_t index = draw(from, ind_points(file->bytes, track) - 1);
+    uint32_t tracks = ind_tracks(file->bytes);
+    return once_in(from, 3) ? tracks - 1 : draw(from, tracks);
+}
+
+uint32_t end_of_track(const stored *file, uint32_t index)
+{
+    return index < ind_tracks(file->bytes)
+        ? ind_four(file->bytes,
+                   ind_track_place(index) + IND_TRACK_END_POSITION)
+        : 0;
+}
+
+/* A position at, beside or between two neighbouring points, or at or beyond
+ * the track's end or that of one of the two whose entries stand beside its
+ * own. */
+static uint32_t position_on(source *from, const stored *file, uint32_t index)
+{
+    uint32_t track = ind_track_place(index);
+    uint32_t at = draw(from, ind_points(file->bytes, track) - 1);
     uint32_t low =
-        ind_four(file->bytes, ind_point_place(file->bytes, track, index));
+        ind_four(file->bytes, ind_point_place(file->bytes, track, at));
     uint32_t high =
-        ind_four(file->bytes, ind_point_place(file->bytes, track, index + 1));
-    uint32_t end = ind_four(file->bytes, track + IND_TRACK_END_POSITION);
+        ind_four(file->bytes, ind_point_place(file->bytes, track, at + 1));
+    uint32_t end = end_of_track(file, index);
+    uint32_t before = end_of_track(file, index - 1);
+    uint32_t after = end_of_track(file, index + 1);
     uint32_t between = (uint32_t)draw_between(from, low, high);
     uint32_t middle = low + (high - low) / 2;
-    const uint32_t values[] = { low,     low + 1, high,       high - 1,
-                                between, between, between,    middle,
-                                between, between, end,        end + 1,
-                                0,       end - 1, 0x80000000, 0xFFFFFFFF };
+    const uint32_t values[] = { low,     low + 1,    high,       high - 1,
+                                between, between,    between,    middle,
+                                between, between,    end,        end + 1,
+                                0,       end - 1,    0x80000000, 0xFFFFFFFF,
+                                before,  before + 1, after,      after + 1 };
     return ONE_OF(from, values);
+}
+
+/* The number of a track, or one beside it, at its place in another word of 64
+ * numbers, at the edge of all numbers, any, or one that a shorter number
+ * would take for its own. */
+static uint32_t some_number(source *from, uint32_t number)
+{
+    uint32_t any = draw(from, 256);
+    const uint32_t others[] = { number + 1,          number - 1,
+                                number ^ 64,         number ^ 128,
+                                any,                 0,
+                                255,                 256,
+                                number + 256,        number + 65536,
+                                number + 0x80000000, 0xFFFFFFFF };
+    return once_in(from, 4) ? ONE_OF(from, others) : number;
 }
 
 void some_position(source *from, const stored *file, uint32_t *numbers)
 {
-    uint32_t index = draw(from, ind_tracks(file->bytes));
-    uint32_t track = ind_track_place(index);
-    uint32_t number = file->bytes[track + IND_TRACK_NUMBER];
-    const uint32_t others[] = { 0, number + 256, number + 1, number - 1,
-                                255, 256, 0xFFFFFFFF, number + 65536 };
-    numbers[1] = position_on(from, file, track);
-    numbers[0] = once_in(from, 6) ? ONE_OF(from, others) : number;
+    uint32_t index = some_entry(from, file);
+    numbers[1] = position_on(from, file, index);
+    numbers[0] = some_number(
+        from, file->bytes[ind_track_place(index) + IND_TRACK_NUMBER]);
 }
 
 ind_object some_record(source *from, const stored *file,

@@ -12,6 +12,12 @@ uint32_t some_track_index(source *from, const stored *file);
 /* Track index and point index. */
 void some_point_index(source *from, const stored *file, uint32_t *numbers);
 
+/* The index of a track, the last one more often than others. */
+uint32_t some_entry(source *from, const stored *file);
+
+/* The end of the track with this index, 0 where there is none. */
+uint32_t end_of_track(const stored *file, uint32_t index);
+
 /* Track number and position. */
 void some_position(source *from, const stored *file, uint32_t *numbers);
 
