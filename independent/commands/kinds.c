@@ -8,8 +8,12 @@
 #include "batch.h"
 #include "commands.h"
 #include "generation.h"
+#include "generator/stand.h"
 
 enum {
+    /* 02's ticket 7: track numbers are held as four words of 64. */
+    WORD_NUMBERS = 64,
+    WORDS = 4,
     /* The name of a place, and of a case with its question and number. */
     PLACE_ROOM = 32,
     NAME_ROOM = 64,
@@ -187,20 +191,28 @@ static void name_field(const uint8_t *record, ind_kind kind, uint32_t field,
              (unsigned long)field);
 }
 
+/* The record in which a place stands. Before is the start of the one before it
+ * of its kind, or stays where there is none. */
+static ind_object record_around(const stored *file, const ind_layout *layout,
+                                uint32_t place, uint32_t *before)
+{
+    ind_kind kind = ind_kind_at(layout, place);
+    ind_object record = { kind, layout->from[kind] };
+    while (record.start + ind_record_size(file->bytes, record) <= place) {
+        *before = record.start;
+        record.start += ind_record_size(file->bytes, record);
+    }
+    return record;
+}
+
 static void name_record_place(const stored *file, const ind_layout *layout,
                               ind_answer answer, char *name)
 {
-    ind_kind kind = ind_kind_at(layout, answer.place);
-    ind_object record = { kind, layout->from[kind] };
-    uint32_t before = 0, field;
-    while (record.start + ind_record_size(file->bytes, record)
-           <= answer.place) {
-        before = record.start;
-        record.start += ind_record_size(file->bytes, record);
-    }
-    field = answer.place - record.start;
+    uint32_t before = 0;
+    ind_object record = record_around(file, layout, answer.place, &before);
+    uint32_t field = answer.place - record.start;
     if (!is_member(file->bytes, record))
-        name_field(file->bytes + record.start, kind, field, name);
+        name_field(file->bytes + record.start, record.kind, field, name);
     else if (answer.number == IND_AGREEMENT)
         name_part(name, sequence_name(file->bytes, before, record.start),
                   field);
@@ -345,6 +357,75 @@ static int about_a_place(uint32_t question, uint32_t number)
         && (question != ASK_COORDINATE || number < IND_NO_TRACK);
 }
 
+/* Whether tracks were looked up by their numbers for this answer. */
+static int about_a_track(uint32_t question, uint32_t number)
+{
+    return (question == ASK_PAIR || question == ASK_COORDINATE)
+        && (number == IND_ACCEPTED || number == IND_NO_TRACK
+            || number == IND_BEYOND_END);
+}
+
+/* The track that a record of an X.2 names where the pair is refused at this
+ * place: at the track, or at the position that goes with it. */
+static uint32_t track_refused(const stored *file, uint32_t place)
+{
+    ind_layout layout;
+    uint32_t before = 0, leg = 0;
+    ind_object record;
+    ind_application_layout(file->bytes, ind_end(file->length), &layout);
+    record = record_around(file, &layout, place, &before);
+    while (leg + 1 < LEGS && stand_of(record, leg).track != place
+           && stand_of(record, leg).position != place)
+        leg++;
+    return file->bytes[stand_of(record, leg).track];
+}
+
+/* Whether all numbers are there and, of a coordinate, the last is asked. */
+static int of_all_numbers(const asked *ask)
+{
+    return ind_tracks(ask->files[0].bytes) == IND_LARGEST_TRACK
+        && (ask->question == ASK_PAIR
+            || ask->numbers[0] == IND_LARGEST_TRACK);
+}
+
+/* In which of the four words a number stands. */
+static void name_word(uint32_t number, char *name)
+{
+    if (number == 0)
+        strcpy(name, ":number_0");
+    else if (number > IND_LARGEST_TRACK)
+        strcpy(name, ":above_255");
+    else
+        sprintf(name, ":word_%d", (int)(number / WORD_NUMBERS) + 1);
+}
+
+/* In which words the numbers of an X.1 stand. */
+static void name_words(const stored *file, char *name)
+{
+    int present[WORDS] = { 0 };
+    for (uint32_t i = 0; i < ind_tracks(file->bytes); i++)
+        present[file->bytes[ind_track_place(i) + IND_TRACK_NUMBER]
+                / WORD_NUMBERS] = 1;
+    strcpy(name, ":words_");
+    for (int i = 0; i < WORDS; i++)
+        if (present[i])
+            sprintf(name + strlen(name), "%d", i + 1);
+}
+
+/* Where among the numbers of tracks an answer was looked up. */
+static void name_lookup(const asked *ask, ind_answer answer, char *name)
+{
+    char *after = name + strlen(name);
+    if (answer.number == IND_ACCEPTED && of_all_numbers(ask))
+        strcpy(name, "all_numbers");
+    else if (ask->question == ASK_COORDINATE)
+        name_word(ask->numbers[0], after);
+    else if (answer.number == IND_ACCEPTED)
+        name_words(&ask->files[0], after);
+    else
+        name_word(track_refused(&ask->files[1], answer.place), after);
+}
+
 static void name_place(const asked *ask, ind_answer answer, char *name)
 {
     uint32_t which = ask->question == ASK_PAIR && answer.file == IND_FILE_X2;
@@ -358,6 +439,8 @@ static void name_place(const asked *ask, ind_answer answer, char *name)
         name_application_place(file, answer, name);
     else
         name_geography_place(file, answer.place, name);
+    if (about_a_track(ask->question, answer.number))
+        name_lookup(ask, answer, name);
 }
 
 /* A count for each question, number and kind of place. */
