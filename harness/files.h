@@ -36,7 +36,7 @@ void forks(uint32_t count, stored *file);
  * above, each of at most so many bytes. */
 void realistic_station(uint32_t bytes, stored *files);
 
-/* The same with an X.1 of 255 tracks. */
+/* The same with an X.1 of 255 tracks, which the records name in no order. */
 void largest_station(uint32_t bytes, stored *files);
 
 #endif
