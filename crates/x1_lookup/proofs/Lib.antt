@@ -1,3 +1,5 @@
 pub mod Search
 pub mod Rising
 pub mod Lookup
+pub mod Ones
+pub mod Present

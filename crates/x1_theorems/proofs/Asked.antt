@@ -18,12 +18,12 @@ use Rattle.x1_records.specs.Tracks.{trackAt, pointAt, pointsIn}
 use Rattle.x1_layout.specs.Layout.{countOf, firstOf, lastOf}
 use Rattle.x1_verdict.specs.Facts.{verdictOf}
 use Rattle.x1_obeys.specs.Obeys.{structureOf, sizeOf, entryPlace, pointPlace, Obeys}
-use Rattle.x1_lookup.specs.Lookup.{numberAt, findTrack}
+use Rattle.x1_lookup.specs.Lookup.{TrackNumbered, numberAt, findTrack}
 use Rattle.x1_lookup.specs.declared.Found.{Found}
 use Rattle.x1_lookup.specs.declared.Found.the-variants.{At, Absent}
 use Rattle.x1_lookup.proofs.Lookup.{verdict-obeys, absent-iff, found-number, found-iff}
 use Rattle.x1_questions.specs.Answers.{headerAnswer, trackValues, trackAnswer, pointValues, pointAnswer, coordinateValues, coordinateAnswer}
-use Rattle.x1_theorems.specs.Asked.{PointNamed, TrackNumbered, PositionOn, headerChecks, trackChecks, pointChecks, coordinateChecks}
+use Rattle.x1_theorems.specs.Asked.{PointNamed, PositionOn, headerChecks, trackChecks, pointChecks, coordinateChecks}
 use Rattle.x1_questions.specs.Questions.{headerOf, trackIn, trackOf, pointOf, onFound, coordinateAsked}
 use Rattle.x1_questions.specs.Stretch.{endPositionOf}
 use Rattle.x1_questions.specs.declared.answers.HeaderAnswer.the-variants as header

@@ -1,8 +1,8 @@
 -- THEOREMS (02, ticket 11): every version 1 byte string has the verdict and the answers that it had, and reports no height. The version 1
 -- reader answers every file as it was answered before; to the new file 4 at 1, and to every other file what the reader answers that users
 -- have.
-use Prim.Native.Nat.{ℕ, _≤_}
-use mathlib.Core.Path.{_≡_, refl, sym, ap, subst, _∙_}
+use Prim.Native.Nat.{ℕ}
+use mathlib.Core.Path.{_≡_, refl, sym, ap, _∙_}
 use mathlib.Core.Bool.{Bool, true, false, cond}
 use mathlib.Core.Logic.{inl, inr, _↔_}
 use mathlib.Core.List.{List, _∷_}
@@ -28,12 +28,11 @@ use Rattle.x1_obeys.proofs.Obeys.{least-iff}
 use Rattle.x1_lookup.specs.Lookup.{findTrack}
 use Rattle.x1_questions.specs.declared.answers.HeaderAnswer.the-variants as header
 use Rattle.x1_questions.specs.declared.answers.TrackAnswer.the-variants as track
-use Rattle.x1_questions.specs.declared.answers.PointAnswer.{PointAnswer}
 use Rattle.x1_questions.specs.declared.answers.PointAnswer.the-variants as point
 use Rattle.x1_questions.specs.declared.answers.CoordinateAnswer.the-variants as coordinate
 use Rattle.x1_questions.specs.Questions.{headerOf, trackOf, pointIn, pointOf, onFound, coordinateAsked}
 use Rattle.x1_questions.specs.Answers.{pointAnswer}
-use Rattle.x1_theorems.specs.Base.{verdictWas, headerWas, trackWas, pointWas, pointAnswerWas, coordinateWas, withoutHeight, AsEver, NewFile}
+use Rattle.x1_theorems.specs.Base.{verdictWas, pointWas, pointAnswerWas, withoutHeight, AsEver, NewFile}
 use Rattle.x1_theorems.proofs.Numbers.{same-iff, answered-by}
 
 -- ---- two lists of facts that are answered alike

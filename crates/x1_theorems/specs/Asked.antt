@@ -6,7 +6,7 @@ use mathlib.Core.List.{List, [], _∷_}
 use Rattle.verdict.specs.Order.{Check, check}
 use Rattle.x1_layout.specs.Layout.{countOf, lastOf}
 use Rattle.x1_obeys.specs.Obeys.{sizeOf, entryPlace, pointPlace}
-use Rattle.x1_lookup.specs.Lookup.{numberAt}
+use Rattle.x1_lookup.specs.Lookup.{TrackNumbered}
 use Rattle.x1_questions.specs.Stretch.{endPositionOf}
 
 -- ---- what is asked for is there
@@ -16,13 +16,6 @@ use Rattle.x1_questions.specs.Stretch.{endPositionOf}
 pub record PointNamed (f : List ℕ) (i j : ℕ) : Type 0 where
   pub track : i < countOf f
   pub point : pointPlace f (sizeOf f) (entryPlace i) j ≤ lastOf f (entryPlace i)
-
--- a track of the file has the number
--- 01: Ask.3
-pub record TrackNumbered (f : List ℕ) (number : ℕ) : Type 0 where
-  pub track : ℕ
-  pub in-file : track < countOf f
-  pub same : numberAt f (entryPlace track) ≡ number
 
 -- a track of the file has the number, and position x is at most its end
 -- 01: Ask.3

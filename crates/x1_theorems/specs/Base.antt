@@ -6,7 +6,7 @@ use mathlib.Core.Path.{_≡_}
 use mathlib.Core.Bool.{cond}
 use mathlib.Core.List.{List, [], _∷_, _++_}
 use lib.Dec.{ltb}
-use lib.IntN.{ℤ, pos}
+use lib.IntN.{pos}
 use lib.ListN.{length, take}
 use Rattle.octets.specs.Octets.{numAt}
 use Rattle.octets.specs.declared.Width.the-variants.{One, Two, Four}
@@ -20,9 +20,9 @@ use Rattle.rules.specs.Rules.{Between, lengthBetween, isNumber}
 use Rattle.envelope.specs.Seal.{mostLength, endOf, typeAt, structureAt}
 use Rattle.envelope.specs.Header.{headerIn}
 use Rattle.x1_records.specs.Places.{leastLength, pointSize}
-use Rattle.x1_records.specs.Tracks.{trackAt, pointAt, pointsIn}
+use Rattle.x1_records.specs.Tracks.{trackAt}
 use Rattle.x1_records.specs.declared.Point.{Point}
-use Rattle.x1_layout.specs.Layout.{countOf, firstOf, lastOf}
+use Rattle.x1_layout.specs.Layout.{countOf}
 use Rattle.x1_verdict.specs.Facts.{fileType, sizedFacts, verdictOf}
 use Rattle.x1_obeys.specs.Obeys.{structureOf, entryPlace}
 use Rattle.x1_lookup.specs.Lookup.{findTrack}
@@ -35,7 +35,7 @@ use Rattle.x1_questions.specs.declared.answers.PointAnswer.the-variants as poin
 use Rattle.x1_questions.specs.declared.answers.CoordinateAnswer.{CoordinateAnswer}
 use Rattle.x1_questions.specs.declared.answers.CoordinateAnswer.the-variants as coordinate
 use Rattle.x1_questions.specs.Questions.{headerOf, trackOf, pointIn, pointOf, onFound, coordinateAsked}
-use Rattle.x1_questions.specs.Answers.{trackAnswer, pointAnswer}
+use Rattle.x1_questions.specs.Answers.{pointAnswer}
 
 -- ---- the verdict
 
