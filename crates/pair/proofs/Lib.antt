@@ -1,2 +1,2 @@
 pub mod Checks
-pub mod Marked
+pub mod Passing

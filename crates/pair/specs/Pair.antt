@@ -114,5 +114,6 @@ abbrev pub ofPair : Judged → PairVerdict
 ofPair judged.Accepted = pair.Accepted
 ofPair (judged.Refused m) = pair.Refused Second (faultOf m)
 
+-- 02: Ticket7.5
 unfoldable pub pairOf : List ℕ → List ℕ → PairVerdict
 pairOf f g = ofFirst (geography.verdictOf f) (ofSecond (application.verdictOf g) (ofPair (firstFault (pairFacts f g (layoutOf g)))))

@@ -2,7 +2,9 @@
 ghost use mathlib.Core.Path.{_≡_};
 ghost use mathlib.Core.List.{[], _∷_};
 ghost use Rattle.verdict.specs.Facts.{judge};
+ghost use Rattle.x1_verdict.specs.Facts.{verdictOf};
 ghost use Rattle.x2_layout.specs.inner.Bounds.{Bounded};
+ghost use Rattle.x2_layout.specs.inner.Regions.{Regions};
 ghost use Rattle.pair.specs.Pair.{sameStation, pairFacts, ofFirst, ofSecond, ofPair, pairOf};
 use crate::spots::records_pair;
 use envelope::HEADER;
@@ -42,7 +44,7 @@ fn same_station(v: Judged, f: &[u8], g: &[u8]) -> Judged
 
 // The facts of a pair of files that are each accepted.
 fn check_pair(f: &[u8], g: &[u8], l: Layout) -> Judged
-    requires { ⌜ Bounded l ⌝ }
+    requires { ⌜ (verdictOf (now f) ≡ Verdict.Accepted) × Bounded l × Regions (now g) l ⌝ }
     ensures { λ r. ⌜ r ≡ judge Judged.Accepted (pairFacts (now (f .entry)) (now (g .entry)) l) ⌝ }
 {
     let v = same_station(Judged::Accepted, f, g);

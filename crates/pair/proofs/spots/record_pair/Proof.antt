@@ -22,7 +22,7 @@ returns-6 : tie.Need-returns-6
 returns-6 c = simp (c .lies-on5 .ensures, c .before .enum-told6 .given .1)
 
 returns-7 : tie.Need-returns-7
-returns-7 c = simp (c .in-first .ensures, c .before .place-of .ensures, c .before .before .enum-told7 .given .1)
+returns-7 c = simp (c .stands-on .ensures, c .before .place-of .ensures, c .before .before .enum-told7 .given .1)
 
 pub record-pair-spec : {M : Type 1} → statement M
 record-pair-spec =

@@ -1,5 +1,6 @@
 -- `pair::verdicts::pair_verdict` meets its contract.
-use Rattle.x2_verdict.proofs.Questions.{accepted-bounded}
+use mathlib.Core.Path.{_∙_, sym}
+use Rattle.x2_verdict.proofs.Questions.{accepted-bounded, accepted-regions}
 use Rattle.pair.proofs.Checks.{first-fault, second-fault, pair-fault}
 use borrow.Author.Needs.{needs}
 use Rattle.pair.proofs.verdicts.pair_verdict.Statement.{statement}
@@ -17,7 +18,12 @@ returns-2 c = second-fault _ _ _ (c .before .before .before .before .before .bef
 check-pair-requires : tie.Need-check-pair-requires
 check-pair-requires c κs =
     let a = c .before .before .before .before .before .before .before .before .before .args in
-    accepted-bounded (a .second .now) 0 _ (c .before .before .before .verdict-of2 .ensures) (c .before .enum-told3 .given .1) _ (c .layout-of .ensures .0)
+    let asked = c .before .before .before .verdict-of2 .ensures in
+    let accepted = c .before .enum-told3 .given .1 in (
+      sym (c .before .before .before .before .before .before .verdict-of .ensures) ∙ c .before .before .before .before .enum-told .given .1,
+      accepted-bounded (a .second .now) 0 _ asked accepted _ (c .layout-of .ensures .0),
+      accepted-regions (a .second .now) 0 _ asked accepted _ (c .layout-of .ensures .0),
+    )
 
 returns-3 : tie.Need-returns-3
 returns-3 c = pair-fault _ _ _ (c .before .before .before .before .before .before .before .before .verdict-of .ensures) (c .before .before .before .before .before .before .enum-told .given .1) _ (c .before .before .before .before .before .verdict-of2 .ensures) (c .before .before .before .enum-told3 .given .1) _ (c .before .before .layout-of .ensures .0) _ (c .before .check-pair .ensures) _ (c .shown .ensures)

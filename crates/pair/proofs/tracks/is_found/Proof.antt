@@ -1,7 +1,7 @@
--- `pair::spots::is_found` meets its contract.
+-- `pair::tracks::is_found` meets its contract.
 use borrow.Author.Needs.{needs}
-use Rattle.pair.proofs.spots.is_found.Statement.{statement}
-use Rattle.pair.proofs.spots.is_found.Tie as tie
+use Rattle.pair.proofs.tracks.is_found.Statement.{statement}
+use Rattle.pair.proofs.tracks.is_found.Tie as tie
 
 returns : tie.Need-returns
 returns c = simp (c .enum-told .given .1)
