@@ -5,7 +5,7 @@
 
 #include "core/checksum.h"
 
-enum { ROOM = 4096 };
+enum { ROOM = 8192 };
 
 static uint8_t file[ROOM];
 static size_t length;

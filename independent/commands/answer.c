@@ -134,8 +134,7 @@ static void exit_balise_line(FILE *output, const char *field, uint32_t number)
         line(output, field, number);
 }
 
-/* One route, from its count word on: its offsets on one line. */
-static void route_line(FILE *output, const uint16_t *route)
+void print_route_line(FILE *output, const uint16_t *route)
 {
     for (uint32_t i = 1; i <= route[0]; i++)
         fprintf(output, i == 1 ? "%u" : " %u", (unsigned)route[i]);
@@ -145,7 +144,7 @@ static void route_line(FILE *output, const uint16_t *route)
 void print_route_lines(FILE *output, const uint16_t *words, uint32_t routes)
 {
     for (; routes > 0; routes--) {
-        route_line(output, words);
+        print_route_line(output, words);
         words += 1 + words[0];
     }
 }

@@ -13,7 +13,10 @@ const char *kind_name(ind_kind kind);
 /* The answer's number, place and file. */
 ind_answer answer_case(const posed *ask);
 
-/* So many routes from a list's words: the offsets of each on one line. */
+/* One route, from its count word on: its offsets on one line. */
+void print_route_line(FILE *output, const uint16_t *route);
+
+/* So many routes from a list's words, each on one line. */
 void print_route_lines(FILE *output, const uint16_t *words, uint32_t routes);
 
 /* The whole answer as yardask prints it. */

@@ -16,11 +16,18 @@ int command_answer(void);
 int command_list(void);
 int command_self(void);
 
+/* This takes FILE PLAN [LIMIT [BUDGET [ROOM]]]. */
+int command_plan(int count, char **words);
+
+/* This takes SEED FILE PLAN. */
+int command_plan_case(int count, char **words);
+
 /* These take SEED COUNT [KIND..]. */
 int command_cases(int count, char **words);
 int command_kinds(int count, char **words);
 int command_places(int count, char **words);
 int command_each(int count, char **words);
 int command_exact(int count, char **words);
+int command_plan_exact(int count, char **words);
 
 #endif

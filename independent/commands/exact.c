@@ -1,12 +1,14 @@
-/* Generated cases answered from blocks that hold a file's bytes and nothing
- * more, so that a run under a memory checker sees every read outside; lent
- * words are looked at too. */
+/* Generated cases answered, and generated plans compared, from blocks that
+ * hold a file's bytes and nothing more, so that a run under a memory checker
+ * sees every read outside; lent words are looked at too. */
 #include <stdlib.h>
 #include <string.h>
 
 #include "answer.h"
 #include "commands.h"
 #include "generation.h"
+#include "generator/plans.h"
+#include "plan.h"
 
 enum {
     UNTOUCHED = 0xA55A
@@ -93,4 +95,30 @@ int command_exact(int count, char **words)
     }
     printf("%lu passed, %lu failed\n", passed, failed);
     return failed == 0 ? RUN_WELL : RUN_BAD;
+}
+
+/* Prints what yardplan prints and says of a case. */
+static void print_exact_plan(const plan_case *of)
+{
+    uint8_t *file = block_of(&of->file);
+    uint8_t *text = block(of->plan.length);
+    planned_yard given = { file,       of->file.length, text, of->plan.length,
+                           of->limit,  of->budget,      of->room };
+    memcpy(text, of->plan.bytes, of->plan.length);
+    print_plan(stdout, stdout, &given);
+    free(file);
+    free(text);
+}
+
+int command_plan_exact(int count, char **words)
+{
+    static plan_case made;
+    generation run;
+    if (!read_generation(count, words, &run))
+        return RUN_MISUSED;
+    for (uint64_t i = run.first; i < run.end; i++) {
+        build_plan_case(run.seed + i, &made);
+        print_exact_plan(&made);
+    }
+    return RUN_WELL;
 }

@@ -2,10 +2,10 @@
  * FIRST..END. */
 #include "generation.h"
 
-#include <errno.h>
 #include <stdio.h>
-#include <stdlib.h>
 #include <string.h>
+
+#include "number.h"
 
 /* One KIND word; 0 if there is no such kind. */
 static int want_kind(const char *word, wanted *kinds)
@@ -20,14 +20,6 @@ static int want_kind(const char *word, wanted *kinds)
             return 1;
         }
     return 0;
-}
-
-static int read_number(const char *word, uint64_t *number)
-{
-    char *rest;
-    errno = 0;
-    *number = strtoull(word, &rest, 10);
-    return word[0] >= '0' && word[0] <= '9' && *rest == '\0' && errno == 0;
 }
 
 /* COUNT, or FIRST..END: the cases from an index up to another. */

@@ -4,11 +4,11 @@
 
 #include "commands.h"
 
-/* A command either takes no words or SEED COUNT [KIND..]. */
+/* A command takes either no words or some. */
 typedef struct {
     const char *name;
     int (*run)(void);
-    int (*run_generated)(int count, char **words);
+    int (*run_with)(int count, char **words);
     const char *usage;
 } command;
 
@@ -21,6 +21,10 @@ static const command commands[] = {
       "answer                read a batch of cases, print their answers" },
     { "list", command_list, NULL,
       "list                  read an X.2, print what yardlist prints" },
+    { "plan", NULL, command_plan,
+      "plan FILE PLAN ..     an X.2 and a plan, print what yardplan prints" },
+    { "plan-case", NULL, command_plan_case,
+      "plan-case SEED ..     write an X.2 and a plan, print what to ask with" },
     { "cases", NULL, command_cases,
       "cases SEED COUNT ..   write so many generated cases" },
     { "kinds", NULL, command_kinds,
@@ -31,8 +35,10 @@ static const command commands[] = {
       "each SEED COUNT ..    write the first of them for each kind of place" },
     { "exact", NULL, command_exact,
       "exact SEED COUNT ..   answer them from blocks of exactly their size" },
+    { "plan-exact", NULL, command_plan_exact,
+      "plan-exact SEED ..    print what yardplan prints of such cases" },
     { "self", command_self, NULL,
-      "self                  check document 01's examples" },
+      "self                  check document 01's examples, and plans" },
 };
 
 #define COMMANDS (sizeof commands / sizeof *commands)
@@ -51,8 +57,8 @@ static int usage(void)
 
 static int run(const command *named, int count, char **words)
 {
-    if (named->run_generated != NULL)
-        return named->run_generated(count, words);
+    if (named->run_with != NULL)
+        return named->run_with(count, words);
     if (count == 0)
         return named->run();
     fprintf(stderr, "independent: %s takes no words\n", named->name);

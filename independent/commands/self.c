@@ -2,7 +2,8 @@
  * headers and the track of the example files, balise groups by 02's ticket 2,
  * the lookup of tracks by its ticket 7, names by its ticket 10 and heights by
  * its ticket 11, each asserted of the core. */
-#include <stdio.h>
+#include "self.h"
+
 #include <string.h>
 
 #include "answer.h"
@@ -10,12 +11,8 @@
 #include "generator/stand.h"
 #include "list.h"
 
-/* Yard Y: its places and its links. */
+/* Yard Y: its other places. */
 enum {
-    Y_START = 44,
-    Y_FIRST_END = 56,
-    Y_SECOND_END = 68,
-    Y_TURNOUT = 80,
     Y_LENGTH = 108,
     Y_START_ENTRY = 24,
     Y_END_COUNT = 27,
@@ -93,13 +90,13 @@ enum {
 
 enum {
     UNTOUCHED = 0xA55A,
-    /* More than any text that is asserted here has. */
-    TEXT_ROOM = 400
+    /* More than any text that is asserted has. */
+    TEXT_ROOM = 4000
 };
 
 static unsigned long passed, failed;
 
-static void expect(int holds, const char *sentence)
+void ensure(int holds, const char *sentence)
 {
     if (holds) {
         passed++;
@@ -150,8 +147,7 @@ static void begin_yard(stored *file, uint32_t length)
     bytes[IND_START_COUNT_PLACE] = 1;
 }
 
-/* Yard Y with this reverse link. */
-static void make_y(stored *file, uint32_t reverse)
+void make_y(stored *file, uint32_t reverse)
 {
     uint8_t *bytes = file->bytes;
     begin_yard(file, Y_LENGTH);
@@ -281,9 +277,9 @@ static void make_high(stored *file, uint32_t points)
 static void checksum_examples(void)
 {
     static const uint8_t ones[] = { 0xFF, 0xFF, 0xFF, 0xFF };
-    expect(ind_checksum(ones, 1) == 0xFFFFFF00,
+    ensure(ind_checksum(ones, 1) == 0xFFFFFF00,
            "checksum of FF is 0xFFFFFF00");
-    expect(ind_checksum(ones, 4) == 0, "of FF FF FF FF is 0");
+    ensure(ind_checksum(ones, 4) == 0, "of FF FF FF FF is 0");
 }
 
 static void increment_examples(void)
@@ -291,9 +287,9 @@ static void increment_examples(void)
     static const uint8_t minus_one[] = { 0xFF, 0xFF, 0xFF };
     static const uint8_t least[] = { 0x00, 0x00, 0x80 };
     static const uint8_t largest[] = { 0xFF, 0xFF, 0x7F };
-    expect(ind_increment(minus_one) == -1, "FF FF FF is -1");
-    expect(ind_increment(least) == -8388608, "00 00 80 is -8388608");
-    expect(ind_increment(largest) == 8388607, "FF FF 7F is 8388607");
+    ensure(ind_increment(minus_one) == -1, "FF FF FF is -1");
+    ensure(ind_increment(least) == -8388608, "00 00 80 is -8388608");
+    ensure(ind_increment(largest) == 8388607, "FF FF 7F is 8388607");
 }
 
 /* Both ways: the fraction alone, and the coordinate of a whole file. */
@@ -311,12 +307,12 @@ static int between_gives(uint32_t end, int32_t latitude, uint32_t position,
 
 static void coordinate_examples(void)
 {
-    expect(between_gives(3, 1, 1, 0), "(0, 0) and (3, 1): 1 gives 0");
-    expect(between_gives(3, 1, 2, 1), "(0, 0) and (3, 1): 2 gives 1");
-    expect(between_gives(2, 1, 1, 1), "(0, 0) and (2, 1): 1 gives 1");
-    expect(between_gives(2, -1, 1, 0), "(0, 0) and (2, -1): 1 gives 0");
-    expect(between_gives(3, -5, 1, -2), "-5/3 is -2");
-    expect(between_gives(2, -3, 1, -1), "-3/2 is -1");
+    ensure(between_gives(3, 1, 1, 0), "(0, 0) and (3, 1): 1 gives 0");
+    ensure(between_gives(3, 1, 2, 1), "(0, 0) and (3, 1): 2 gives 1");
+    ensure(between_gives(2, 1, 1, 1), "(0, 0) and (2, 1): 1 gives 1");
+    ensure(between_gives(2, -1, 1, 0), "(0, 0) and (2, -1): 1 gives 0");
+    ensure(between_gives(3, -5, 1, -2), "-5/3 is -2");
+    ensure(between_gives(2, -3, 1, -1), "-3/2 is -1");
 }
 
 /* What a listing of Y must be: its answer, counts and words. */
@@ -378,22 +374,22 @@ static void route_examples(void)
 {
     static stored y;
     make_y(&y, Y_SECOND_END);
-    expect(says(ind_x2(y.bytes, y.length), 0, 0), "Y is accepted");
+    ensure(says(ind_x2(y.bytes, y.length), 0, 0), "Y is accepted");
     for (size_t i = 0; i < sizeof listings / sizeof *listings; i++)
-        expect(listing_right(&y, &listings[i]), listings[i].sentence);
+        ensure(listing_right(&y, &listings[i]), listings[i].sentence);
 }
 
 static void link_examples(void)
 {
     static stored y;
     make_y(&y, 57);
-    expect(says(ind_x2(y.bytes, y.length), 8, 99), "reverse 57: 8 at 99");
+    ensure(says(ind_x2(y.bytes, y.length), 8, 99), "reverse 57: 8 at 99");
     make_y(&y, Y_TURNOUT);
-    expect(says(ind_x2(y.bytes, y.length), 8, 99), "reverse 80: 8 at 99");
+    ensure(says(ind_x2(y.bytes, y.length), 8, 99), "reverse 80: 8 at 99");
     make_y(&y, 0);
-    expect(says(ind_x2(y.bytes, y.length), 9, 69), "reverse 0: 9 at 69");
+    ensure(says(ind_x2(y.bytes, y.length), 9, 69), "reverse 0: 9 at 69");
     make_y(&y, Y_FIRST_END);
-    expect(says(ind_x2(y.bytes, y.length), 9, 69), "reverse 56: 9 at 69");
+    ensure(says(ind_x2(y.bytes, y.length), 9, 69), "reverse 56: 9 at 69");
 }
 
 /* The verdict once a balise of a file is of this place and count. */
@@ -420,25 +416,25 @@ static void sequence_examples(void)
 {
     static stored g;
     make_g(&g);
-    expect(says(ind_x2(g.bytes, g.length), 0, 0),
+    ensure(says(ind_x2(g.bytes, g.length), 0, 0),
            "1, 3 and 4 of five with number 1's links are accepted");
-    expect(group_gives(&g, G_FOUR, 5, 5, 0, 0), "1, 3 and 5 of five too");
-    expect(group_gives(&g, G_FOUR, 3, 5, 7, 112), "3 after 3: 7 at 112");
-    expect(group_gives(&g, G_FOUR, 2, 5, 7, 112), "2 after 3: 7 at 112");
-    expect(group_gives(&g, G_FOUR, 4, 6, 7, 112),
+    ensure(group_gives(&g, G_FOUR, 5, 5, 0, 0), "1, 3 and 5 of five too");
+    ensure(group_gives(&g, G_FOUR, 3, 5, 7, 112), "3 after 3: 7 at 112");
+    ensure(group_gives(&g, G_FOUR, 2, 5, 7, 112), "2 after 3: 7 at 112");
+    ensure(group_gives(&g, G_FOUR, 4, 6, 7, 112),
            "4 of six after 3 of five: 7 at 112");
-    expect(group_gives(&g, G_THREE, 3, 6, 7, 96),
+    ensure(group_gives(&g, G_THREE, 3, 6, 7, 96),
            "3 of six after 1 of five: 7 at 96");
-    expect(group_gives(&g, G_ONE, 1, 6, 0, 0),
+    ensure(group_gives(&g, G_ONE, 1, 6, 0, 0),
            "1, 3 and 4 of six are accepted");
-    expect(group_gives(&g, G_ONE, 2, 6, 7, 80),
+    ensure(group_gives(&g, G_ONE, 2, 6, 7, 80),
            "2 after a boundary: 7 at 80");
-    expect(group_gives(&g, G_ONE, 7, 6, 7, 80),
+    ensure(group_gives(&g, G_ONE, 7, 6, 7, 80),
            "7 of six, and after a boundary: 7 at 80");
     make_loose_g(&g);
-    expect(says(ind_x2(g.bytes, g.length), 0, 0),
+    ensure(says(ind_x2(g.bytes, g.length), 0, 0),
            "a group without links is accepted");
-    expect(group_gives(&g, G_ONE, 2, 5, 7, 80),
+    ensure(group_gives(&g, G_ONE, 2, 5, 7, 80),
            "2, 3 and 4 without links: 7 at 80");
 }
 
@@ -448,33 +444,33 @@ static void member_link_examples(void)
 {
     static stored g;
     make_g(&g);
-    expect(link_gives(&g, G_FOUR + IND_BALISE_NEXT, 0, 9, 100),
+    ensure(link_gives(&g, G_FOUR + IND_BALISE_NEXT, 0, 9, 100),
            "4's next is 0: 9 at 100");
-    expect(link_gives(&g, G_FOUR + IND_BALISE_PREVIOUS, 0, 9, 98),
+    ensure(link_gives(&g, G_FOUR + IND_BALISE_PREVIOUS, 0, 9, 98),
            "4 has no links: 9 at 98");
-    expect(link_gives(&g, G_FOUR + IND_BALISE_PREVIOUS, G_END, 9, 98),
+    ensure(link_gives(&g, G_FOUR + IND_BALISE_PREVIOUS, G_END, 9, 98),
            "4's previous is 1's next: 9 at 98");
-    expect(link_gives(&g, G_THREE + IND_BALISE_NEXT, G_START, 9, 84),
+    ensure(link_gives(&g, G_THREE + IND_BALISE_NEXT, G_START, 9, 84),
            "3's next is 1's previous: 9 at 84");
-    expect(link_gives(&g, G_THREE + IND_BALISE_PREVIOUS, G_ONE, 9, 82),
+    ensure(link_gives(&g, G_THREE + IND_BALISE_PREVIOUS, G_ONE, 9, 82),
            "3's previous is number 1: 9 at 82");
-    expect(link_gives(&g, G_FOUR + IND_BALISE_NEXT, G_FOUR, 8, 100),
+    ensure(link_gives(&g, G_FOUR + IND_BALISE_NEXT, G_FOUR, 8, 100),
            "4's next is 4 itself: 8 at 100, before all of 9");
-    expect(link_gives(&g, G_THREE + IND_BALISE_NEXT, G_FOUR, 8, 84),
+    ensure(link_gives(&g, G_THREE + IND_BALISE_NEXT, G_FOUR, 8, 84),
            "3's next is 4: 8 at 84");
     make_g(&g);
-    expect(link_gives(&g, G_START + IND_BOUNDARY_LINK, G_THREE, 8, 42),
+    ensure(link_gives(&g, G_START + IND_BOUNDARY_LINK, G_THREE, 8, 42),
            "a boundary's link to 3: 8 at 42");
     make_g(&g);
-    expect(link_gives(&g, G_ONE + IND_BALISE_NEXT, 0, 9, 54),
+    ensure(link_gives(&g, G_ONE + IND_BALISE_NEXT, 0, 9, 54),
            "1's next is 0: the end boundary's link is not returned");
     make_g(&g);
-    expect(group_gives(&g, G_THREE, 1, 5, 9, 82),
+    ensure(group_gives(&g, G_THREE, 1, 5, 9, 82),
            "another number 1: its previous link is not returned");
     make_loose_g(&g);
-    expect(link_gives(&g, G_THREE + IND_BALISE_NEXT, G_END, 9, 84),
+    ensure(link_gives(&g, G_THREE + IND_BALISE_NEXT, G_END, 9, 84),
            "3 has a next and 1 has none: 9 at 84");
-    expect(link_gives(&g, G_THREE + IND_BALISE_PREVIOUS, G_START, 9, 82),
+    ensure(link_gives(&g, G_THREE + IND_BALISE_PREVIOUS, G_START, 9, 82),
            "3 has a previous and 1 has none: 9 at 82");
 }
 
@@ -636,9 +632,9 @@ static int edge_fields_right(void)
 static void name_examples(void)
 {
     for (size_t i = 0; i < sizeof names / sizeof *names; i++)
-        expect(name_judged(&names[i]) && name_read(&names[i]),
+        ensure(name_judged(&names[i]) && name_read(&names[i]),
                names[i].sentence);
-    expect(edge_fields_right(), "every field of 00, 1F, 20, 7E, 7F and 80");
+    ensure(edge_fields_right(), "every field of 00, 1F, 20, 7E, 7F and 80");
 }
 
 static int last_offset_gives(uint32_t last, uint32_t number, uint32_t place)
@@ -652,13 +648,12 @@ static int last_offset_gives(uint32_t last, uint32_t number, uint32_t place)
 
 static void offset_examples(void)
 {
-    expect(last_offset_gives(51, 0, 0), "68 bytes, offsets 38 and 51");
-    expect(last_offset_gives(50, 6, 36), "last offset 50: 6 at 36");
-    expect(last_offset_gives(38, 6, 36), "last offset 38: 6 at 36");
+    ensure(last_offset_gives(51, 0, 0), "68 bytes, offsets 38 and 51");
+    ensure(last_offset_gives(50, 6, 36), "last offset 50: 6 at 36");
+    ensure(last_offset_gives(38, 6, 36), "last offset 38: 6 at 36");
 }
 
-/* Whether this text and nothing else was printed; closes what was kept. */
-static int printed(FILE *kept, const char *due)
+int printed(FILE *kept, const char *due)
 {
     char text[TEXT_ROOM];
     size_t length;
@@ -707,7 +702,7 @@ static void name_line_examples(void)
     put_n_name(&n, N_SIDING + IND_SIDING_UP_SIGNAL, "-\0\0\0\0\0\0");
     put_three(n.bytes, N_SIDING + IND_SIDING_UP_BALISE, IND_NO_BALISE);
     seal(&n);
-    expect(asked_prints(ASK_RECORD, N_SIGNAL, &n, "answer 0 0\n"
+    ensure(asked_prints(ASK_RECORD, N_SIGNAL, &n, "answer 0 0\n"
                                                   "kind signal\n"
                                                   "previous 41\n"
                                                   "next 84\n"
@@ -718,7 +713,7 @@ static void name_line_examples(void)
                                                   "direction none\n"
                                                   "type 1\n"),
            "a signal with a space in its name");
-    expect(asked_prints(ASK_RECORD, N_JOINT, &n, "answer 0 0\n"
+    ensure(asked_prints(ASK_RECORD, N_JOINT, &n, "answer 0 0\n"
                                                  "kind joint\n"
                                                  "previous 65\n"
                                                  "next 53\n"
@@ -727,7 +722,7 @@ static void name_line_examples(void)
                                                  "position 0\n"
                                                  "track 1\n"),
            "an unnamed joint");
-    expect(asked_prints(ASK_RECORD, N_SIDING, &n, "answer 0 0\n"
+    ensure(asked_prints(ASK_RECORD, N_SIDING, &n, "answer 0 0\n"
                                                   "kind siding\n"
                                                   "name G\n"
                                                   "name_bytes 1\n"
@@ -745,7 +740,7 @@ static void track_example(void)
 {
     static stored file;
     make_one_track(&file, 3, 1);
-    expect(answer_prints(ASK_TRACK, &file, "answer 0 0\n"
+    ensure(answer_prints(ASK_TRACK, &file, "answer 0 0\n"
                                            "number 1\n"
                                            "property 1\n"
                                            "start_position 0\n"
@@ -767,16 +762,16 @@ static void header1_examples(void)
     make_one_track(&file, 1, 0);
     put_opening(file.bytes, IND_X1_TYPE, 0x0203, 0x0405);
     seal(&file);
-    expect(answer_prints(ASK_HEADER1, &file, "answer 0 0\n"
+    ensure(answer_prints(ASK_HEADER1, &file, "answer 0 0\n"
                                              "structure 1\n"
                                              "data 515\n"
                                              "station 1029\n"),
            "header of an X.1");
-    expect(answer_prints(ASK_HEADER2, &file, "answer 1 0\n"),
+    ensure(answer_prints(ASK_HEADER2, &file, "answer 1 0\n"),
            "an X.1 of 68 bytes is too short for header2");
     put_two(file.bytes, IND_STATION_PLACE, 0);
     seal(&file);
-    expect(answer_prints(ASK_HEADER1, &file, "answer 5 5\n"),
+    ensure(answer_prints(ASK_HEADER1, &file, "answer 5 5\n"),
            "header1 first gives the X.1's fault");
 }
 
@@ -849,16 +844,16 @@ static void version_examples(void)
 {
     static stored file, y;
     for (size_t i = 0; i < sizeof versions / sizeof *versions; i++)
-        expect(version_right(&versions[i]), versions[i].sentence);
+        ensure(version_right(&versions[i]), versions[i].sentence);
     make_one_track(&file, 1, 0);
-    expect(both_say(&file, 0, 0, 0, 0), "both readers accept version 1");
+    ensure(both_say(&file, 0, 0, 0, 0), "both readers accept version 1");
     put_two(file.bytes, IND_STRUCTURE_VERSION_PLACE, 2);
     seal(&file);
-    expect(both_say(&file, 1, 0, 4, 1), "68 bytes named version 2: 1 at 0");
+    ensure(both_say(&file, 1, 0, 4, 1), "68 bytes named version 2: 1 at 0");
     make_y(&y, Y_SECOND_END);
     put_two(y.bytes, IND_STRUCTURE_VERSION_PLACE, 2);
     seal(&y);
-    expect(says(ind_x2(y.bytes, y.length), 4, 1),
+    ensure(says(ind_x2(y.bytes, y.length), 4, 1),
            "an X.2 of version 2: 4 at 1");
 }
 
@@ -880,28 +875,28 @@ static int high_gives(uint32_t at, uint32_t bytes, uint32_t value,
 /* Layout, fields and agreement of version 2: its points stand at 38 and 53. */
 static void high_examples(void)
 {
-    expect(high_gives(HIGH_LAST_OFFSET, 2, 53, 0, 0),
+    ensure(high_gives(HIGH_LAST_OFFSET, 2, 53, 0, 0),
            "72 bytes, offsets 38 and 53");
-    expect(high_gives(HIGH_LAST_OFFSET, 2, 52, 6, 36),
+    ensure(high_gives(HIGH_LAST_OFFSET, 2, 52, 6, 36),
            "last offset 52: 6 at 36");
-    expect(high_gives(HIGH_LAST_OFFSET, 2, 51, 6, 36),
+    ensure(high_gives(HIGH_LAST_OFFSET, 2, 51, 6, 36),
            "last offset 51: 6 at 36");
-    expect(high_gives(HIGH_LAST_OFFSET, 2, 38, 6, 36),
+    ensure(high_gives(HIGH_LAST_OFFSET, 2, 38, 6, 36),
            "last offset 38: 6 at 36");
-    expect(high_gives(HIGH_LAST_OFFSET, 2, 54, 6, 36),
+    ensure(high_gives(HIGH_LAST_OFFSET, 2, 54, 6, 36),
            "last offset 54: 6 at 36");
-    expect(high_gives(HIGH_LAST_OFFSET, 2, 68, 6, 36),
+    ensure(high_gives(HIGH_LAST_OFFSET, 2, 68, 6, 36),
            "last offset 68: 6 at 36");
-    expect(high_gives(HIGH_FIRST_OFFSET, 2, 40, 6, 34),
+    ensure(high_gives(HIGH_FIRST_OFFSET, 2, 40, 6, 34),
            "first offset 40: 6 at 34");
-    expect(high_gives(HIGH_LAST_HEADING, 2, 31417, 5, 63),
+    ensure(high_gives(HIGH_LAST_HEADING, 2, 31417, 5, 63),
            "heading 31417: 5 at 63");
-    expect(high_gives(HIGH_LAST_NEAR, 1, 2, 5, 65), "near flag 2: 5 at 65");
-    expect(high_gives(HIGH_LAST_NEAR, 1, 1, 7, 38),
+    ensure(high_gives(HIGH_LAST_NEAR, 1, 2, 5, 65), "near flag 2: 5 at 65");
+    ensure(high_gives(HIGH_LAST_NEAR, 1, 1, 7, 38),
            "near flags 0 and 1: 7 at 38");
-    expect(high_gives(HIGH_LAST_POINT, 1, 0, 7, 53),
+    ensure(high_gives(HIGH_LAST_POINT, 1, 0, 7, 53),
            "no rising position: 7 at 53");
-    expect(high_gives(HIGH_FIRST_HEIGHT, 2, 0x7FFF, 0, 0)
+    ensure(high_gives(HIGH_FIRST_HEIGHT, 2, 0x7FFF, 0, 0)
                && high_gives(HIGH_LAST_HEIGHT, 2, 0, 0, 0),
            "any height is right");
 }
@@ -941,7 +936,7 @@ static void height_examples(void)
 {
     static stored file;
     for (size_t i = 0; i < sizeof heights / sizeof *heights; i++)
-        expect(height_read(heights[i].bytes, HIGH_FIRST_HEIGHT, 0,
+        ensure(height_read(heights[i].bytes, HIGH_FIRST_HEIGHT, 0,
                            heights[i].height)
                    && height_read(heights[i].bytes, HIGH_LAST_HEIGHT, 1,
                                   heights[i].height),
@@ -949,7 +944,7 @@ static void height_examples(void)
     make_high(&file, 2);
     file.bytes[HIGH_FIRST_HEIGHT + 1] = 0x80;
     seal(&file);
-    expect(answer_prints(ASK_POINT, &file, "answer 0 0\n"
+    ensure(answer_prints(ASK_POINT, &file, "answer 0 0\n"
                                            "position 0\n"
                                            "latitude_increment 0\n"
                                            "longitude_increment 0\n"
@@ -958,7 +953,7 @@ static void height_examples(void)
                                            "height -32768\n"),
            "a point with a height");
     make_one_track(&file, 1, 0);
-    expect(answer_prints(ASK_POINT, &file, "answer 0 0\n"
+    ensure(answer_prints(ASK_POINT, &file, "answer 0 0\n"
                                            "position 0\n"
                                            "latitude_increment 0\n"
                                            "longitude_increment 0\n"
@@ -990,31 +985,31 @@ static void high_question_examples(void)
     static stored file, y;
     make_high(&file, EIGHT_POINTS);
     make_y(&y, Y_SECOND_END);
-    expect(ind_track_at(file.bytes, file.length, 0).points == 8
+    ensure(ind_track_at(file.bytes, file.length, 0).points == 8
                && ind_track_at(file.bytes, file.length, 0).last_offset
                    == EIGHT_LAST_POINT,
            "eight points of 15 bytes");
-    expect(eighth_reads(&file, 0) && eighth_reads(&file, 1)
+    ensure(eighth_reads(&file, 0) && eighth_reads(&file, 1)
                && eighth_reads(&file, 6) && eighth_reads(&file, 7),
            "each where it stands");
-    expect(says(ind_point_at(file.bytes, file.length, 0, 8).answer, 13, 0),
+    ensure(says(ind_point_at(file.bytes, file.length, 0, 8).answer, 13, 0),
            "a ninth is out of range");
-    expect(latitude_at(&file, 1, 0) && latitude_at(&file, 2, 1)
+    ensure(latitude_at(&file, 1, 0) && latitude_at(&file, 2, 1)
                && latitude_at(&file, 19, 6) && latitude_at(&file, 20, 7)
                && latitude_at(&file, 21, 7),
            "coordinates between points of 15 bytes");
-    expect(answer_prints(ASK_HEADER1, &file, "answer 0 0\n"
+    ensure(answer_prints(ASK_HEADER1, &file, "answer 0 0\n"
                                              "structure 2\n"
                                              "data 1\n"
                                              "station 1\n"),
            "header of a version 2 file");
-    expect(answer_prints(ASK_X1_VERSION_1, &file, "answer 4 1\n"),
+    ensure(answer_prints(ASK_X1_VERSION_1, &file, "answer 4 1\n"),
            "a version 1 reader answers 4 to it");
-    expect(says(ind_pair(file.bytes, file.length, y.bytes, y.length), 0, 0),
+    ensure(says(ind_pair(file.bytes, file.length, y.bytes, y.length), 0, 0),
            "an X.1 of version 2 and Y are a pair");
     file.length--;
     seal(&file);
-    expect(both_say(&file, 6, 36, 4, 1), "one byte less: 6 at 36");
+    ensure(both_say(&file, 6, 36, 4, 1), "one byte less: 6 at 36");
 }
 
 /* A track with two points, both at a latitude of its number and a longitude
@@ -1142,18 +1137,18 @@ static void lookup_examples(void)
 {
     static numbered of;
     make_edges(&of);
-    expect(numbers_found(&of, 0, NUMBERED),
+    ensure(numbers_found(&of, 0, NUMBERED),
            "of tracks 1, 63, 64, 127, 128, 191, 192 and 255, numbers 0 to "
            "255");
-    expect(numbers_found(&of, 256, 768) && numbers_found(&of, 0x10000, 256)
+    ensure(numbers_found(&of, 256, 768) && numbers_found(&of, 0x10000, 256)
                && numbers_found(&of, 0x80000000, 256)
                && numbers_found(&of, 0xFFFFFF00, 256),
            "numbers above 255 are absent");
     make_all_but(&of, 0);
-    expect(numbers_found(&of, 0, 2 * NUMBERED),
+    ensure(numbers_found(&of, 0, 2 * NUMBERED),
            "of all 255 tracks, numbers 0 to 511");
-    expect(lone_found(), "of one track alone, whichever, numbers 0 to 255");
-    expect(gap_found(),
+    ensure(lone_found(), "of one track alone, whichever, numbers 0 to 255");
+    ensure(gap_found(),
            "of all tracks but one, whichever, it and those beside it");
 }
 
@@ -1231,7 +1226,7 @@ static void stand_examples(void)
     make_edges(&of_eight);
     make_all_but(&of_all, 0);
     for (size_t i = 0; i < sizeof stands / sizeof *stands; i++)
-        expect(stand_right(&stands[i], &of_eight)
+        ensure(stand_right(&stands[i], &of_eight)
                    && stand_right(&stands[i], &of_all),
                stands[i].sentence);
 }
@@ -1257,24 +1252,24 @@ static void header2_examples(void)
                                     0xC4, 0xCF, 0xFE, 0x40 };
     static stored y;
     make_y(&y, Y_SECOND_END);
-    expect(answer_prints(ASK_HEADER2, &y, "answer 0 0\n"
+    ensure(answer_prints(ASK_HEADER2, &y, "answer 0 0\n"
                                           "structure 1\n"
                                           "data 1\n"
                                           "station 1\n"
                                           "name b1b1\n"),
            "header of Y");
-    expect(answer_prints(ASK_HEADER1, &y, "answer 3 0\n"),
+    ensure(answer_prints(ASK_HEADER1, &y, "answer 3 0\n"),
            "Y is of the wrong type for header1");
     make_y(&y, Y_TURNOUT);
-    expect(answer_prints(ASK_HEADER2, &y, "answer 8 99\n"),
+    ensure(answer_prints(ASK_HEADER2, &y, "answer 8 99\n"),
            "header2 first gives the X.2's fault");
-    expect(name_prints(table_5, sizeof table_5, "answer 0 0\n"
+    ensure(name_prints(table_5, sizeof table_5, "answer 0 0\n"
                                                 "structure 1\n"
                                                 "data 7\n"
                                                 "station 312\n"
                                                 "name b1b1bea9c4cf\n"),
            "the station name of table 5");
-    expect(name_prints(full, sizeof full,
+    ensure(name_prints(full, sizeof full,
                        "answer 0 0\n"
                        "structure 1\n"
                        "data 7\n"
@@ -1287,16 +1282,16 @@ static void list_example(void)
 {
     static stored y;
     make_y(&y, Y_SECOND_END);
-    expect(list_prints(&y, "verdict 0 0\n"
+    ensure(list_prints(&y, "verdict 0 0\n"
                            "from 44 routes 2 walks 4\n"
                            "44 80 56\n"
                            "44 80 68\n"),
            "yardlist on Y");
     make_y(&y, Y_TURNOUT);
-    expect(list_prints(&y, "verdict 8 99\n"),
+    ensure(list_prints(&y, "verdict 8 99\n"),
            "after a refused verdict nothing follows");
     make_g(&y);
-    expect(list_prints(&y, "verdict 0 0\n"
+    ensure(list_prints(&y, "verdict 0 0\n"
                            "from 41 routes 1 walks 3\n"
                            "41 65 53\n"),
            "walks meet number 1 of a group alone");
@@ -1324,6 +1319,7 @@ int command_self(void)
     lookup_examples();
     stand_examples();
     list_example();
+    plan_examples();
     printf("%lu passed, %lu failed\n", passed, failed);
     return failed == 0 ? RUN_WELL : RUN_BAD;
 }

@@ -27,5 +27,6 @@
 #include "header.h"
 #include "station.h"
 #include "routes.h"
+#include "plan.h"
 
 #endif

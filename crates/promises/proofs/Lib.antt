@@ -11,6 +11,7 @@ pub mod OfX1Layout
 pub mod OfX1Fields
 pub mod OfX1Verdict
 pub mod OfRounding
+pub mod OfDecimal
 pub mod OfX2Records
 pub mod OfX2Layout
 pub mod OfX2Kinds
@@ -26,6 +27,10 @@ pub mod OfAnswers
 pub mod OfRouteGraph
 pub mod OfRouteLister
 pub mod OfRouteQuestion
+pub mod OfPlanLines
+pub mod OfPlanRoutes
+pub mod OfPlanReading
+pub mod OfPlanQuestion
 pub mod OfListings
 pub mod OfCValues
 pub mod OfExports

@@ -1,7 +1,8 @@
 // A question about station map files that are named on the command line, answered on standard output. What is wrong with the command is
 // said in one line on standard error, and then nothing stands on standard output. The answers are those of the library; here words become
 // questions, numbers and files.
-ghost use Prim.Native.Nat.{_≤_, _<_};
+ghost use Prim.Native.Nat.{_≤_};
+use decimal::number_in;
 use libc::STDERR_FILENO;
 use libc::STDOUT_FILENO;
 use listings::MOST_ROOM;
@@ -78,7 +79,9 @@ const QUESTION_ROOM: usize = 16;
 
 const NUMBER_ROOM: usize = 32;
 
-// A number has to be below this.
+// A number is at most this, and what is none has the number after it.
+const NUMBER_MOST: u32 = 0xFFFF_FFFF;
+
 const NO_NUMBER: usize = 0x1_0000_0000;
 
 // A byte more than the longest file: a file that fills the room is too long, whatever follows.
@@ -242,39 +245,6 @@ fn is_counted(table: &[u8], question: usize) -> bool {
     is_right
 }
 
-// A number with one digit more.
-fn appended(n: usize, digit: usize) -> usize
-    requires { ⌜ n ≤ 4294967296 ⌝ }
-    requires { ⌜ digit < 10 ⌝ }
-    ensures { λ r. ⌜ r ≤ 4294967296 ⌝ }
-{
-    let longer = 10 * n + digit;
-    if longer < NO_NUMBER {
-        longer
-    } else {
-        NO_NUMBER
-    }
-}
-
-// The number that a text is in decimal.
-fn number_in(text: &[u8]) -> usize {
-    if text.len() == 0 {
-        return NO_NUMBER;
-    }
-    let mut n = 0;
-    for k in 0..text.len() {
-        let c = byte_at(text, k);
-        if c < 0x30 {
-            return NO_NUMBER;
-        }
-        if 0x39 < c {
-            return NO_NUMBER;
-        }
-        n = appended(n, c - 0x30);
-    }
-    n
-}
-
 // The number that a word of the command line is.
 fn number_at(i: usize) -> usize {
     let mut word = [0u8; NUMBER_ROOM];
@@ -282,7 +252,7 @@ fn number_at(i: usize) -> usize {
     if os::errno() != 0 {
         return NO_NUMBER;
     }
-    number_in(&word[..n])
+    number_in(&word[..n], NUMBER_MOST)
 }
 
 // The same, 0 where the command has no such word; it is said where the word is no number.

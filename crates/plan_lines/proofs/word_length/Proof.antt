@@ -1,0 +1,47 @@
+-- `plan_lines::word_length` meets its contract. The loop's invariant: none of the k bytes passed is a blank.
+use mathlib.Core.Path.{sym, ap, _∙_}
+use Prim.Native.Nat.{_-_, _≤_}
+use borrow.Author.Needs.{needs}
+use mathlib.Core.Bool.{not}
+use lib.ListN.{length}
+use Rattle.plan_lines.specs.Lines.{isPart}
+use Rattle.plan_lines.proofs.Fronts.{Counted, count-more, count-stop, count-end}
+use Rattle.plan_lines.proofs.word_length.Statement.{statement}
+use Rattle.plan_lines.proofs.word_length.Tie as tie
+
+abbrev Inv-loop : tie.InvT-loop
+Inv-loop text k₀ k = (k ≤ length text) × Counted isPart text k
+
+abbrev μ-loop : tie.MeasureT-loop
+μ-loop text k₀ k = length text - k
+
+loop-holds : tie.Need-loop-holds Inv-loop μ-loop
+loop-holds c = (search needs, search needs)
+
+returns : tie.Need-returns Inv-loop μ-loop
+returns c =
+    let l = c .before .before .before .before .loop in
+    (count-stop isPart _ (l .k) (l .inv .1) (c .before .before .before .loop-test .taken) (ap not (sym (c .before .is-blank .ensures) ∙ c .if1 .taken)), l .inv .0)
+
+loop-again : tie.Need-loop-again Inv-loop μ-loop
+loop-again c =
+    let l = c .before .before .before .before .loop in
+    (search needs, count-more isPart _ (l .k) (l .inv .1) (c .before .before .before .loop-test .taken) (ap not (sym (c .before .is-blank .ensures) ∙ c .if1 .left)))
+
+returns-2 : tie.Need-returns-2 Inv-loop μ-loop
+returns-2 c = let l = c .before .loop in (count-end isPart _ (l .k) (l .inv .1) (c .loop-test .left), l .inv .0)
+
+pub word-length-spec : {M : Type 1} → statement M
+word-length-spec =
+    tie.close
+    (tie.spec
+    Inv-loop
+    μ-loop
+    loop-holds
+    (λ c. search needs)
+    (λ c κs. search needs)
+    returns
+    (λ c. search needs)
+    (λ c. search needs)
+    loop-again
+    returns-2)

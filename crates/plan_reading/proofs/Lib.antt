@@ -1,0 +1,4 @@
+pub mod Laid
+pub mod Cases
+pub mod Lines
+pub mod After

@@ -1,0 +1,4 @@
+pub mod Equal
+pub mod Words
+pub mod Among
+pub mod Listed

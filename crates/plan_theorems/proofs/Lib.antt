@@ -1,0 +1,3 @@
+pub mod Standing
+pub mod Agreed
+pub mod ReadPlan

@@ -1,0 +1,10 @@
+-- Each public function of crate plan_lines: what its own contract allows is one answer.
+use mathlib.Core.Path.{sym, ap, _∙_}
+use mathlib.Core.List.{List}
+use Prim.Native.Nat.{ℕ}
+use Rattle.promises.specs.Determined.{Determined}
+use Rattle.plan_lines.proofs.read.Kinds as read-kinds
+use Rattle.plan_lines.proofs.read.Reads as read-reads
+
+pub read-determined : Determined 2 read-kinds.ps read-kinds.r read-reads.Pre read-reads.Post
+read-determined κs a = (tt, λ x y v w p q. (p .0 ∙ sym (q .0), ap (λ (l : List ℕ). (tt, (l, tt))) (p .1 ∙ sym (q .1))))
