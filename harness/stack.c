@@ -39,7 +39,7 @@ static void routes(size_t limit)
     answered = yard_routes(forked.bytes, forked.length, FIRST_START, limit, 65535, out, OUTPUT, words, WORDS);
 }
 
-static void routes_of_64(void) { routes(64); }
+static void routes_of_160(void) { routes(160); }
 static void routes_of_512(void) { routes(512); }
 
 typedef struct {
@@ -62,7 +62,7 @@ static const measured calls[] = {
     { "header2", header2, ON_X2 },
     { "record", record, ON_X2 },
     { "pair", pair, ON_PAIR },
-    { "routes, limit 64", routes_of_64, ON_ROUTES },
+    { "routes, limit 160", routes_of_160, ON_ROUTES },
     { "routes, limit 512", routes_of_512, ON_ROUTES },
 };
 

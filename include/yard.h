@@ -280,7 +280,7 @@ enum yard_siding_value {
     YARD_SIDING_DOWN_SIGNAL_BYTES
 };
 
-/* Every route from the boundary that starts at `start`, of at most `limit` objects (2 to 512; 0 means 64), where there are at most `budget`
+/* Every route from the boundary that starts at `start`, of at most `limit` objects (2 to 512; 0 means 160), where there are at most `budget`
  * partial walks (1 to 65,535). No boundary starts there, or the limit or the budget is out of range: YARD_QUESTION. More partial walks than
  * the budget: YARD_STEPS. The list does not fit in `words`, or the counts do not fit in `counts`: YARD_ROOM.
  *

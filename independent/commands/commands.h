@@ -14,7 +14,9 @@ int command_sums_files(void);
 int command_sums(void);
 int command_answer(void);
 int command_list(void);
-int command_self(void);
+
+/* This takes [EXAMPLES]. */
+int command_self(int count, char **words);
 
 /* This takes FILE PLAN [LIMIT [BUDGET [ROOM]]]. */
 int command_plan(int count, char **words);

@@ -14,6 +14,8 @@ enum {
     /* 02's ticket 7: track numbers are held as four words of 64. */
     WORD_NUMBERS = 64,
     WORDS = 4,
+    /* What a limit of 0 meant before 02's ticket 8. */
+    ONCE_DEFAULT_LIMIT = 64,
     /* The name of a place, and of a case with its question and number. */
     PLACE_ROOM = 32,
     NAME_ROOM = 64,
@@ -328,6 +330,72 @@ static const char *height_name(const asked *ask)
     return found.height < 0 ? "height_negative" : "height_positive";
 }
 
+/* Lists as a case asks, but by this limit and budget. The words of the last
+ * list stand in list_words. */
+static uint16_t list_words[ROOM_LARGEST];
+
+static ind_routes listed(const asked *ask, uint32_t limit, uint32_t budget)
+{
+    static ind_walks walks;
+    const stored *file = &ask->files[0];
+    return ind_routes_from(file->bytes, file->length, ask->numbers[0], limit,
+                           budget, list_words, ask->numbers[3], &walks);
+}
+
+/* How many objects the longest route of a list has, as a word. */
+static const char *longest_name(const uint16_t *words, uint32_t routes)
+{
+    uint32_t longest = 0;
+    for (; routes > 0; routes--) {
+        longest = words[0] > longest ? words[0] : longest;
+        words += 1 + words[0];
+    }
+    if (longest == 0)
+        return "none";
+    if (longest <= ONCE_DEFAULT_LIMIT)
+        return "up_to_64";
+    if (longest < IND_DEFAULT_LIMIT)
+        return "65_to_159";
+    return longest == IND_DEFAULT_LIMIT ? "160" : "above_160";
+}
+
+/* Whether walks go on where the limit ends them. */
+static int is_cut(const asked *ask, uint32_t limit, uint32_t walks)
+{
+    ind_routes longer = listed(ask, limit + 1, IND_LARGEST_BUDGET);
+    return limit < IND_LARGEST_LIMIT
+        && (longer.answer.number != IND_ACCEPTED || longer.walks > walks);
+}
+
+/* An answered listing: whether it was asked with limit 0, whether walks were
+ * cut by the limit, and its longest route. */
+static void name_listing(const asked *ask, char *name)
+{
+    int zero = ask->numbers[1] == 0;
+    uint32_t limit = zero ? IND_DEFAULT_LIMIT : ask->numbers[1];
+    ind_routes found = listed(ask, limit, ask->numbers[2]);
+    const char *longest = longest_name(list_words, found.routes);
+    snprintf(name, PLACE_ROOM, "%s%s%s", zero ? "limit_0_" : "",
+             is_cut(ask, limit, found.walks) ? "cut_" : "", longest);
+}
+
+/* A refused listing: whether it was asked with limit 0, whether the budget or
+ * the room that is too small is the largest, and whether it is not too small
+ * for limit 64. */
+static void name_refused_listing(const asked *ask, uint32_t number,
+                                 char *name)
+{
+    int zero = ask->numbers[1] == 0;
+    int largest =
+        (number == IND_STEPS && ask->numbers[2] == IND_LARGEST_BUDGET)
+        || (number == IND_ROOM && ask->numbers[3] == ROOM_LARGEST);
+    int once = zero
+        && listed(ask, ONCE_DEFAULT_LIMIT, ask->numbers[2]).answer.number
+            == IND_ACCEPTED;
+    snprintf(name, PLACE_ROOM, "%s%s%s", zero ? "limit_0" : "0",
+             largest ? "_largest" : "", once ? "_not_64" : "");
+}
+
 /* An answer that is about no place: what was answered, or of an X.1 which
  * version it has. */
 static void name_without_place(const asked *ask, uint32_t number, char *name)
@@ -336,6 +404,10 @@ static void name_without_place(const asked *ask, uint32_t number, char *name)
     strcpy(name, "0");
     if (ask->question == ASK_RECORD && number == IND_ACCEPTED)
         name_named_record(ask, name);
+    else if (ask->question == ASK_ROUTES && number == IND_ACCEPTED)
+        name_listing(ask, name);
+    else if (ask->question == ASK_ROUTES)
+        name_refused_listing(ask, number, name);
     else if (ask->question == ASK_POINT && number == IND_ACCEPTED)
         strcpy(name, height_name(ask));
     else if (!application && ind_has_heights(ask->files[0].bytes))

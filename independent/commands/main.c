@@ -37,8 +37,8 @@ static const command commands[] = {
       "exact SEED COUNT ..   answer them from blocks of exactly their size" },
     { "plan-exact", NULL, command_plan_exact,
       "plan-exact SEED ..    print what yardplan prints of such cases" },
-    { "self", command_self, NULL,
-      "self                  check document 01's examples, and plans" },
+    { "self", NULL, command_self,
+      "self [EXAMPLES]       check document 01's examples, plans, the depot" },
 };
 
 #define COMMANDS (sizeof commands / sizeof *commands)

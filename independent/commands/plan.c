@@ -131,20 +131,20 @@ static long read_bytes(const char *name, uint8_t *bytes, size_t room)
 
 /* One byte more than a file or a plan may have is read, so that a longer one
  * is seen to be too long. */
-static int read_files(char **words, planned_yard *of)
+int read_planned(const char *file, const char *text, planned_yard *of)
 {
-    static uint8_t file[IND_LARGEST_FILE + 1];
-    static uint8_t text[IND_LARGEST_PLAN + 1];
-    long length = read_bytes(words[0], file, sizeof file);
-    long plan_length = read_bytes(words[1], text, sizeof text);
+    static uint8_t bytes[IND_LARGEST_FILE + 1];
+    static uint8_t plan_bytes[IND_LARGEST_PLAN + 1];
+    long length = read_bytes(file, bytes, sizeof bytes);
+    long plan_length = read_bytes(text, plan_bytes, sizeof plan_bytes);
     if (length < 0 || plan_length < 0) {
         fprintf(stderr, "independent: %s cannot be read\n",
-                length < 0 ? words[0] : words[1]);
+                length < 0 ? file : text);
         return 0;
     }
-    of->file = file;
+    of->file = bytes;
     of->length = (size_t)length;
-    of->plan = text;
+    of->plan = plan_bytes;
     of->plan_length = (size_t)plan_length;
     return 1;
 }
@@ -174,7 +174,7 @@ int command_plan(int count, char **words)
               stderr);
         return RUN_MISUSED;
     }
-    if (!read_files(words, &of))
+    if (!read_planned(words[0], words[1], &of))
         return RUN_BAD;
     print_plan(stdout, stderr, &of);
     return RUN_WELL;

@@ -17,6 +17,10 @@ typedef struct {
     uint32_t room;
 } planned_yard;
 
+/* Reads the two files; says so on standard error and returns 0 where one
+ * cannot be read. What was read stands until the next call. */
+int read_planned(const char *file, const char *plan, planned_yard *of);
+
 /* What yardplan prints of it to standard output, and what it says to standard
  * error. */
 void print_plan(FILE *output, FILE *said, const planned_yard *of);

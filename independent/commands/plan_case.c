@@ -15,6 +15,15 @@ static int write_bytes(const char *name, const uint8_t *bytes, size_t length)
     return fclose(file) == 0 && written;
 }
 
+/* The words to ask with, on one line. */
+static void print_asked(const plan_case *made)
+{
+    const uint32_t numbers[] = { made->limit, made->budget, made->room };
+    for (uint32_t i = 0; i < made->words; i++)
+        printf(i == 0 ? "%lu" : " %lu", (unsigned long)numbers[i]);
+    putchar('\n');
+}
+
 int command_plan_case(int count, char **words)
 {
     static plan_case made;
@@ -29,7 +38,6 @@ int command_plan_case(int count, char **words)
         fputs("independent: the two files cannot be written\n", stderr);
         return RUN_BAD;
     }
-    printf("%lu %lu %lu\n", (unsigned long)made.limit,
-           (unsigned long)made.budget, (unsigned long)made.room);
+    print_asked(&made);
     return RUN_WELL;
 }

@@ -1,7 +1,7 @@
 /* 01's 'Yard examples', the roundings of 'Readings that look right', the
  * headers and the track of the example files, balise groups by 02's ticket 2,
- * the lookup of tracks by its ticket 7, names by its ticket 10 and heights by
- * its ticket 11, each asserted of the core. */
+ * the lookup of tracks by its ticket 7, long lines by its ticket 8, names by
+ * its ticket 10 and heights by its ticket 11, each asserted of the core. */
 #include "self.h"
 
 #include <string.h>
@@ -78,6 +78,18 @@ enum {
     N_SIGNAL_GROUP = 35,
     N_JOINT_GROUP = 37,
     N_SIDING_GROUP = 39
+};
+
+/* A line of so many objects: the boundaries, and joints from here on. */
+enum {
+    L_START = 41,
+    L_END = 53,
+    L_JOINTS = 65,
+    L_START_ENTRY = 24,
+    L_END_COUNT = 27,
+    L_END_ENTRY = 28,
+    L_JOINT_GROUP = 37,
+    L_LARGEST = 513
 };
 
 /* X.1s to look tracks up in: two points each, and the end of a track at so
@@ -377,6 +389,92 @@ static void route_examples(void)
     ensure(says(ind_x2(y.bytes, y.length), 0, 0), "Y is accepted");
     for (size_t i = 0; i < sizeof listings / sizeof *listings; i++)
         ensure(listing_right(&y, &listings[i]), listings[i].sentence);
+}
+
+/* Where an object of a line of so many starts. */
+static uint32_t l_start(uint32_t index, uint32_t objects)
+{
+    if (index == 0)
+        return L_START;
+    return index + 1 == objects ? L_END
+                                : L_JOINTS + IND_JOINT_SIZE * (index - 1);
+}
+
+/* The line: each object links to the one before it and the one after it. */
+static void make_line(stored *file, uint32_t objects)
+{
+    uint8_t *bytes = file->bytes;
+    uint32_t last = objects - 1;
+    begin_yard(file, L_JOINTS + IND_JOINT_SIZE * (objects - 2)
+                   + IND_CHECKSUM_SIZE);
+    bytes[L_END_COUNT] = 1;
+    put_two(bytes, L_JOINT_GROUP, L_JOINTS);
+    put_boundary(bytes, L_START_ENTRY, L_START, IND_DOWN_START,
+                 l_start(1, objects));
+    put_boundary(bytes, L_END_ENTRY, L_END, IND_DOWN_END,
+                 l_start(last - 1, objects));
+    for (uint32_t i = 1; i < last; i++) {
+        uint8_t *joint = bytes + l_start(i, objects);
+        joint[IND_TYPE_PLACE] = IND_JOINT_TYPE;
+        put_two(joint, IND_JOINT_PREVIOUS, l_start(i - 1, objects));
+        put_two(joint, IND_JOINT_NEXT, l_start(i + 1, objects));
+        joint[IND_JOINT_TRACK] = 1;
+    }
+    seal(file);
+}
+
+/* A line of so many objects by a limit: whether its route is listed, and how
+ * many partial walks there are. */
+static const struct {
+    uint32_t objects;
+    uint32_t limit;
+    uint32_t listed;
+    uint32_t walks;
+    const char *sentence;
+} lines[] = {
+    { 64, 64, 1, 64, "64 objects by limit 64" },
+    { 64, 0, 1, 64, "64 objects by limit 0" },
+    { 65, 64, 0, 64, "65 objects by limit 64: no route" },
+    { 65, 0, 1, 65, "65 objects by limit 0" },
+    { 160, 64, 0, 64, "160 objects by limit 64: no route" },
+    { 160, 159, 0, 159, "160 objects by limit 159: no route" },
+    { 160, 160, 1, 160, "160 objects by limit 160" },
+    { 160, 0, 1, 160, "160 objects by limit 0" },
+    { 161, 64, 0, 64, "161 objects by limit 64: no route" },
+    { 161, 160, 0, 160, "161 objects by limit 160: no route" },
+    { 161, 0, 0, 160, "161 objects by limit 0: no route" },
+    { 161, 161, 1, 161, "161 objects by limit 161" },
+    { 512, 511, 0, 511, "512 objects by limit 511: no route" },
+    { 512, 512, 1, 512, "512 objects by limit 512" },
+    { 513, 512, 0, 512, "513 objects by limit 512: no route" }
+};
+
+/* The listing of a line: its words are its objects, in order. */
+static int line_right(uint32_t objects, uint32_t limit, uint32_t listed,
+                      uint32_t walks)
+{
+    static stored file;
+    static ind_walks lent;
+    uint16_t words[1 + L_LARGEST];
+    ind_routes found;
+    int right;
+    make_line(&file, objects);
+    found = ind_routes_from(file.bytes, file.length, L_START, limit,
+                            IND_LARGEST_BUDGET, words, 1 + L_LARGEST, &lent);
+    right = says(found.answer, 0, 0) && found.routes == listed
+        && found.walks == walks && found.words == listed * (1 + objects)
+        && (!listed || words[0] == objects);
+    for (uint32_t i = 0; listed && i < objects; i++)
+        right = right && words[1 + i] == l_start(i, objects);
+    return right;
+}
+
+static void line_examples(void)
+{
+    for (size_t i = 0; i < sizeof lines / sizeof *lines; i++)
+        ensure(line_right(lines[i].objects, lines[i].limit, lines[i].listed,
+                          lines[i].walks),
+               lines[i].sentence);
 }
 
 static void link_examples(void)
@@ -1295,14 +1393,23 @@ static void list_example(void)
                            "from 41 routes 1 walks 3\n"
                            "41 65 53\n"),
            "walks meet number 1 of a group alone");
+    make_line(&y, 161);
+    ensure(list_prints(&y, "verdict 0 0\n"
+                           "from 41 routes 0 walks 160\n"),
+           "yardlist on a line of 161 objects");
 }
 
-int command_self(void)
+int command_self(int count, char **words)
 {
+    if (count > 1) {
+        fputs("independent: self takes [EXAMPLES]\n", stderr);
+        return RUN_MISUSED;
+    }
     checksum_examples();
     increment_examples();
     coordinate_examples();
     route_examples();
+    line_examples();
     link_examples();
     sequence_examples();
     member_link_examples();
@@ -1320,6 +1427,8 @@ int command_self(void)
     stand_examples();
     list_example();
     plan_examples();
+    if (count == 1)
+        depot_examples(words[0]);
     printf("%lu passed, %lu failed\n", passed, failed);
     return failed == 0 ? RUN_WELL : RUN_BAD;
 }

@@ -26,4 +26,7 @@ int printed(FILE *kept, const char *due);
 /* Plans, beside yard Y. */
 void plan_examples(void);
 
+/* The first depot beside its plan, from the folder of the examples. */
+void depot_examples(const char *folder);
+
 #endif

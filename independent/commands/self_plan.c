@@ -1,4 +1,5 @@
-/* docs/PLAN.md's rules, each asserted of plans beside yard Y. */
+/* docs/PLAN.md's rules, each asserted of plans beside yard Y; and 02's ticket
+ * 8, asserted of the first depot. */
 #include "self.h"
 
 #include <string.h>
@@ -92,6 +93,9 @@ static const plan_example from_lines[] = {
       "from 68 differs both 0 missing 0 extra 1\nextra 68 80 44\n",
       LINE("2") ELSEWHERE LINE("3") ELSEWHERE,
       "routes that start elsewhere name no start" },
+    { "from 68\n68 80 44\n" BOTH_ROUTES, "from 68 agrees 1 routes\n",
+      LINE("3") ELSEWHERE LINE("4") ELSEWHERE,
+      "a 'from' line holds for all lines below" },
     { "from 68\nfrom\n" BOTH_ROUTES "68 80 44\n",
       AGREES "from 68 agrees 1 routes\n", LINE("2") FROM_WRONG,
       "after a wrong 'from' line routes are from their first offsets" },
@@ -327,4 +331,55 @@ void plan_examples(void)
     nul_examples(&y);
     long_line_examples(&y);
     long_plan_examples(&y);
+}
+
+/* The depot by a limit above 64: all that is planned is listed, and from its
+ * first start there is one route more, of 104 objects. */
+static int depot_has_more(planned_yard *of, uint32_t limit)
+{
+    enum { ROOM = 4000 };
+    static const char first[] = "verdict 0 0\n"
+                                "from 59 differs both 3 missing 0 extra 1\n"
+                                "both 59 ";
+    static const char last[] = " 131\n"
+                               "from 71 agrees 2 routes\n"
+                               "from 83 agrees 2 routes\n"
+                               "from 95 agrees 2 routes\n";
+    static char text[ROOM];
+    FILE *output = tmpfile(), *said = tmpfile();
+    size_t length, blanks = 0;
+    if (output == NULL || said == NULL)
+        return 0;
+    of->limit = limit;
+    print_plan(output, said, of);
+    rewind(output);
+    length = fread(text, 1, ROOM - 1, output);
+    fclose(output);
+    text[length] = '\0';
+    for (const char *at = strstr(text, "extra 59 "); at != NULL && *at != '\n';
+         at++)
+        blanks += *at == ' ';
+    return printed(said, "") && length > sizeof last
+        && strncmp(text, first, strlen(first)) == 0
+        && strcmp(text + length - strlen(last), last) == 0 && blanks == 104;
+}
+
+void depot_examples(const char *folder)
+{
+    enum { NAME_ROOM = 1000 };
+    char file[NAME_ROOM], plan[NAME_ROOM];
+    planned_yard of = { NULL, 0, NULL, 0, 64, ANY_BUDGET, ANY_ROOM };
+    snprintf(file, NAME_ROOM, "%s/depot", folder);
+    snprintf(plan, NAME_ROOM, "%s/depot.plan", folder);
+    ensure(read_planned(file, plan, &of), "the depot and its plan are read");
+    ensure(plan_prints(&of,
+                       "verdict 0 0\n"
+                       "from 59 agrees 3 routes\n"
+                       "from 71 agrees 2 routes\n"
+                       "from 83 agrees 2 routes\n"
+                       "from 95 agrees 2 routes\n",
+                       ""),
+           "the depot by limit 64: as it was approved");
+    ensure(depot_has_more(&of, 0), "by limit 0 a route more");
+    ensure(depot_has_more(&of, 160), "and so by limit 160");
 }

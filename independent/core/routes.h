@@ -7,7 +7,7 @@
 #include "answer.h"
 
 enum {
-    IND_DEFAULT_LIMIT = 64,
+    IND_DEFAULT_LIMIT = 160,
     IND_LEAST_LIMIT = 2,
     IND_LARGEST_LIMIT = 512,
     IND_LARGEST_BUDGET = 65535

@@ -234,11 +234,13 @@ static void ask_routes(source *from, const wanted *kinds, asked *ask)
     if (!kinds->small && once_in(from, 3)) {
         size = SIZE_MIDDLE;
         if (once_in(from, 3))
-            shape = once_in(from, 2) ? YARD_LONG_LINE : YARD_DIAMONDS;
+            shape = once_in(from, 2) ? YARD_LONG_WAYS : YARD_DIAMONDS;
     }
     make_route_yard(from, shape, size, station, &made);
     lay_out(&made, NULL, file);
-    some_listing(from, file, shape == YARD_LONG_LINE, ask->numbers);
+    some_listing(from, file,
+                 shape == YARD_LONG_LINE || shape == YARD_LONG_WAYS,
+                 ask->numbers);
     if (once_in(from, 12))
         spoil(from, 1, file);
 }

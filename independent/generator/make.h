@@ -79,6 +79,8 @@ typedef enum {
     YARD_BALLOON,
     YARD_DIAMONDS,
     YARD_LONG_LINE,
+    /* Not among small yards but for listing routes. */
+    YARD_LONG_WAYS,
     YARD_SHAPES
 } yard_shape;
 

@@ -1,6 +1,6 @@
 /* Right yards as objects and their links: lines, tangles, ladders,
- * crossovers, wyes, balloon loops, diamonds, dead ends, rings, and groups of
- * balises. */
+ * crossovers, wyes, balloon loops, diamonds, long lines, long ways that
+ * branch, dead ends, rings, and groups of balises. */
 #include "make.h"
 
 #include "core/core.h"
@@ -349,12 +349,23 @@ static void shape_diamonds(source *from, yard *made)
     finish_port(from, made, at, port);
 }
 
+/* How many objects a way has that is about as long as a yard's are, or as the
+ * limit that 0 means, now or once. */
+static uint32_t some_way(source *from)
+{
+    static const uint32_t edges[] = { 63, 64, 65, 159, 160, 161 };
+    return once_in(from, 2) ? ONE_OF(from, edges)
+                            : (uint32_t)draw_between(from, 60, 170);
+}
+
 /* Lines as long as a limit, one under and one over, with or without a
  * turnout on the way. */
 static void shape_long_line(source *from, yard *made)
 {
-    static const uint32_t limits[] = { 2, 3, 63, 64, 65, 511, 512, 513 };
-    uint32_t objects = limits[draw(from, made->size == SIZE_SMALL ? 5 : 8)];
+    static const uint32_t ends[] = { 2, 3, 511, 512, 513 };
+    uint32_t among = made->size == SIZE_SMALL ? 2 : 5;
+    uint32_t objects =
+        once_in(from, 2) ? ends[draw(from, among)] : some_way(from);
     uint32_t between = objects - 2;
     uint32_t start = add_start(from, made);
     uint32_t end = add_end(from, made);
@@ -371,6 +382,62 @@ static void shape_long_line(source *from, yard *made)
     }
 }
 
+/* Turnouts in a row, each leading off one long way. Deep says how many
+ * objects stand up to the last turnout. */
+static void long_ladder(source *from, yard *made)
+{
+    uint32_t rungs = 1 + draw(from, made->size == SIZE_SMALL ? 2 : 3);
+    uint32_t at = add_start(from, made), port = 0, deep = 1;
+    while (rungs-- > 0) {
+        uint32_t turnout = add(from, made, IND_TURNOUT);
+        uint32_t end = add_boundary(from, made);
+        uint32_t before = draw(from, 10);
+        uint32_t off = once_in(from, 2) ? REVERSE : NORMAL;
+        deep += before + 1;
+        join_by(from, made, at, port, turnout, FRONT, before);
+        join_by(from, made, turnout, off, end, 0, some_way(from) - deep - 1);
+        at = turnout;
+        port = off == REVERSE ? NORMAL : REVERSE;
+    }
+    if (once_in(from, 3)) {
+        finish_port(from, made, at, port);
+    } else {
+        uint32_t end = add_end(from, made);
+        join_by(from, made, at, port, end, 0, some_way(from) - deep - 1);
+    }
+}
+
+/* Diamonds so far apart that the whole way is long: few, or so many that the
+ * list has no room or the walks are too many. */
+static void long_diamonds(source *from, yard *made)
+{
+    uint32_t diamonds = once_in(from, 2) ? 1 + draw(from, 4)
+                                         : 10 + draw(from, 7);
+    uint32_t between = some_way(from) - 2 - 2 * diamonds;
+    uint32_t apart_by = between / (diamonds + 1);
+    uint32_t at = add_start(from, made), port = 0;
+    uint32_t end = add_end(from, made);
+    for (uint32_t i = 0; i < diamonds; i++) {
+        uint32_t apart = add(from, made, IND_TURNOUT);
+        uint32_t together = add(from, made, IND_TURNOUT);
+        join_by(from, made, at, port, apart, FRONT, apart_by);
+        join_by(from, made, apart, NORMAL, together, NORMAL, 0);
+        join_by(from, made, apart, REVERSE, together, REVERSE, 1);
+        at = together;
+        port = FRONT;
+    }
+    join_by(from, made, at, port, end, 0, between - apart_by * diamonds);
+}
+
+/* Several long ways that branch. */
+static void shape_long_ways(source *from, yard *made)
+{
+    if (once_in(from, 2))
+        long_ladder(from, made);
+    else
+        long_diamonds(from, made);
+}
+
 static void build_shape(source *from, yard_shape shape, yard *made)
 {
     switch (shape) {
@@ -381,6 +448,7 @@ static void build_shape(source *from, yard_shape shape, yard *made)
     case YARD_BALLOON: shape_balloon(from, made); break;
     case YARD_DIAMONDS: shape_diamonds(from, made); break;
     case YARD_LONG_LINE: shape_long_line(from, made); break;
+    case YARD_LONG_WAYS: shape_long_ways(from, made); break;
     default: shape_lines(from, made); break;
     }
 }
@@ -515,7 +583,8 @@ void make_yard(source *from, size_wanted size, uint32_t station, yard *made)
     yard_shape shape = YARD_LINES;
     begin(from, size, station, made);
     if (made->allowed[IND_TURNOUT])
-        shape = (yard_shape)draw(from, YARD_SHAPES);
+        shape = (yard_shape)draw(from, size == SIZE_SMALL ? YARD_LONG_WAYS
+                                                          : YARD_SHAPES);
     build_shape(from, shape, made);
     complete(from, made);
     add_groups(from, made, 0);

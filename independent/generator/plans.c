@@ -7,7 +7,7 @@
 
 #include "cases.h"
 #include "core/core.h"
-#include "random.h"
+#include "make.h"
 
 enum {
     STARTS_LARGEST = 6,
@@ -224,8 +224,9 @@ static void route_line(draft *of, const uint16_t *route)
 static void stray_line(draft *of)
 {
     static const char *const lines[] = { "44",     "44#80",  "FROM 44",
-                                         "from44", "44 44",  "0 0",
-                                         "x",      "44from", "65535 0" };
+                                         "From 44", "from44", "44 44",
+                                         "0 0",    "x",      "44from",
+                                         "froM 44", "65535 0" };
     switch (draw(of->from, 6)) {
     case 0: break;
     case 1: put_comment(of); break;
@@ -473,29 +474,49 @@ static void make_plan(source *from, const stored *file, uint32_t limit,
 
 /* ---- cases */
 
-/* An X.2 with routes; now and then any, which is most often damaged. */
-static void make_file(source *from, stored *file)
+/* A right X.2 with routes, one in three with long ways. */
+static void make_routes_file(source *from, stored *file)
+{
+    static yard made;
+    size_wanted size = once_in(from, 5) ? SIZE_MIDDLE : SIZE_SMALL;
+    yard_shape shape = (yard_shape)draw(from, YARD_SHAPES);
+    if (once_in(from, 3))
+        shape = once_in(from, 2) ? YARD_LONG_LINE : YARD_LONG_WAYS;
+    make_route_yard(from, shape, size, 1, &made);
+    lay_out(&made, NULL, file);
+}
+
+/* Any small X.2, most often damaged. */
+static void make_any_file(source *from, stored *file)
 {
     static asked ask;
     generation run;
     memset(&run, 0, sizeof run);
     run.seed = draw_bits(from);
-    run.kinds.asked_for[once_in(from, 10) ? ASK_X2 : ASK_ROUTES] = 1;
-    run.kinds.small = once_in(from, 2) || run.kinds.asked_for[ASK_X2];
+    run.kinds.asked_for[ASK_X2] = 1;
+    run.kinds.small = 1;
     build_case(&run, 0, &ask);
     memcpy(file, &ask.files[0], sizeof *file);
 }
 
-static const uint32_t plan_limits[] = { 0, 8, 64, 160, 512 };
+static void make_file(source *from, stored *file)
+{
+    if (once_in(from, 8))
+        make_any_file(from, file);
+    else
+        make_routes_file(from, file);
+}
 
 /* What to ask with: most often what the plan was drawn by. */
 static void draw_asked(source *from, uint32_t limit, plan_case *made)
 {
+    static const uint32_t limits[] = { 0,   0,   2,   8,   63, 64,
+                                       65,  159, 160, 161, 511, 512 };
     static const uint32_t bad[] = { 1, 513, 65536 + 64, 0xFFFFFFFF };
     static const uint32_t bad_budgets[] = { 0, 65536, 0xFFFFFFFF };
-    made->limit = once_in(from, 5) ? ONE_OF(from, plan_limits) : limit;
+    made->limit = once_in(from, 3) ? ONE_OF(from, limits) : limit;
     made->budget = IND_LARGEST_BUDGET;
-    made->room = once_in(from, 3) ? 4096 : ROOM_LARGEST;
+    made->room = once_in(from, 4) ? 4096 : ROOM_LARGEST;
     if (once_in(from, 30))
         made->limit = ONE_OF(from, bad);
     if (once_in(from, 10))
@@ -506,12 +527,28 @@ static void draw_asked(source *from, uint32_t limit, plan_case *made)
         made->room = draw(from, 80);
 }
 
+/* How many of limit, budget and room are asked with. Those that are what they
+ * are where they are left out may be left out, from the last on. */
+static uint32_t draw_words(source *from, const plan_case *made)
+{
+    uint32_t words = 3;
+    if (made->room == ROOM_LARGEST && once_in(from, 2))
+        words = 2;
+    if (words == 2 && made->budget == IND_LARGEST_BUDGET && once_in(from, 2))
+        words = 1;
+    if (words == 1 && made->limit == 0 && once_in(from, 2))
+        words = 0;
+    return words;
+}
+
 void build_plan_case(uint64_t seed, plan_case *made)
 {
+    static const uint32_t limits[] = { 0, 0, 0, 8, 64, 160, 512 };
     source from = source_from(seed);
     uint32_t limit;
     make_file(&from, &made->file);
-    limit = ONE_OF(&from, plan_limits);
+    limit = ONE_OF(&from, limits);
     make_plan(&from, &made->file, limit, &made->plan);
     draw_asked(&from, limit, made);
+    made->words = draw_words(&from, made);
 }

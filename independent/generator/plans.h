@@ -14,13 +14,15 @@ typedef struct {
     uint8_t bytes[PLAN_TEXT_ROOM];
 } plan_text;
 
-/* An X.2, a plan, and what the listings are to be asked with. */
+/* An X.2, a plan, and what the listings are to be asked with: the first so
+ * many of limit, budget and room as words. */
 typedef struct {
     stored file;
     plan_text plan;
     uint32_t limit;
     uint32_t budget;
     uint32_t room;
+    uint32_t words;
 } plan_case;
 
 /* The case of a seed. The plan has the yard's own routes, all of them or with

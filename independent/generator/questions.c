@@ -146,8 +146,9 @@ static uint32_t some_listing_start(source *from, const stored *file)
 /* A limit; where ways are as long as one, mostly at the edges. */
 static uint32_t some_limit(source *from, int long_ways)
 {
-    static const uint32_t edges[] = { 2, 3, 63, 64, 65, 511, 512 };
-    static const uint32_t bad[] = { 1, 513, 65536, 65536 + 64, 0xFFFFFFFF };
+    static const uint32_t edges[] = { 0,   0,   0,   2,   3,   8,  63, 64,
+                                      65,  159, 160, 161, 511, 512 };
+    static const uint32_t bad[] = { 1, 513, 65536, 65536 + 160, 0xFFFFFFFF };
     if (once_in(from, 25))
         return ONE_OF(from, bad);
     if (long_ways && !once_in(from, 3))
@@ -159,7 +160,8 @@ static uint32_t some_limit(source *from, int long_ways)
     }
 }
 
-/* A budget at or beside the number of walks, at or beside its range. */
+/* A budget at or beside the number of walks, at or beside its range. Walks
+ * are 0 where they are too many, or the list too long. */
 static uint32_t some_budget(source *from, uint32_t walks)
 {
     const uint32_t values[] = { walks - 1, walks,     walks,
@@ -167,7 +169,11 @@ static uint32_t some_budget(source *from, uint32_t walks)
                                 IND_LARGEST_BUDGET,   IND_LARGEST_BUDGET,
                                 IND_LARGEST_BUDGET,   walks / 2 };
     static const uint32_t bad[] = { 0, 65536, 65537, 0xFFFFFFFF };
-    return once_in(from, 20) ? ONE_OF(from, bad) : ONE_OF(from, values);
+    if (once_in(from, 20))
+        return ONE_OF(from, bad);
+    if (walks == 0 && !once_in(from, 4))
+        return IND_LARGEST_BUDGET;
+    return ONE_OF(from, values);
 }
 
 /* Room at or beside the words needed. */

@@ -24,6 +24,7 @@ use Rattle.route_graph.proofs.Read.{object-read}
 use Rattle.route_theorems.proofs.Listed as yard
 use Rattle.route_theorems.proofs.Range as range
 use Rattle.route_theorems.proofs.Asked.{routes-asked}
+use Rattle.route_theorems.proofs.Base.{stated-is, stated-left, default-is}
 use Rattle.demands.specs.Demands.{Returns, Accepts, Lists}
 
 -- a refusal leaves every byte of an output
@@ -81,4 +82,13 @@ accepts = record {
 
 -- PROMISE 3
 pub lists : Lists
-lists = record { which = routes-asked; listed = yard.listed; one-list = λ f e start b limit x y p q. range.one-list f e start b limit x y p q; first-only = λ f e start b limit w h x m. range.first-only f e start b limit w h x m; objects = λ f at. object-read f (layoutOf f) at }
+lists = record {
+  which = routes-asked;
+  listed = yard.listed;
+  one-list = λ f e start b limit x y p q. range.one-list f e start b limit x y p q;
+  first-only = λ f e start b limit w h x m. range.first-only f e start b limit w h x m;
+  objects = λ f at. object-read f (layoutOf f) at;
+  default = default-is;
+  as-approved = stated-is;
+  left-as-approved = stated-left;
+}

@@ -54,6 +54,7 @@ use Rattle.route_lister.specs.Answered.{limitOf, routesAnswer}
 use Rattle.route_lister.specs.Listing.{Listing}
 use Rattle.route_question.specs.Routes.{routesAsked, leftAsked}
 use Rattle.route_theorems.specs.Asked.{BoundaryHere, routesChecks}
+use Rattle.route_theorems.specs.Base.{routesWas, leftWas}
 use Rattle.c_values.specs.Shown.{leaves}
 use Rattle.export_theorems.specs.Fit.{trackSigned, pointSigned, coordinateSigned, recordSigned, AnswerBack}
 use Rattle.exports.proofs.yard_checksum.Kinds as checksum-kinds
@@ -185,3 +186,10 @@ pub record Lists : Type 0 where
       → Walk (objectAt f (layoutOf f)) start limit w → (x : ℕ) → List·Memᴰ x w → Member f (layoutOf f) x → ⊥
   -- what the lister reads of a record is what the record's bytes mean
   pub objects : (f : List ℕ) (at : ℕ) → objectAt f (layoutOf f) at ≡ objectOf (recordAt f (kindAt (layoutOf f) at) at)
+  -- 0 is a way to say 160; with 64 stated, the answer and the bytes left are those that 0 gave before, when it meant 64
+  -- 02: Ticket8.2
+  pub default : (f : List ℕ) (start budget room : ℕ) → routesAsked f start 0 budget room ≡ routesAsked f start 160 budget room
+  -- 02: Ticket8.5
+  pub as-approved : (f : List ℕ) (start budget room : ℕ) → routesAsked f start 64 budget room ≡ routesWas f start 0 budget room
+  -- 02: Ticket8.5
+  pub left-as-approved : (f : List ℕ) (start budget : ℕ) (out : List ℕ) → leftAsked f start 64 budget out ≡ leftWas f start 0 budget out

@@ -1,4 +1,4 @@
-// A line of the engineer's plan (docs/PLAN.md): what it says, by the words before its comment. A line of route has the offsets of its objects.
+// A line of the engineer's plan (docs/PLAN.md): what it says, by the words before its comment. A line that is a route has the offsets of its objects.
 ghost use mathlib.Core.Path.{_≡_};
 ghost use mathlib.Core.Bool.{true};
 ghost use mathlib.Core.List.{_++_};

@@ -1,4 +1,4 @@
--- What a line leaves: the words of a plan's routes are always those of whole routes, none of them twice, and a line adds its route or nothing.
+-- What a line leaves: as many words as before, among which the words of the routes end.
 use Prim.Native.Nat.{ℕ, suc, _+_, _-_, min, _≤_}
 use native.Mathlib.Omega.{arith}
 use mathlib.Core.Path.{_≡_, refl, sym, ap, _∙_}

@@ -1,3 +1,4 @@
 pub mod Standing
 pub mod Agreed
 pub mod ReadPlan
+pub mod PassedOver

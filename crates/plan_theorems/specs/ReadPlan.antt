@@ -36,6 +36,10 @@ unfoldable pub readLines : List (List ℕ) → ReadPlan → ReadPlan
 readLines [] p = p
 readLines (line ∷ lines) p = readLines lines (afterLine line p)
 
+-- the same plan, with no start that holds
+abbrev pub withoutStart : ReadPlan → ReadPlan
+withoutStart p = record { reading = record { start = noStart; words = p .reading .words }; lent = p .lent }
+
 -- ---- the routes
 
 -- the words of the routes, which stand at the front of those lent, and the routes

@@ -21,11 +21,13 @@ use Rattle.route_lister.specs.declared.RoutesAnswer.the-variants.{Listed
 
 -- ---- the range
 
--- a limit of 0 means this one
+-- a limit of 0 means this one (02, ticket 8; 01 had 64)
+-- 02: Ticket8.2
 abbrev pub defaultLimit : ℕ
-defaultLimit = 64
+defaultLimit = 160
 
 -- 01: List.2
+-- 02: Ticket8.2
 unfoldable pub limitOf : ℕ → ℕ
 limitOf limit = cond (eqb limit 0) defaultLimit limit
 
@@ -79,6 +81,7 @@ leftOf v asked start limit budget out =
 -- ---- the same of a file and its layout
 
 -- 01: Yardlist.1
+-- 02: Ticket8.3
 abbrev pub answerIn : List ℕ → Layout → ℕ → ℕ → ℕ → ℕ → RoutesAnswer
 answerIn f l start limit budget room = answerOf (objectAt f l) (boundaryStarts l start) start limit budget room
 

@@ -14,7 +14,7 @@ mod ways;
 pub use lister::list;
 
 // The limit that a limit of 0 means.
-pub const DEFAULT_LIMIT: usize = 64;
+pub const DEFAULT_LIMIT: usize = 160;
 
 // The answer to the question for routes.
 pub enum RoutesAnswer {

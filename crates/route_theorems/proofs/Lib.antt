@@ -4,3 +4,4 @@ pub mod Links
 pub mod Listed
 pub mod Range
 pub mod Asked
+pub mod Base

@@ -28,6 +28,7 @@ pub record BoundaryHere (f : List ℕ) (x : ℕ) : Type 0 where
 pub record InRange (f : List ℕ) (start limit budget : ℕ) : Type 0 where
   pub boundary : BoundaryHere f start
   -- 01: List.1, List.2
+  -- 02: Ticket8.6
   pub limit-asked : (limit ≡ 0) ⊎ ((2 ≤ limit) × (limit ≤ 512))
   -- 01: List.3
   pub budget-asked : (1 ≤ budget) × (budget ≤ 65535)

@@ -49,6 +49,7 @@ pub record Walk (v : ℕ → Object) (start limit : ℕ) (w : List ℕ) : Type 0
   pub once : NoneTwice w
   -- the list has at most the limit of objects
   -- 01: Routes.8
+  -- 02: Ticket8.1
   pub short : length w ≤ limit
 
 -- w is a route: a partial walk of two or more objects that ends at a boundary

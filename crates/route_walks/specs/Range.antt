@@ -1,10 +1,12 @@
--- The limits and budgets that may be asked with (01, 'Routes': 'Limit 2 to 512; a limit of 0 means 64. Budget 1 to 65,535').
+-- The limits and budgets that may be asked with (01, 'Routes': 'Limit 2 to 512', 'Budget 1 to 65,535').
 use Prim.Native.Nat.{ℕ, _≤_}
 
 -- the least and the highest limit and budget
+-- 02: Ticket8.6
 abbrev pub limitLeast : ℕ
 limitLeast = 2
 
+-- 02: Ticket8.6
 abbrev pub limitMost : ℕ
 limitMost = 512
 

@@ -13,7 +13,7 @@ use octets::u16_at;
 
 // The questions, a line for each: the words of its command and, after two spaces or more, what it answers. Help is these lines; a question is
 // known by its word, and its number is that of its line.
-const QUESTIONS: [u8; 1083] = *b"\
+const QUESTIONS: [u8; 1084] = *b"\
 yardask x1 FILE                                the verdict of an X.1 file: its number and the place of the fault\n\
 yardask x1-version-1 FILE                      the verdict of an X.1 by a reader that knows structure version 1 alone\n\
 yardask x2 FILE                                the verdict of an X.2 file\n\
@@ -24,7 +24,7 @@ yardask track FILE INDEX                       a track of an X.1, by its index f
 yardask point FILE TRACK POINT                 a point of a track of an X.1, both by their indexes from 0\n\
 yardask coordinate FILE TRACKNUMBER POSITION   latitude and longitude at a position (centimetres) of a track\n\
 yardask record FILE OFFSET                     the record of an X.2 that starts at an offset\n\
-yardask routes FILE START LIMIT BUDGET ROOM    the routes of an X.2 from a boundary, of at most LIMIT objects (0: 64)\n";
+yardask routes FILE START LIMIT BUDGET ROOM    the routes of an X.2 from a boundary, of at most LIMIT objects (0: 160)\n";
 
 const X1: usize = 1;
 
