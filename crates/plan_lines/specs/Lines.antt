@@ -21,12 +21,19 @@ unfoldable pub front : (ℕ → Bool) → List ℕ → List ℕ
 front t [] = []
 front t (c ∷ s) = cond (t c) (c ∷ front t s) []
 
--- what stands before the comment, which '#' starts
+-- what stands before a mark
+abbrev pub isNot : ℕ → ℕ → Bool
+isNot mark c = not (eqb c mark)
+
+abbrev pub before : ℕ → List ℕ → List ℕ
+before mark s = front (isNot mark) s
+
+-- what a line says stands before the comment, which '#' starts
 abbrev pub isSaid : ℕ → Bool
-isSaid c = not (eqb c 0x23)
+isSaid c = isNot 0x23 c
 
 abbrev pub said : List ℕ → List ℕ
-said s = front isSaid s
+said s = before 0x23 s
 
 -- the blanks that a text begins with
 abbrev pub blanks : List ℕ → List ℕ

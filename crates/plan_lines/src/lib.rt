@@ -4,7 +4,7 @@ ghost use mathlib.Core.Bool.{true};
 ghost use mathlib.Core.List.{_++_};
 ghost use Prim.Native.Nat.{_≤_};
 ghost use lib.ListN.{length, drop};
-ghost use Rattle.plan_lines.specs.Lines.{isBlank, said, word, blanks, wordsIn, isOffset, allOffsets, offsetsOf, isFrom, countOf, fromBy, routeBy, lineBy, lineOf, leftBy};
+ghost use Rattle.plan_lines.specs.Lines.{isBlank, before, word, blanks, wordsIn, isOffset, allOffsets, offsetsOf, isFrom, countOf, fromBy, routeBy, lineBy, lineOf, leftBy};
 use decimal::number_in;
 
 // The highest offset, and the least and the highest number of objects that a route has.
@@ -71,14 +71,14 @@ fn is_blank(c: u8) -> bool
     (c == SPACE) | ((c == TAB) | (c == CARRIAGE_RETURN))
 }
 
-// How many bytes of a line stand before its comment.
-fn said_length(line: &[u8]) -> usize
-    ensures { λ r. ⌜ r ≡ length (said (now (line .entry))) ⌝ }
-    ensures { λ r. ⌜ r ≤ length (now (line .entry)) ⌝ }
+// How many bytes of a text stand before a mark, as a comment's in a line, or a line's end in a plan; all where it has none.
+pub fn length_before(text: &[u8], mark: u8) -> usize
+    ensures { λ r. ⌜ r ≡ length (before mark (now (text .entry))) ⌝ }
+    ensures { λ r. ⌜ r ≤ length (now (text .entry)) ⌝ }
 {
     let mut k = 0;
-    while k < line.len() {
-        if line[k] == COMMENT {
+    while k < text.len() {
+        if text[k] == mark {
             return k;
         }
         k += 1;
@@ -228,7 +228,7 @@ pub fn read(line: &[u8], out: &mut [u16]) -> Line
     ensures { λ r. ⌜ r ≡ lineOf (now (line .entry)) ⌝ }
     ensures { λ _. ⌜ now (out .exit) ≡ leftBy (now (line .entry)) (now (out .entry)) ⌝ }
 {
-    let text = &line[..said_length(line)];
+    let text = &line[..length_before(line, COMMENT)];
     let says = said_line(text);
     if let Line::Route(n) = says {
         if n <= out.len() {

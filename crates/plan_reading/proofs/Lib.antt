@@ -2,3 +2,4 @@ pub mod Laid
 pub mod Cases
 pub mod Lines
 pub mod After
+pub mod TextLines

@@ -14,7 +14,8 @@ use Rattle.plan_reading.specs.declared.Reading.{Reading}
 use Rattle.plan_reading.specs.declared.Said.the-variants as said
 use Rattle.plan_reading.specs.declared.Taken.{Taken}
 use Rattle.plan_reading.specs.Reading.{isElsewhere, routesSoFar, isFull, endOf, routeBy, routeTaken, routeLaid, routeLeft, takenBy, leftBy}
-use Rattle.plan_theorems.specs.ReadPlan.{ReadPlan, saidBy, afterLine, withoutStart}
+use Rattle.plan_reading.specs.ReadPlan.{ReadPlan, saidBy, afterLine}
+use Rattle.plan_theorems.specs.PlanRoutes.{withoutStart}
 
 module _ (route : List ℕ) (r : Reading) (plan : List ℕ) (s : Slip) where
   -- a wrong route

@@ -42,7 +42,8 @@ use Rattle.plan_question.specs.declared.Compared.{Compared as Counts}
 use Rattle.plan_question.specs.declared.PlanAnswer.the-variants.{Compared}
 use Rattle.plan_question.specs.Compared.{comparedAsked}
 use Rattle.plan_theorems.specs.Agree.{Legal, Planned, From}
-use Rattle.plan_theorems.specs.ReadPlan.{ReadPlan, unread, saidBy, afterLine, readLines, planWords, planRoutes, routeSaid, routesSaid, Whole}
+use Rattle.plan_reading.specs.ReadPlan.{ReadPlan, unread, saidBy, afterLine, readLines}
+use Rattle.plan_theorems.specs.PlanRoutes.{planWords, planRoutes, routeSaid, routesSaid, Whole}
 use Rattle.plan_theorems.proofs.Standing.{among-iff}
 use Rattle.plan_theorems.proofs.Agreed.{counted}
 

@@ -1,2 +1,2 @@
 pub mod Agree
-pub mod ReadPlan
+pub mod PlanRoutes

@@ -4,11 +4,13 @@
 ghost use mathlib.Core.Path.{_≡_};
 ghost use Prim.Native.Nat.{_≤_};
 ghost use lib.ListN.{length};
+ghost use Rattle.plan_reading.specs.ReadPlan.{planRead, namedBy, namedIn};
 use decimal::number_in;
 use libc::STDERR_FILENO;
 use octets::least;
 use octets::less;
 use plan_lines::Slip;
+use plan_lines::length_before;
 use plan_question::Compared;
 use plan_question::MOST_ROOM;
 use plan_question::PlanAnswer;
@@ -142,7 +144,9 @@ fn slip_line(number: usize, slip: Slip) {
 // ---- the plan
 
 // Names the start that a line names, or says what is wrong with the line.
-fn tell(number: usize, said: Said, named: &mut [bool; STARTS]) {
+fn tell(number: usize, said: Said, named: &mut [bool; STARTS])
+    ensures { λ _. ⌜ now (named .exit) ≡ namedBy said (now (named .entry)) ⌝ }
+{
     match said {
         Said::Nothing => {}
         Said::Start(start) => named[start as usize] = true,
@@ -151,23 +155,11 @@ fn tell(number: usize, said: Said, named: &mut [bool; STARTS]) {
     }
 }
 
-// Where the line ends that begins at a place.
-fn line_end(text: &[u8], at: usize) -> usize
-    requires { ⌜ at ≤ length (now text) ⌝ }
-    ensures { λ r. ⌜ (at ≤ r) × (r ≤ length (now (text .entry))) ⌝ }
-{
-    let mut k = at;
-    while k < text.len() {
-        if text[k] == LINE_END {
-            return k;
-        }
-        k += 1;
-    }
-    k
-}
-
 // Reads a plan: its routes go to the front of `plan`, and its starts are named. It answers how many words the routes take.
 fn read_plan(text: &[u8], plan: &mut [u16], named: &mut [bool; STARTS]) -> usize
+    ensures { λ r. ⌜ r ≡ planRead (now (text .entry)) (now (plan .entry)) .reading .words ⌝ }
+    ensures { λ _. ⌜ now (plan .exit) ≡ planRead (now (text .entry)) (now (plan .entry)) .lent ⌝ }
+    ensures { λ _. ⌜ now (named .exit) ≡ namedIn (now (text .entry)) (now (plan .entry)) (now (named .entry)) ⌝ }
     ensures { λ r. ⌜ r ≤ length (now (plan .exit)) ⌝ }
 {
     let mut r = Reading {
@@ -177,7 +169,7 @@ fn read_plan(text: &[u8], plan: &mut [u16], named: &mut [bool; STARTS]) -> usize
     let mut lines = 0;
     let mut at = 0;
     while at < text.len() {
-        let end = line_end(text, at);
+        let end = at + length_before(&text[at..], LINE_END);
         let taken = take(&text[at..end], r, plan);
         let said = taken.said;
         lines += 1;

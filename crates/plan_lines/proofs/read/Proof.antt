@@ -9,14 +9,14 @@ use Rattle.plan_lines.proofs.read.Statement.{statement}
 use Rattle.plan_lines.proofs.read.Tie as tie
 
 slice-aggregate-text : tie.Need-slice-aggregate-text
-slice-aggregate-text c = sym (length-take-le _ _ (c .before .said-length .ensures .1))
+slice-aggregate-text c = sym (length-take-le _ _ (c .before .length-before .ensures .1))
 
 store-requires : tie.Need-store-requires
 store-requires c κs =
     let s = c .before .before .before in
     let l = s .before .before in
     let n = l .before .before in
-    let w = route-words (n .before .before .before .args .line .now) (n .said-length .result) (n .said-length .ensures .0) _ (l .said-line .ensures) (s .says .given .0 .0) (s .says .given .1) in
+    let w = route-words (n .before .before .before .args .line .now) (n .length-before .result) (n .length-before .ensures .0) _ (l .said-line .ensures) (s .says .given .0 .0) (s .says .given .1) in
     (w .0, omega arith)
 
 returns : tie.Need-returns
@@ -25,8 +25,8 @@ returns c =
     let s = t .before .before .before .before in
     let l = s .before .before in
     let n = l .before .before in (
-      sym (s .says .given .1) ∙ line-is _ _ (n .said-length .ensures .0) _ (l .said-line .ensures),
-      route-stored _ _ (n .said-length .ensures .0) _ (l .said-line .ensures) _ (s .says .given .1) _ _ (t .before .before .if1 .taken) (t .store .ensures),
+      sym (s .says .given .1) ∙ line-is _ _ (n .length-before .ensures .0) _ (l .said-line .ensures),
+      route-stored _ _ (n .length-before .ensures .0) _ (l .said-line .ensures) _ (s .says .given .1) _ _ (t .before .before .if1 .taken) (t .store .ensures),
     )
 
 returns-2 : tie.Need-returns-2
@@ -34,16 +34,16 @@ returns-2 c =
     let s = c .before .before in
     let l = s .before .before in
     let n = l .before .before in (
-      sym (s .says .given .1) ∙ line-is _ _ (n .said-length .ensures .0) _ (l .said-line .ensures),
-      route-left _ _ (n .said-length .ensures .0) _ (l .said-line .ensures) _ (s .says .given .1) _ (c .if1 .left),
+      sym (s .says .given .1) ∙ line-is _ _ (n .length-before .ensures .0) _ (l .said-line .ensures),
+      route-left _ _ (n .length-before .ensures .0) _ (l .said-line .ensures) _ (s .says .given .1) _ (c .if1 .left),
     )
 
 returns-3 : tie.Need-returns-3
 returns-3 c =
     let l = c .before in
     let n = l .before .before in (
-      line-is _ _ (n .said-length .ensures .0) _ (l .said-line .ensures),
-      other-left _ _ (n .said-length .ensures .0) _ (l .said-line .ensures) _
+      line-is _ _ (n .length-before .ensures .0) _ (l .said-line .ensures),
+      other-left _ _ (n .length-before .ensures .0) _ (l .said-line .ensures) _
           (λ m e. ⊎-elim (λ k. omega arith) (λ k. ⊎-elim (λ j. omega arith) (λ j. ⊎-elim (λ i. omega arith) (λ i. omega arith) j) k) (rw e at (c .match .keys2))),
     )
 
