@@ -2,7 +2,7 @@
 // graph. The kind follows from the region that the place lies in, and a number past the end of the file counts as 0, so everything here
 // answers for every file, every layout and every place.
 ghost use mathlib.Core.Path.{_≡_};
-ghost use Rattle.route_graph.specs.Objects.{linkAt, viewOf, objectAt, boundaryStarts, edgeLink};
+ghost use Rattle.route_graph.specs.Objects.{linkAt, viewOf, objectAt, boundaryStarts, edgeLink, isBoundary};
 ghost use Rattle.route_graph.specs.Ways.{onwardOf};
 use octets::u16_at;
 use x2_layout::Layout;
@@ -14,6 +14,7 @@ mod regions;
 
 pub use regions::Ends;
 pub use regions::ends_of;
+pub use regions::kind_in;
 pub use regions::object_in;
 
 // The links of a balise, a signal or a joint, which are plain objects.
@@ -68,6 +69,18 @@ impl Object {
             Object::Nothing => 0,
         }
     }
+
+    // Whether it is a boundary.
+    pub fn is_boundary(self) -> bool
+        ensures { λ r. ⌜ r ≡ isBoundary self ⌝ }
+    {
+        match self {
+            Object::Boundary(_) => true,
+            Object::Plain(_) => false,
+            Object::Turnout(_) => false,
+            Object::Nothing => false,
+        }
+    }
 }
 
 // The link at a place.
@@ -78,7 +91,7 @@ fn link_at(f: &[u8], p: usize) -> u16
 }
 
 // The object whose links stand at some places: a boundary has one, a plain object two, a turnout three.
-fn view(f: &[u8], links: Links) -> Object
+pub fn view(f: &[u8], links: Links) -> Object
     ensures { λ r. ⌜ r ≡ viewOf (now (f .entry)) links ⌝ }
 {
     match links {

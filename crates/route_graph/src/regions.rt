@@ -33,7 +33,7 @@ pub fn ends_of(l: Layout) -> Ends
 }
 
 // A kind whose links stand where those of the object at a place stand: one for both boundaries, and one for all plain objects.
-fn kind_in(e: Ends, at: usize) -> Kind
+pub fn kind_in(e: Ends, at: usize) -> Kind
     ensures { λ r. ⌜ r ≡ kindIn e at ⌝ }
 {
     if at < e.boundaries {

@@ -81,10 +81,11 @@ leftOf v asked start limit budget out =
 -- ---- the same of a file and its layout
 
 -- 01: Yardlist.1
--- 02: Ticket8.3
+-- 02: Ticket8.3, Ticket12.2
 abbrev pub answerIn : List ℕ → Layout → ℕ → ℕ → ℕ → ℕ → RoutesAnswer
 answerIn f l start limit budget room = answerOf (objectAt f l) (boundaryStarts l start) start limit budget room
 
+-- 02: Ticket12.2
 abbrev pub leftIn : List ℕ → Layout → ℕ → ℕ → ℕ → List ℕ → List ℕ
 leftIn f l start limit budget out = leftOf (objectAt f l) (boundaryStarts l start) start limit budget out
 

@@ -3,3 +3,4 @@ pub mod Ready
 pub mod Steps
 pub mod Ways
 pub mod Marks
+pub mod Choices

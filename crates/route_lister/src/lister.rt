@@ -1,13 +1,15 @@
-// The lister. Following one link and branching at a turnout call each other; the objects still allowed by the limit fall.
+// The first lister. Following one link and branching at a turnout call each other; the objects still allowed by the limit fall.
 ghost use mathlib.Core.Path.{_≡_};
 ghost use lib.ListN.{take};
-ghost use Rattle.route_graph.specs.Objects.{objectAt, edgeLink};
 ghost use Rattle.route_walks.specs.Lent.{roomOf};
 ghost use Rattle.route_walks.specs.Range.{Bounds};
 ghost use Rattle.route_lister.specs.inner.Ready.{Ready, Held, Followed, Branched, PassedOver};
-ghost use Rattle.route_lister.specs.Answered.{limitOf, inRange, refusedFor, answerIn, leftIn};
-use crate::DEFAULT_LIMIT;
+ghost use Rattle.route_lister.specs.Answered.{answerIn, leftIn};
 use crate::RoutesAnswer;
+use crate::asked::in_range;
+use crate::asked::limit_of;
+use crate::asked::refused;
+use crate::asked::settled;
 use crate::marks::CELLS;
 use crate::marks::push;
 use crate::steps::arrived;
@@ -21,14 +23,10 @@ use route_graph::boundary_at;
 use route_graph::ends_of;
 use route_graph::object_at;
 use route_graph::object_in;
-use route_walks::BUDGET_LEAST;
-use route_walks::BUDGET_MOST;
-use route_walks::LIMIT_LEAST;
 use route_walks::LIMIT_MOST;
 use route_walks::Tally;
 use route_walks::WORD_SIZE;
 use verdict::Reason;
-use verdict::refusal;
 use x2_layout::Layout;
 
 // Follows the link `to` of the object `from`, which is the last of the n in path: opens each partial walk that goes on by it with at most
@@ -97,18 +95,9 @@ fn branch(
     follow(f, e, at, reverse, path, marks, n, left, budget, out, u)
 }
 
-// One pass over the partial walks from the boundary `start`, whose link is `first`: counts them, and stores the words of the routes as far
-// as there is room.
-fn pass(
-    f: &[u8],
-    l: Layout,
-    start: u16,
-    first: u16,
-    limit: usize,
-    budget: usize,
-    out: &mut [u8],
-) -> Tally
-    requires { ⌜ Bounds limit budget × (first ≡ edgeLink (objectAt (now f) l start)) ⌝ }
+// One pass over the partial walks from the boundary `start`: counts them, and stores the words of the routes as far as there is room.
+fn pass(f: &[u8], l: Layout, start: u16, limit: usize, budget: usize, out: &mut [u8]) -> Tally
+    requires { ⌜ Bounds limit budget ⌝ }
     ensures { λ r. ⌜ PassedOver (now (f .entry)) l start limit budget r (now (out .entry)) (now (out .exit)) ⌝ }
 {
     let mut path = [0u16; LIMIT_MOST];
@@ -120,6 +109,7 @@ fn pass(
         words: 0,
     };
     let e = ends_of(l);
+    let first = object_at(f, l, start).edge_link();
     follow(
         f,
         e,
@@ -133,29 +123,6 @@ fn pass(
         out,
         t,
     )
-}
-
-// The limit that is meant.
-fn limit_of(limit: usize) -> usize
-    ensures { λ r. ⌜ r ≡ limitOf limit ⌝ }
-{
-    if limit == 0 { DEFAULT_LIMIT } else { limit }
-}
-
-// Whether a question is in range; `asked`: it starts at a boundary.
-fn in_range(asked: bool, limit: usize, budget: usize) -> bool
-    ensures { λ r. ⌜ r ≡ inRange asked limit budget ⌝ }
-{
-    asked
-        & ((LIMIT_LEAST <= limit)
-            & ((limit <= LIMIT_MOST) & ((BUDGET_LEAST <= budget) & (budget <= BUDGET_MOST))))
-}
-
-// The answer that is refused for a reason.
-fn refused(reason: Reason) -> RoutesAnswer
-    ensures { λ r. ⌜ r ≡ refusedFor reason ⌝ }
-{
-    RoutesAnswer::Refused(refusal(reason))
 }
 
 // Every route from the boundary `start`, in order, with the numbers of the listing. The words go to the front of `out`, two bytes each, low
@@ -177,14 +144,11 @@ pub fn list(
         return refused(Reason::Question);
     }
     let at = start as u16;
-    let first = object_at(f, l, at).edge_link();
     let none = 0;
-    let counted = pass(f, l, at, first, most, budget, &mut out[..none]);
-    if budget < counted.walks {
-        return refused(Reason::Steps);
-    }
-    if out.len() / WORD_SIZE < counted.words {
-        return refused(Reason::Room);
-    }
-    RoutesAnswer::Listed(pass(f, l, at, first, most, budget, out))
+    let counted = pass(f, l, at, most, budget, &mut out[..none]);
+    let answer = settled(counted, budget, out.len() / WORD_SIZE);
+    let RoutesAnswer::Listed(_) = answer else {
+        return answer;
+    };
+    RoutesAnswer::Listed(pass(f, l, at, most, budget, out))
 }

@@ -74,7 +74,7 @@ fn put(path: &[u16], n: usize, out: &mut [u8], at: usize)
 }
 
 // The same, where there is room for the first of these words; the pass that only counts has none.
-fn put_in_room(path: &[u16], n: usize, out: &mut [u8], at: usize)
+pub fn put_in_room(path: &[u16], n: usize, out: &mut [u8], at: usize)
     requires { ⌜ (n ≤ length (now path)) × (n ≤ limitMost) ⌝ }
     ensures { λ _. ⌜ now (out .exit) ≡ lays (now (out .entry)) at (n ∷ take n (now (path .entry))) ⌝ }
 {

@@ -33,7 +33,7 @@ module _ (v : ℕ → Object) (p : List ℕ) (from to : ℕ) where
   walks-passed (suc k) e = rw (e, or-true (eqb to 0), walks) refl
 
   module _ (nonzero : to ≡ 0 → ⊥) (fresh : has p to ≡ false) where
-    walks-more : (k : ℕ) → walks v (suc k) p from to ≡ (p ++ (to ∷ [])) ∷ each (λ x. walks v k (p ++ (to ∷ [])) to x) (exitsOf (v to) from)
+    pub walks-more : (k : ℕ) → walks v (suc k) p from to ≡ (p ++ (to ∷ [])) ∷ each (λ x. walks v k (p ++ (to ∷ [])) to x) (exitsOf (v to) from)
     unfolding walks
     walks-more k = rw (ne-eqb to 0 nonzero, fresh, walks) refl
 

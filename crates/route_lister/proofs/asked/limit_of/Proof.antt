@@ -1,8 +1,8 @@
 -- `route_lister::limit_of` meets its contract.
 use borrow.Author.Tests.{eq-eqb, ne-eqb}
 use Rattle.route_lister.specs.Answered.{limitOf}
-use Rattle.route_lister.proofs.lister.limit_of.Statement.{statement}
-use Rattle.route_lister.proofs.lister.limit_of.Tie as tie
+use Rattle.route_lister.proofs.asked.limit_of.Statement.{statement}
+use Rattle.route_lister.proofs.asked.limit_of.Tie as tie
 
 returns : tie.Need-returns
 unfolding limitOf
