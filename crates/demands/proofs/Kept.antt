@@ -3,7 +3,8 @@ use mathlib.Core.Path.{_≡_, refl}
 use mathlib.Core.List.{List}
 use Prim.Native.Nat.{ℕ}
 use Rattle.verdict.specs.Answers.{Answer, answered, refused, answerNumber}
-use Rattle.promises.proofs.OfExports.{yard-checksum-determined, yard-x1-determined, yard-x1-version-1-determined, yard-x2-determined, yard-pair-determined, yard-header1-determined, yard-header2-determined, yard-track-determined, yard-point-determined, yard-coordinate-determined, yard-record-determined, yard-routes-determined}
+use Rattle.promises.proofs.OfExports.{yard-checksum-determined, yard-x1-determined, yard-x1-version-1-determined, yard-x2-determined, yard-pair-determined, yard-header1-determined, yard-header2-determined, yard-track-determined, yard-point-determined, yard-coordinate-determined, yard-record-determined, yard-routes-determined, yard-routes-flat-determined}
+use Rattle.promises.proofs.Engines.{calls-agree}
 use Rattle.c_values.specs.Shown.{leaves}
 use Rattle.export_theorems.proofs.Fit.{track-back, point-back, coordinate-back, record-back}
 use Rattle.x1_obeys.specs.Obeys.{entryPlace}
@@ -47,6 +48,7 @@ returns = record {
   position = yard-coordinate-determined;
   record-asked = yard-record-determined;
   list = yard-routes-determined;
+  list-flat = yard-routes-flat-determined;
   output-kept = output-kept;
   words-kept = yard.refused-keeps;
 }
@@ -91,4 +93,5 @@ lists = record {
   default = default-is;
   as-approved = stated-is;
   left-as-approved = stated-left;
+  engines = calls-agree;
 }

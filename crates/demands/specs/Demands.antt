@@ -13,6 +13,7 @@ use Rattle.verdict.specs.Reasons.{numberIn, placeIn, pairNumberIn, pairPlaceIn,
 use Rattle.verdict.specs.Answers.{Answer, answerNumber, answerPlace}
 use Rattle.verdict.specs.Order.{Answered, Reported, Asked}
 use Rattle.promises.specs.Determined.{Determined}
+use Rattle.promises.specs.Agree.{Agree}
 use Rattle.x1_questions.specs.declared.answers.Coordinate.{Coordinate}
 use Rattle.x1_questions.specs.declared.answers.PointAnswer.the-variants as point-answer
 use Rattle.x1_records.specs.declared.Point.{Point}
@@ -81,6 +82,8 @@ use Rattle.exports.proofs.yard_record.Kinds as record-kinds
 use Rattle.exports.proofs.yard_record.Reads as record-reads
 use Rattle.exports.proofs.yard_routes.Kinds as routes-kinds
 use Rattle.exports.proofs.yard_routes.Reads as routes-reads
+use Rattle.exports.proofs.yard_routes_flat.Kinds as routes-flat-kinds
+use Rattle.exports.proofs.yard_routes_flat.Reads as routes-flat-reads
 
 -- the number and the place of an answer
 abbrev pub Shows : Answer → ℕ → ℕ → Type 0
@@ -105,6 +108,7 @@ pub record Returns : Type 0 where
   pub position : Determined 2 coordinate-kinds.ps coordinate-kinds.r coordinate-reads.Pre coordinate-reads.Post
   pub record-asked : Determined 2 record-kinds.ps record-kinds.r record-reads.Pre record-reads.Post
   pub list : Determined 3 routes-kinds.ps routes-kinds.r routes-reads.Pre routes-reads.Post
+  pub list-flat : Determined 3 routes-flat-kinds.ps routes-flat-kinds.r routes-flat-reads.Pre routes-flat-reads.Post
   -- an output after a refusal, and the words lent to a listing after one
   -- 01: Ask.6
   pub output-kept : (a : Answer) (out : List ℕ) → (answerNumber a ≡ 0 → ⊥) → leaves a out ≡ out
@@ -193,3 +197,6 @@ pub record Lists : Type 0 where
   pub as-approved : (f : List ℕ) (start budget room : ℕ) → routesAsked f start 64 budget room ≡ routesWas f start 0 budget room
   -- 02: Ticket8.5
   pub left-as-approved : (f : List ℕ) (start budget : ℕ) (out : List ℕ) → leftAsked f start 64 budget out ≡ leftWas f start 0 budget out
+  -- the second engine answers and leaves what the first does, for every input: as far as the contracts of both allow
+  -- 02: Ticket12.3
+  pub engines : Agree 3 routes-kinds.ps routes-kinds.r routes-reads.Post routes-flat-reads.Post

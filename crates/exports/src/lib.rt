@@ -192,3 +192,26 @@ pub extern "C" fn yard_routes(
     let a = route_question::routes(file, start, limit, budget, words);
     show_counts(a, counts)
 }
+
+// The same, by the second lister, for a host with a small stack.
+#[no_mangle]
+pub extern "C" fn yard_routes_flat(
+    file: &[u8],
+    start: usize,
+    limit: usize,
+    budget: usize,
+    counts: &mut [u8],
+    words: &mut [u8],
+) -> u64
+    ensures { λ r. ⌜ r ≡ shown (routesAnswer (routesAsked (now (file .entry)) start limit budget (roomOf (now (words .entry))))) (now (counts .entry)) ⌝ }
+    ensures { λ _. ⌜ now (counts .exit) ≡ leaves (routesAnswer (routesAsked (now (file .entry)) start limit budget (roomOf (now (words .entry))))) (now (counts .entry)) ⌝ }
+    ensures { λ _. ⌜ now (words .exit) ≡ wordsLeft (now (counts .entry)) (now (words .entry)) (leftAsked (now (file .entry)) start limit budget (now (words .entry))) ⌝ }
+{
+    if counts.len() < COUNTS_SIZE {
+        let mut scrap = [0u8; 1];
+        let a = route_question::routes_flat(file, start, limit, budget, &mut scrap);
+        return show_counts(a, counts);
+    }
+    let a = route_question::routes_flat(file, start, limit, budget, words);
+    show_counts(a, counts)
+}

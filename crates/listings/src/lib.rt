@@ -11,6 +11,8 @@ ghost use Rattle.route_question.specs.Routes.{routesAsked};
 use octets::least;
 use octets::u16_at;
 use route_lister::RoutesAnswer;
+use route_question::Engine;
+use route_question::routes_by;
 use route_walks::Tally;
 use route_walks::WORD_SIZE;
 use tables::number_of;
@@ -100,8 +102,9 @@ fn answer_within(answer: RoutesAnswer, room: usize, lent: &[u8]) {
     answer_lines(answer, lent);
 }
 
-// The question routes, with the bytes that are lent of its room. It answers the number of the answer.
+// The question routes, by an engine, with the bytes that are lent of its room. It answers the number of the answer.
 fn answered(
+    engine: Engine,
     f: &[u8],
     start: usize,
     limit: usize,
@@ -111,19 +114,26 @@ fn answered(
 ) -> usize
     ensures { λ r. ⌜ r ≡ answerNumber (routesAnswer (routesAsked (now (f .entry)) start limit budget (roomOf (now (lent .entry))))) ⌝ }
 {
-    let answer = route_question::routes(f, start, limit, budget, lent);
+    let answer = routes_by(engine, f, start, limit, budget, lent);
     answer_within(answer, room, lent);
     answer.number()
 }
 
-// The question routes, with room for as many words. It answers the number of the answer, 0 where the routes are listed. Where the question has
+// The question routes, by an engine, with room for as many words. It answers the number of the answer, 0 where the routes are listed. Where the question has
 // more words than are here and the list does not fit those that are, it answers 15 and prints nothing: what the answer is, it cannot say.
-pub fn routes(f: &[u8], start: usize, limit: usize, budget: usize, room: usize) -> usize
+pub fn routes(
+    engine: Engine,
+    f: &[u8],
+    start: usize,
+    limit: usize,
+    budget: usize,
+    room: usize,
+) -> usize
     ensures { λ r. ⌜ r ≡ answerNumber (routesAnswer (routesAsked (now (f .entry)) start limit budget (min room 65535))) ⌝ }
 {
     let mut bytes = [0u8; MOST_BYTES];
     let lent = WORD_SIZE * least(room, MOST_ROOM);
-    answered(f, start, limit, budget, room, &mut bytes[..lent])
+    answered(engine, f, start, limit, budget, room, &mut bytes[..lent])
 }
 
 // How many routes there are from a start boundary, how many partial walks, and the routes.

@@ -48,6 +48,7 @@ abbrev pub leftComparedIn : List ℕ → ℕ → ℕ → ℕ → List ℕ → �
 leftComparedIn f start limit budget list room = leavesBy (wordsOf (routesFrom f start limit)) list (routesAsked f start limit budget room)
 
 -- the same, where so many words are lent, of which no more are used than a list may have
+-- 02: Ticket12.1
 abbrev pub comparedAsked : List ℕ → ℕ → ℕ → ℕ → List ℕ → ℕ → PlanAnswer
 comparedAsked f start limit budget plan room = comparedIn f start limit budget plan (min room mostRoom)
 

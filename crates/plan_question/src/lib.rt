@@ -12,7 +12,8 @@ use octets::least;
 use octets::u16_at;
 use plan_routes::apart;
 use route_lister::RoutesAnswer;
-use route_question::routes;
+use route_question::Engine;
+use route_question::routes_by;
 use route_walks::Tally;
 use route_walks::WORD_SIZE;
 use verdict::Fault;
@@ -65,6 +66,7 @@ fn counted(bytes: &[u8], t: Tally, start: usize, plan: &[u16], list: &mut [u16])
 
 // The same as compare, with the bytes that are lent to the question routes.
 fn answered(
+    engine: Engine,
     f: &[u8],
     start: usize,
     limit: usize,
@@ -77,15 +79,16 @@ fn answered(
     ensures { λ r. ⌜ r ≡ comparedIn (now (f .entry)) start limit budget (now (plan .entry)) (roomOf (now (lent .entry))) ⌝ }
     ensures { λ _. ⌜ now (list .exit) ≡ leftComparedIn (now (f .entry)) start limit budget (now (list .entry)) (roomOf (now (lent .entry))) ⌝ }
 {
-    match routes(f, start, limit, budget, lent) {
+    match routes_by(engine, f, start, limit, budget, lent) {
         RoutesAnswer::Listed(t) => PlanAnswer::Compared(counted(lent, t, start, plan, list)),
         RoutesAnswer::Refused(fault) => PlanAnswer::Refused(fault),
     }
 }
 
-// The routes from a start beside the plan that stands in some words. The words of the list go to the front of `list`, as many as find room
+// The routes from a start, by an engine, beside the plan that stands in some words. The words of the list go to the front of `list`, as many as find room
 // there; a refusal leaves every word of it as it was.
 pub fn compare(
+    engine: Engine,
     f: &[u8],
     start: usize,
     limit: usize,
@@ -98,5 +101,14 @@ pub fn compare(
 {
     let mut bytes = [0u8; MOST_BYTES];
     let lent = WORD_SIZE * least(list.len(), MOST_ROOM);
-    answered(f, start, limit, budget, plan, list, &mut bytes[..lent])
+    answered(
+        engine,
+        f,
+        start,
+        limit,
+        budget,
+        plan,
+        list,
+        &mut bytes[..lent],
+    )
 }

@@ -34,3 +34,4 @@ pub mod OfPlanQuestion
 pub mod OfListings
 pub mod OfCValues
 pub mod OfExports
+pub mod Engines

@@ -24,6 +24,8 @@ use Rattle.exports.proofs.yard_record.Kinds as yard-record-kinds
 use Rattle.exports.proofs.yard_record.Reads as yard-record-reads
 use Rattle.exports.proofs.yard_routes.Kinds as yard-routes-kinds
 use Rattle.exports.proofs.yard_routes.Reads as yard-routes-reads
+use Rattle.exports.proofs.yard_routes_flat.Kinds as yard-routes-flat-kinds
+use Rattle.exports.proofs.yard_routes_flat.Reads as yard-routes-flat-reads
 use Rattle.exports.proofs.yard_header1.Kinds as yard-header1-kinds
 use Rattle.exports.proofs.yard_header1.Reads as yard-header1-reads
 use Rattle.exports.proofs.yard_header2.Kinds as yard-header2-kinds
@@ -58,6 +60,9 @@ yard-record-determined κs a = (tt, λ x y v w p q. (p .0 ∙ sym (q .0), ap (λ
 
 pub yard-routes-determined : Determined 3 yard-routes-kinds.ps yard-routes-kinds.r yard-routes-reads.Pre yard-routes-reads.Post
 yard-routes-determined κs a = (tt, λ x y v w p q. (p .0 ∙ sym (q .0), ap₂ (λ (l m : List ℕ). (tt, (tt, (tt, (tt, (l, (m, tt))))))) (p .1 .0 ∙ sym (q .1 .0)) (p .1 .1 ∙ sym (q .1 .1))))
+
+pub yard-routes-flat-determined : Determined 3 yard-routes-flat-kinds.ps yard-routes-flat-kinds.r yard-routes-flat-reads.Pre yard-routes-flat-reads.Post
+yard-routes-flat-determined κs a = (tt, λ x y v w p q. (p .0 ∙ sym (q .0), ap₂ (λ (l m : List ℕ). (tt, (tt, (tt, (tt, (l, (m, tt))))))) (p .1 .0 ∙ sym (q .1 .0)) (p .1 .1 ∙ sym (q .1 .1))))
 
 pub yard-header1-determined : Determined 2 yard-header1-kinds.ps yard-header1-kinds.r yard-header1-reads.Pre yard-header1-reads.Post
 yard-header1-determined κs a = (tt, λ x y v w p q. (p .0 ∙ sym (q .0), ap (λ (l : List ℕ). (tt, (l, tt))) (p .1 ∙ sym (q .1))))

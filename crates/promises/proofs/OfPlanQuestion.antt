@@ -7,4 +7,4 @@ use Rattle.plan_question.proofs.compare.Kinds as compare-kinds
 use Rattle.plan_question.proofs.compare.Reads as compare-reads
 
 pub compare-determined : Determined 3 compare-kinds.ps compare-kinds.r compare-reads.Pre compare-reads.Post
-compare-determined κs a = (tt, λ x y v w p q. (p .0 ∙ sym (q .0), ap (λ (l : List ℕ). (tt, (tt, (tt, (tt, (tt, (l, tt))))))) (p .1 ∙ sym (q .1))))
+compare-determined κs a = (tt, λ x y v w p q. (p .0 ∙ sym (q .0), ap (λ (l : List ℕ). (tt, (tt, (tt, (tt, (tt, (tt, (l, tt)))))))) (p .1 ∙ sym (q .1))))

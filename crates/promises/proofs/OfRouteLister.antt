@@ -10,6 +10,8 @@ use Rattle.route_lister.proofs.RoutesAnswer.place.Kinds as routesanswer-place-k
 use Rattle.route_lister.proofs.RoutesAnswer.place.Reads as routesanswer-place-reads
 use Rattle.route_lister.proofs.list.Kinds as list-kinds
 use Rattle.route_lister.proofs.list.Reads as list-reads
+use Rattle.route_lister.proofs.list_flat.Kinds as list-flat-kinds
+use Rattle.route_lister.proofs.list_flat.Reads as list-flat-reads
 
 pub routesanswer-number-determined : Determined 0 routesanswer-number-kinds.ps routesanswer-number-kinds.r routesanswer-number-reads.Pre routesanswer-number-reads.Post
 routesanswer-number-determined κs a = by-equation (λ v w. refl)
@@ -19,3 +21,6 @@ routesanswer-place-determined κs a = by-equation (λ v w. refl)
 
 pub list-determined : Determined 2 list-kinds.ps list-kinds.r list-reads.Pre list-reads.Post
 list-determined κs a = (tt, λ x y v w p q. (p .0 ∙ sym (q .0), ap (λ (l : List ℕ). (tt, (tt, (tt, (tt, (tt, (l, tt))))))) (p .1 ∙ sym (q .1))))
+
+pub list-flat-determined : Determined 2 list-flat-kinds.ps list-flat-kinds.r list-flat-reads.Pre list-flat-reads.Post
+list-flat-determined κs a = (tt, λ x y v w p q. (p .0 ∙ sym (q .0), ap (λ (l : List ℕ). (tt, (tt, (tt, (tt, (tt, (l, tt))))))) (p .1 ∙ sym (q .1))))

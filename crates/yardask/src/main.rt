@@ -10,10 +10,11 @@ use listings::NO_ROOM;
 use octets::byte_after;
 use octets::byte_at;
 use octets::u16_at;
+use route_question::Engine;
 
 // The questions, a line for each: the words of its command and, after two spaces or more, what it answers. Help is these lines; a question is
 // known by its word, and its number is that of its line.
-const QUESTIONS: [u8; 1084] = *b"\
+const QUESTIONS: [u8; 1162] = *b"\
 yardask x1 FILE                                the verdict of an X.1 file: its number and the place of the fault\n\
 yardask x1-version-1 FILE                      the verdict of an X.1 by a reader that knows structure version 1 alone\n\
 yardask x2 FILE                                the verdict of an X.2 file\n\
@@ -24,7 +25,8 @@ yardask track FILE INDEX                       a track of an X.1, by its index f
 yardask point FILE TRACK POINT                 a point of a track of an X.1, both by their indexes from 0\n\
 yardask coordinate FILE TRACKNUMBER POSITION   latitude and longitude at a position (centimetres) of a track\n\
 yardask record FILE OFFSET                     the record of an X.2 that starts at an offset\n\
-yardask routes FILE START LIMIT BUDGET ROOM    the routes of an X.2 from a boundary, of at most LIMIT objects (0: 160)\n";
+yardask routes FILE START LIMIT BUDGET ROOM    the routes of an X.2 from a boundary, of at most LIMIT objects (0: 160)\n\
+yardask routes2 FILE START LIMIT BUDGET ROOM   the same, by the second engine\n";
 
 const X1: usize = 1;
 
@@ -48,7 +50,9 @@ const RECORD: usize = 10;
 
 const ROUTES: usize = 11;
 
-const HELP: usize = 12;
+const ROUTES2: usize = 12;
+
+const HELP: usize = 13;
 
 const NO_QUESTION: usize = 0;
 
@@ -361,9 +365,16 @@ fn ask_pair() {
     answers::pair(&first[..n], &second[..m]);
 }
 
-// Answers the question routes, and says it where the list would fit the words that are asked for and not those that are here.
-fn answer_routes(f: &[u8], start: usize, limit: usize, budget: usize, words: usize) {
-    let number = listings::routes(f, start, limit, budget, words);
+// Answers the question routes, by an engine, and says it where the list would fit the words that are asked for and not those that are here.
+fn answer_routes(
+    engine: Engine,
+    f: &[u8],
+    start: usize,
+    limit: usize,
+    budget: usize,
+    words: usize,
+) {
+    let number = listings::routes(engine, f, start, limit, budget, words);
     if number == NO_ROOM && MOST_ROOM < words {
         write(
             b"yardask: the list takes more words than the 65535 that this program has room for\n",
@@ -372,17 +383,17 @@ fn answer_routes(f: &[u8], start: usize, limit: usize, budget: usize, words: usi
 }
 
 // The same, about the file that the command line names.
-fn list_routes(start: usize, limit: usize, budget: usize, words: usize) {
+fn list_routes(engine: Engine, start: usize, limit: usize, budget: usize, words: usize) {
     let mut room = io::large_buffer();
     let n = read_file(FIRST, &mut room);
     if ROOM < n {
         return;
     }
-    answer_routes(&room[..n], start, limit, budget, words);
+    answer_routes(engine, &room[..n], start, limit, budget, words);
 }
 
 // The same, once the last two of its numbers are numbers.
-fn ask_within(start: usize, limit: usize) {
+fn ask_within(engine: Engine, start: usize, limit: usize) {
     let budget = number(THIRD_NUMBER);
     if NO_NUMBER <= budget {
         return;
@@ -391,11 +402,11 @@ fn ask_within(start: usize, limit: usize) {
     if NO_NUMBER <= words {
         return;
     }
-    list_routes(start, limit, budget, words);
+    list_routes(engine, start, limit, budget, words);
 }
 
 // The same, once the first two of its numbers are numbers.
-fn ask_routes() {
+fn ask_routes(engine: Engine) {
     let start = number(NUMBER);
     if NO_NUMBER <= start {
         return;
@@ -404,7 +415,7 @@ fn ask_routes() {
     if NO_NUMBER <= limit {
         return;
     }
-    ask_within(start, limit);
+    ask_within(engine, start, limit);
 }
 
 // Answers a question whose command has the words that it takes.
@@ -412,7 +423,9 @@ fn ask_question(asked: usize) {
     if asked == PAIR {
         ask_pair();
     } else if asked == ROUTES {
-        ask_routes();
+        ask_routes(Engine::First);
+    } else if asked == ROUTES2 {
+        ask_routes(Engine::Second);
     } else {
         ask_with_numbers(asked);
     }

@@ -1,5 +1,5 @@
 // Many questions in one run. Standard input is a sequence of cases: the question in 1 byte (x1, x2, pair, track, point, coordinate,
-// record, routes, header1 and header2 are 1 to 10; 11 to 15 are kept for questions to come and unknown until then; x1-version-1 is 16),
+// record, routes, header1, header2 and routes2 are 1 to 11; 12 to 15 are kept for questions to come and unknown until then; x1-version-1 is 16),
 // four numbers of 4 bytes each, two lengths of 4 bytes each, and the bytes of the first and of the second file; all numbers are
 // little-endian. Standard output is, for each case, what yardask prints, and an empty line. Input that ends inside a case, an unknown
 // question, or a list of routes that does not fit the 65,535 words that are here where the case lends more, is a line on standard error and
@@ -13,6 +13,7 @@ use listings::NO_ROOM;
 use octets::byte_at;
 use octets::least;
 use octets::u32_at;
+use route_question::Engine;
 
 // What stands before the files of a case: the question, four numbers and two lengths.
 const HEAD: usize = 25;
@@ -37,6 +38,8 @@ const ROUTES: usize = 8;
 const HEADER1: usize = 9;
 
 const HEADER2: usize = 10;
+
+const ROUTES2: usize = 11;
 
 const X1_VERSION_1: usize = 16;
 
@@ -102,18 +105,18 @@ fn read_file(room: &mut [u8], n: usize) -> bool {
     passed_over(n - kept)
 }
 
-// The list of routes of a case that lends as many words. It answers the number of the answer.
-fn listed(head: &[u8], f: &[u8], words: usize) -> usize {
+// The list of routes of a case that lends as many words, by an engine. It answers the number of the answer.
+fn listed(engine: Engine, head: &[u8], f: &[u8], words: usize) -> usize {
     let start = u32_at(head, NUMBERS);
     let limit = u32_at(head, NUMBERS + NUMBER);
     let budget = u32_at(head, NUMBERS + 2 * NUMBER);
-    listings::routes(f, start, limit, budget, words)
+    listings::routes(engine, f, start, limit, budget, words)
 }
 
-// Answers the question routes. It answers whether it could.
-fn routes_answered(head: &[u8], f: &[u8]) -> bool {
+// Answers the question routes, by an engine. It answers whether it could.
+fn routes_answered(engine: Engine, head: &[u8], f: &[u8]) -> bool {
     let words = u32_at(head, NUMBERS + 3 * NUMBER);
-    let number = listed(head, f, words);
+    let number = listed(engine, head, f, words);
     if number == NO_ROOM && MOST_ROOM < words {
         return stop(
             b"yardbatch: a list takes more words than the 65535 that this program has room for\n",
@@ -178,7 +181,10 @@ fn part_answered(question: usize, head: &[u8], first: &[u8]) -> bool {
 fn answered(head: &[u8], first: &[u8], second: &[u8]) -> bool {
     let question = byte_at(head, 0);
     if question == ROUTES {
-        return routes_answered(head, first);
+        return routes_answered(Engine::First, head, first);
+    }
+    if question == ROUTES2 {
+        return routes_answered(Engine::Second, head, first);
     }
     if file_answered(question, first, second) {
         return true;

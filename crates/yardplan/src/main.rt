@@ -7,6 +7,7 @@ ghost use lib.ListN.{length};
 ghost use Rattle.plan_reading.specs.ReadPlan.{planRead, namedBy, namedIn};
 use decimal::number_in;
 use libc::STDERR_FILENO;
+use octets::byte_at;
 use octets::least;
 use octets::less;
 use plan_lines::Slip;
@@ -20,13 +21,15 @@ use plan_reading::Said;
 use plan_reading::take;
 use plan_routes::is_apart;
 use plan_routes::route_end;
+use route_question::Engine;
 use text::head;
 use text::line;
 use text::write;
 use text::write_number;
 use verdict::Fault;
 
-// Where the words of the command stand, the program's own name being the first of them, and how many there may be.
+// Where the words of the command stand, the program's own name being the first of them, and how many there may be before the one that picks
+// the second engine.
 const FILE: usize = 1;
 
 const PLAN: usize = 2;
@@ -40,6 +43,9 @@ const ROOM: usize = 5;
 const WORDS_LEAST: usize = 3;
 
 const WORDS_MOST: usize = 6;
+
+// The last word of a command, after both files, where the second engine is to list the routes.
+const SECOND_ENGINE: [u8; 7] = *b"routes2";
 
 // What a limit, a budget and a room are that the command leaves out.
 const LIMIT_LEFT_OUT: usize = 0;
@@ -73,6 +79,7 @@ const LINE_END: u8 = 0x0A;
 
 // What the routes are asked with.
 struct Question {
+    engine: Engine,
     limit: usize,
     budget: usize,
     room: usize,
@@ -238,7 +245,8 @@ fn refused_line(fault: Fault) {
 
 // What is answered of a start, with the words that are lent for the list.
 fn answer_lines(f: &[u8], start: usize, q: Question, plan: &[u16], list: &mut [u16]) {
-    match plan_question::compare(f, start, q.limit, q.budget, plan, list) {
+    let by = q.engine;
+    match plan_question::compare(by, f, start, q.limit, q.budget, plan, list) {
         PlanAnswer::Compared(c) => {
             let n = c.words;
             compared_lines(c, start, plan, &list[..n])
@@ -291,9 +299,41 @@ fn compare(f: &[u8], text: &[u8], q: Question) {
 
 // ---- the command
 
-// The number that a word of the command is, and what it is where there is no such word. It is said where the word is no number.
-fn number(i: usize, left_out: usize) -> usize {
-    if os::arg_count() <= i {
+// Whether two texts are the same.
+fn is_same(a: &[u8], b: &[u8]) -> bool {
+    for k in 0..b.len() {
+        if byte_at(a, k) != byte_at(b, k) {
+            return false;
+        }
+    }
+    a.len() == b.len()
+}
+
+// The engine that the last of the words picks, if it stands after both files.
+fn engine(words: usize) -> Engine {
+    if words <= WORDS_LEAST {
+        return Engine::First;
+    }
+    let mut word = [0u8; NUMBER_ROOM];
+    let n = os::arg(words - 1, &mut word);
+    if os::errno() == 0 && is_same(&word[..n], &SECOND_ENGINE) {
+        return Engine::Second;
+    }
+    Engine::First
+}
+
+// The words before the one that picks the engine.
+fn words_before(engine: Engine, words: usize) -> usize {
+    match engine {
+        Engine::First => words,
+        Engine::Second => less(words, 1),
+    }
+}
+
+// The number that a word of the command is, and what it is where that word is none of the first so many. It is said where the word is no
+// number.
+fn number(words: usize, i: usize, left_out: usize) -> usize {
+    if words <= i {
         return left_out;
     }
     let mut word = [0u8; NUMBER_ROOM];
@@ -357,11 +397,12 @@ fn compare_files(q: Question) {
 }
 
 // The same, once the numbers of the command are numbers.
-fn command() {
+fn command(engine: Engine, words: usize) {
     let q = Question {
-        limit: number(LIMIT, LIMIT_LEFT_OUT),
-        budget: number(BUDGET, BUDGET_LEFT_OUT),
-        room: number(ROOM, ROOM_LEFT_OUT),
+        engine: engine,
+        limit: number(words, LIMIT, LIMIT_LEFT_OUT),
+        budget: number(words, BUDGET, BUDGET_LEFT_OUT),
+        room: number(words, ROOM, ROOM_LEFT_OUT),
     };
     if q.limit == NO_NUMBER || q.budget == NO_NUMBER || q.room == NO_NUMBER {
         return;
@@ -377,12 +418,14 @@ fn command() {
 }
 
 fn main() {
-    let words = os::arg_count();
+    let given = os::arg_count();
+    let picked = engine(given);
+    let words = words_before(picked, given);
     if words < WORDS_LEAST || WORDS_MOST < words {
         wrong(
-            b"too few or too many words; it is asked by yardplan FILE PLAN [LIMIT [BUDGET [ROOM]]]",
+            b"too few or too many words; it is asked by yardplan FILE PLAN [LIMIT [BUDGET [ROOM]]] [routes2]",
         );
         return;
     }
-    command();
+    command(picked, words);
 }

@@ -8,7 +8,7 @@ use Rattle.listings.proofs.answered.Statement.{statement}
 use Rattle.listings.proofs.answered.Tie as tie
 
 returns : tie.Need-returns
-returns c = c .number .ensures ∙ ap (λ (a : RoutesAnswer). answerNumber (routesAnswer a)) (c .before .before .before .before .before .routes .ensures .0)
+returns c = c .number .ensures ∙ ap (λ (a : RoutesAnswer). answerNumber (routesAnswer a)) (c .before .before .before .before .before .routes-by .ensures .0)
 
 pub answered-spec : {M : Type 1} → statement M
 answered-spec =

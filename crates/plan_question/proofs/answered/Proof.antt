@@ -9,15 +9,15 @@ counted-requires c κs =
     let m = c .before .before .before in
     let r = m .before .before .before .before in
     let s = r .before .before .before .before .before .before in
-    fits _ (s .args .lent .now) _ _ _ _ (r .routes .ensures .0) _ (m .t .given .1) (s .args .list .now) (s .pre)
+    fits _ (s .args .lent .now) _ _ _ _ (r .routes-by .ensures .0) _ (m .t .given .1) (s .args .list .now) (s .pre)
 
 returns : tie.Need-returns
 returns c =
     let d = c .before .before in
     let m = d .before .before .before .before in
     let r = m .before .before .before .before in (
-      compares _ _ _ _ _ _ (r .routes .ensures .0) _ (m .t .given .1) _ (r .routes .ensures .1) _ _ (d .counted .ensures .0),
-      compares-words _ _ _ _ _ _ (r .routes .ensures .0) _ (m .t .given .1) _ (r .routes .ensures .1) _ _ (d .counted .ensures .1),
+      compares _ _ _ _ _ _ (r .routes-by .ensures .0) _ (m .t .given .1) _ (r .routes-by .ensures .1) _ _ (d .counted .ensures .0),
+      compares-words _ _ _ _ _ _ (r .routes-by .ensures .0) _ (m .t .given .1) _ (r .routes-by .ensures .1) _ _ (d .counted .ensures .1),
     )
 
 returns-2 : tie.Need-returns-2
@@ -25,8 +25,8 @@ returns-2 c =
     let m = c .before in
     let r = m .before .before .before .before in
     let s = r .before .before .before .before .before .before in (
-      refuses _ (s .args .lent .now) _ _ _ _ (r .routes .ensures .0) _ (m .fault .given .1) _,
-      refuses-words _ (s .args .lent .now) _ _ _ _ (r .routes .ensures .0) _ (m .fault .given .1) _,
+      refuses _ (s .args .lent .now) _ _ _ _ (r .routes-by .ensures .0) _ (m .fault .given .1) _,
+      refuses-words _ (s .args .lent .now) _ _ _ _ (r .routes-by .ensures .0) _ (m .fault .given .1) _,
     )
 
 pub answered-spec : {M : Type 1} → statement M
