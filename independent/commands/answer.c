@@ -42,6 +42,10 @@ static ind_routes ask_routes(const posed *ask)
 {
     static ind_walks walks;
     uint32_t room = ask->numbers[3] < LONGEST_LIST ? ask->numbers[3] : LONGEST_LIST;
+    if (ask->question == ASK_ROUTES2)
+        return ind_routes_flat(ask->bytes[0], ask->length[0], ask->numbers[0],
+                               ask->numbers[1], ask->numbers[2], route_words,
+                               room);
     return ind_routes_from(ask->bytes[0], ask->length[0], ask->numbers[0],
                            ask->numbers[1], ask->numbers[2], route_words,
                            room, &walks);
@@ -66,7 +70,8 @@ ind_answer answer_case(const posed *ask)
     case ASK_POINT: return ask_point(ask).answer;
     case ASK_COORDINATE: return ask_coordinate(ask).answer;
     case ASK_RECORD: return ask_record(ask).answer;
-    case ASK_ROUTES: return ask_routes(ask).answer;
+    case ASK_ROUTES:
+    case ASK_ROUTES2: return ask_routes(ask).answer;
     default: return ask_header(ask).answer;
     }
 }
@@ -337,7 +342,8 @@ void print_answer(FILE *output, const posed *ask)
     case ASK_POINT: print_point(output, ask); break;
     case ASK_COORDINATE: print_coordinate(output, ask); break;
     case ASK_RECORD: print_record(output, ask); break;
-    case ASK_ROUTES: print_routes(output, ask); break;
+    case ASK_ROUTES:
+    case ASK_ROUTES2: print_routes(output, ask); break;
     default: print_header(output, ask); break;
     }
 }

@@ -18,7 +18,7 @@ int command_list(void);
 /* This takes [EXAMPLES]. */
 int command_self(int count, char **words);
 
-/* This takes FILE PLAN [LIMIT [BUDGET [ROOM]]]. */
+/* This takes FILE PLAN [LIMIT [BUDGET [ROOM]]] [routes2]. */
 int command_plan(int count, char **words);
 
 /* This takes SEED FILE PLAN. */

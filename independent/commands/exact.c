@@ -40,25 +40,49 @@ static uint8_t *block_of(const stored *file)
     return bytes;
 }
 
-/* A listing into exactly the room lent: a refusal touches no word, an answer
- * none after its list. */
-static int words_kept(const posed *ask)
+/* So many words and no more, none of them written. */
+static uint16_t *untouched_words(uint32_t room)
+{
+    uint16_t *words = block(room * sizeof *words);
+    for (uint32_t i = 0; i < room; i++)
+        words[i] = UNTOUCHED;
+    return words;
+}
+
+/* A refusal touches no word, an answer none after its list. */
+static int words_kept(const ind_routes *found, const uint16_t *words,
+                      uint32_t room)
+{
+    uint32_t kept = found->words;
+    while (kept < room && words[kept] == UNTOUCHED)
+        kept++;
+    return kept == room;
+}
+
+static int counts_alike(const ind_routes *one, const ind_routes *other)
+{
+    return alike(one->answer, other->answer) && one->routes == other->routes
+        && one->words == other->words && one->walks == other->walks;
+}
+
+/* A listing into exactly the room lent, by each lister: both keep the words
+ * that they have to, and leave the same. */
+static int listing_right(const posed *ask)
 {
     static ind_walks walks;
     uint32_t room = ask->numbers[3];
-    uint16_t *words = block(room * sizeof *words);
-    ind_routes found;
-    uint32_t kept;
-    for (uint32_t i = 0; i < room; i++)
-        words[i] = UNTOUCHED;
-    found = ind_routes_from(ask->bytes[0], ask->length[0], ask->numbers[0],
-                            ask->numbers[1], ask->numbers[2], words, room,
-                            &walks);
-    kept = found.words;
-    while (kept < room && words[kept] == UNTOUCHED)
-        kept++;
+    uint16_t *words = untouched_words(room), *others = untouched_words(room);
+    ind_routes found = ind_routes_from(
+        ask->bytes[0], ask->length[0], ask->numbers[0], ask->numbers[1],
+        ask->numbers[2], words, room, &walks);
+    ind_routes flat = ind_routes_flat(
+        ask->bytes[0], ask->length[0], ask->numbers[0], ask->numbers[1],
+        ask->numbers[2], others, room);
+    int right = words_kept(&found, words, room) && counts_alike(&found, &flat)
+        && memcmp(words, others, room * sizeof *words) == 0;
     free(words);
-    return kept == room;
+    free(others);
+    return right;
 }
 
 static int case_right(const asked *ask)
@@ -72,8 +96,8 @@ static int case_right(const asked *ask)
         exact.bytes[i] = blocks[i];
     }
     right = alike(answer_case(&roomy), answer_case(&exact));
-    if (ask->question == ASK_ROUTES)
-        right = right && words_kept(&exact);
+    if (asks_routes(ask->question))
+        right = right && listing_right(&exact);
     for (int i = 0; i < FILES; i++)
         free(blocks[i]);
     return right;
@@ -103,7 +127,8 @@ static void print_exact_plan(const plan_case *of)
     uint8_t *file = block_of(&of->file);
     uint8_t *text = block(of->plan.length);
     planned_yard given = { file,       of->file.length, text, of->plan.length,
-                           of->limit,  of->budget,      of->room };
+                           of->limit,  of->budget,      of->room,
+                           of->flat };
     memcpy(text, of->plan.bytes, of->plan.length);
     print_plan(stdout, stdout, &given);
     free(file);

@@ -9,6 +9,7 @@
 #include "commands.h"
 #include "generation.h"
 #include "generator/stand.h"
+#include "listings.h"
 
 enum {
     /* 02's ticket 7: track numbers are held as four words of 64. */
@@ -293,7 +294,7 @@ static void name_application_place(const stored *file, ind_answer answer,
 static int of_application(uint32_t question)
 {
     return question == ASK_X2 || question == ASK_RECORD
-        || question == ASK_ROUTES || question == ASK_HEADER2;
+        || asks_routes(question) || question == ASK_HEADER2;
 }
 
 /* An answered record that has a name: how many bytes the name has. */
@@ -404,9 +405,9 @@ static void name_without_place(const asked *ask, uint32_t number, char *name)
     strcpy(name, "0");
     if (ask->question == ASK_RECORD && number == IND_ACCEPTED)
         name_named_record(ask, name);
-    else if (ask->question == ASK_ROUTES && number == IND_ACCEPTED)
+    else if (asks_routes(ask->question) && number == IND_ACCEPTED)
         name_listing(ask, name);
-    else if (ask->question == ASK_ROUTES)
+    else if (asks_routes(ask->question))
         name_refused_listing(ask, number, name);
     else if (ask->question == ASK_POINT && number == IND_ACCEPTED)
         strcpy(name, height_name(ask));
@@ -554,47 +555,70 @@ static void name_case(const asked *ask, char *name)
              (unsigned long)answer.number, place);
 }
 
-/* Builds each case of the run that the words say and counts its name; hands
- * each one on that is the first of its name. 0 if the words are wrong. */
-static int name_cases(int count, char **words,
-                      void (*first)(const asked *ask))
+/* Builds each case of a run and counts its name; hands each one on that is
+ * the first of its name, with its index. */
+static void name_cases(const generation *run,
+                       void (*first)(const asked *ask, uint64_t index))
 {
     static asked ask;
-    generation run;
-    if (!read_generation(count, words, &run))
-        return 0;
-    for (uint64_t i = run.first; i < run.end; i++) {
+    for (uint64_t i = run->first; i < run->end; i++) {
         char name[NAME_ROOM];
-        build_case(&run, i, &ask);
+        build_case(run, i, &ask);
         name_case(&ask, name);
         if (count_name(name) == 1)
-            first(&ask);
+            first(&ask, i);
     }
-    return 1;
 }
 
-static void pass_over(const asked *ask)
+static void pass_over(const asked *ask, uint64_t index)
 {
     (void)ask;
+    (void)index;
 }
 
-static void write_first(const asked *ask)
+/* The cases of routes that were written, by their indexes. */
+static uint64_t routes_written[NAMES_LARGEST];
+static uint32_t routes_count;
+
+static void write_first(const asked *ask, uint64_t index)
 {
     write_case(stdout, ask);
+    if (ask->question == ASK_ROUTES)
+        routes_written[routes_count++] = index;
+}
+
+/* Those cases once more, each asked of the second lister. */
+static void write_routes_again(const generation *run)
+{
+    static asked ask;
+    for (uint32_t i = 0; i < routes_count; i++) {
+        build_case(run, routes_written[i], &ask);
+        ask.question = ASK_ROUTES2;
+        write_case(stdout, &ask);
+    }
 }
 
 int command_places(int count, char **words)
 {
-    if (!name_cases(count, words, pass_over))
+    generation run;
+    if (!read_generation(count, words, &run))
         return RUN_MISUSED;
+    name_cases(&run, pass_over);
     for (uint32_t i = 0; i < names_used; i++)
         printf("%s %lu\n", names[i].name, names[i].count);
     return RUN_WELL;
 }
 
+/* Behind the first of each name, what is asked of the second lister. */
 int command_each(int count, char **words)
 {
-    if (!name_cases(count, words, write_first))
+    generation run;
+    if (!read_generation(count, words, &run))
         return RUN_MISUSED;
+    name_cases(&run, write_first);
+    if (run.kinds.asked_for[ASK_ROUTES]) {
+        write_routes_again(&run);
+        write_listings(stdout);
+    }
     return RUN_WELL;
 }

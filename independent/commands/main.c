@@ -49,8 +49,8 @@ static int usage(void)
     for (size_t i = 0; i < COMMANDS; i++)
         fprintf(stderr, "  %s\n", commands[i].usage);
     fputs("after SEED COUNT may stand kinds: x1 x2 pair track point "
-          "coordinate record\nroutes header1 header2 x1-version-1; and small, "
-          "for small files alone\n",
+          "coordinate record\nroutes header1 header2 routes2 "
+          "x1-version-1; and small, for small files alone\n",
           stderr);
     return RUN_MISUSED;
 }

@@ -1,6 +1,8 @@
 /* What docs/PLAN.md says that yardplan prints, for an X.2 and a plan. */
 #include "plan.h"
 
+#include <string.h>
+
 #include "answer.h"
 #include "commands.h"
 #include "number.h"
@@ -88,13 +90,22 @@ static void print_difference(FILE *output, uint32_t start,
     print_listed(output, "extra", 0, list, routes);
 }
 
-static void print_start(FILE *output, const planned_yard *of, uint32_t start)
+/* The routes from a start, by the lister that is asked for. */
+static ind_routes list_start(const planned_yard *of, uint32_t start,
+                             uint16_t *list)
 {
     static ind_walks walks;
+    if (of->flat)
+        return ind_routes_flat(of->file, of->length, start, of->limit,
+                               of->budget, list, of->room);
+    return ind_routes_from(of->file, of->length, start, of->limit, of->budget,
+                           list, of->room, &walks);
+}
+
+static void print_start(FILE *output, const planned_yard *of, uint32_t start)
+{
     static uint16_t list[PLAN_ROOM];
-    ind_routes found =
-        ind_routes_from(of->file, of->length, start, of->limit, of->budget,
-                        list, of->room, &walks);
+    ind_routes found = list_start(of, start, list);
     if (found.answer.number != IND_ACCEPTED)
         fprintf(output, "from %lu refused %lu\n", (unsigned long)start,
                 (unsigned long)found.answer.number);
@@ -162,15 +173,25 @@ static int read_asked(int count, char **words, int index, uint32_t most,
     return 1;
 }
 
+/* Whether the last word, after FILE and PLAN, asks for the second lister. */
+static int asks_flat(int count, char **words)
+{
+    return count > 2
+        && strcmp(words[count - 1], question_name(ASK_ROUTES2)) == 0;
+}
+
 int command_plan(int count, char **words)
 {
-    planned_yard of = { NULL, 0, NULL, 0, PLAN_LIMIT, PLAN_BUDGET, PLAN_ROOM };
+    planned_yard of = { NULL,        0,         NULL, 0, PLAN_LIMIT,
+                        PLAN_BUDGET, PLAN_ROOM, asks_flat(count, words) };
+    count -= of.flat;
     if (count < 2 || count > 5
         || !read_asked(count, words, 2, UINT32_MAX, &of.limit)
         || !read_asked(count, words, 3, UINT32_MAX, &of.budget)
         || !read_asked(count, words, 4, PLAN_ROOM, &of.room)) {
-        fputs("independent: plan takes FILE PLAN [LIMIT [BUDGET [ROOM]]], "
-              "numbers below 4294967296 and a room of at most 65535\n",
+        fputs("independent: plan takes FILE PLAN [LIMIT [BUDGET [ROOM]]] "
+              "[routes2], numbers below 4294967296 and a room of at most "
+              "65535\n",
               stderr);
         return RUN_MISUSED;
     }

@@ -6,7 +6,8 @@
 #include <stdint.h>
 #include <stdio.h>
 
-/* An X.2, the text of a plan, and what the listings are asked with. */
+/* An X.2, the text of a plan, and what the listings are asked with: by the
+ * second lister where flat is not 0. */
 typedef struct {
     const uint8_t *file;
     size_t length;
@@ -15,6 +16,7 @@ typedef struct {
     uint32_t limit;
     uint32_t budget;
     uint32_t room;
+    int flat;
 } planned_yard;
 
 /* Reads the two files; says so on standard error and returns 0 where one

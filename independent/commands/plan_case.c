@@ -2,6 +2,7 @@
 #include <stdio.h>
 
 #include "commands.h"
+#include "generator/asked.h"
 #include "generator/plans.h"
 #include "number.h"
 
@@ -21,6 +22,8 @@ static void print_asked(const plan_case *made)
     const uint32_t numbers[] = { made->limit, made->budget, made->room };
     for (uint32_t i = 0; i < made->words; i++)
         printf(i == 0 ? "%lu" : " %lu", (unsigned long)numbers[i]);
+    if (made->flat)
+        printf(made->words == 0 ? "%s" : " %s", question_name(ASK_ROUTES2));
     putchar('\n');
 }
 

@@ -1,7 +1,8 @@
 /* 01's 'Yard examples', the roundings of 'Readings that look right', the
  * headers and the track of the example files, balise groups by 02's ticket 2,
  * the lookup of tracks by its ticket 7, long lines by its ticket 8, names by
- * its ticket 10 and heights by its ticket 11, each asserted of the core. */
+ * its ticket 10, heights by its ticket 11 and fixed listings by both listers
+ * of its ticket 12, each asserted of the core. */
 #include "self.h"
 
 #include <string.h>
@@ -10,6 +11,7 @@
 #include "commands.h"
 #include "generator/stand.h"
 #include "list.h"
+#include "listings.h"
 
 /* Yard Y: its other places. */
 enum {
@@ -101,7 +103,6 @@ enum {
 };
 
 enum {
-    UNTOUCHED = 0xA55A,
     /* More than any text that is asserted has. */
     TEXT_ROOM = 4000
 };
@@ -449,9 +450,10 @@ static const struct {
     { 513, 512, 0, 512, "513 objects by limit 512: no route" }
 };
 
-/* The listing of a line: its words are its objects, in order. */
+/* The listing of a line, by the second lister where flat is not 0: its words
+ * are its objects, in order. */
 static int line_right(uint32_t objects, uint32_t limit, uint32_t listed,
-                      uint32_t walks)
+                      uint32_t walks, int flat)
 {
     static stored file;
     static ind_walks lent;
@@ -459,8 +461,11 @@ static int line_right(uint32_t objects, uint32_t limit, uint32_t listed,
     ind_routes found;
     int right;
     make_line(&file, objects);
-    found = ind_routes_from(file.bytes, file.length, L_START, limit,
-                            IND_LARGEST_BUDGET, words, 1 + L_LARGEST, &lent);
+    found = flat
+        ? ind_routes_flat(file.bytes, file.length, L_START, limit,
+                          IND_LARGEST_BUDGET, words, 1 + L_LARGEST)
+        : ind_routes_from(file.bytes, file.length, L_START, limit,
+                          IND_LARGEST_BUDGET, words, 1 + L_LARGEST, &lent);
     right = says(found.answer, 0, 0) && found.routes == listed
         && found.walks == walks && found.words == listed * (1 + objects)
         && (!listed || words[0] == objects);
@@ -473,7 +478,9 @@ static void line_examples(void)
 {
     for (size_t i = 0; i < sizeof lines / sizeof *lines; i++)
         ensure(line_right(lines[i].objects, lines[i].limit, lines[i].listed,
-                          lines[i].walks),
+                          lines[i].walks, 0)
+                   && line_right(lines[i].objects, lines[i].limit,
+                                 lines[i].listed, lines[i].walks, 1),
                lines[i].sentence);
 }
 
@@ -1410,6 +1417,7 @@ int command_self(int count, char **words)
     coordinate_examples();
     route_examples();
     line_examples();
+    fixed_listing_examples();
     link_examples();
     sequence_examples();
     member_link_examples();

@@ -14,6 +14,11 @@ enum {
     Y_TURNOUT = 80
 };
 
+/* What stands in lent words before a listing. */
+enum {
+    UNTOUCHED = 0xA55A
+};
+
 /* Counts a sentence that holds, and prints one that does not. */
 void ensure(int holds, const char *sentence);
 

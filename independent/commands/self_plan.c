@@ -171,7 +171,7 @@ static const plan_example wrong_lines[] = {
       "one after the other, by rising line" }
 };
 
-static int plan_prints(const planned_yard *of, const char *due,
+static int once_prints(const planned_yard *of, const char *due,
                        const char *due_said)
 {
     FILE *output = tmpfile(), *said = tmpfile();
@@ -184,12 +184,22 @@ static int plan_prints(const planned_yard *of, const char *due,
     return right && right_said;
 }
 
+/* By either lister. */
+static int plan_prints(const planned_yard *of, const char *due,
+                       const char *due_said)
+{
+    planned_yard other = *of;
+    other.flat = !of->flat;
+    return once_prints(of, due, due_said)
+        && once_prints(&other, due, due_said);
+}
+
 /* A file beside a plan of so many bytes. */
 static planned_yard beside(const stored *file, const char *plan, size_t length)
 {
     return (planned_yard){ file->bytes,  file->length, (const uint8_t *)plan,
                            length,       ANY_LIMIT,    ANY_BUDGET,
-                           ANY_ROOM };
+                           ANY_ROOM,     0 };
 }
 
 static void all_examples(const stored *y, const plan_example *examples,
@@ -368,7 +378,7 @@ void depot_examples(const char *folder)
 {
     enum { NAME_ROOM = 1000 };
     char file[NAME_ROOM], plan[NAME_ROOM];
-    planned_yard of = { NULL, 0, NULL, 0, 64, ANY_BUDGET, ANY_ROOM };
+    planned_yard of = { NULL, 0, NULL, 0, 64, ANY_BUDGET, ANY_ROOM, 0 };
     snprintf(file, NAME_ROOM, "%s/depot", folder);
     snprintf(plan, NAME_ROOM, "%s/depot.plan", folder);
     ensure(read_planned(file, plan, &of), "the depot and its plan are read");
@@ -382,4 +392,6 @@ void depot_examples(const char *folder)
            "the depot by limit 64: as it was approved");
     ensure(depot_has_more(&of, 0), "by limit 0 a route more");
     ensure(depot_has_more(&of, 160), "and so by limit 160");
+    of.flat = 1;
+    ensure(depot_has_more(&of, 160), "and so by the second lister");
 }

@@ -27,6 +27,7 @@
 #include "header.h"
 #include "station.h"
 #include "routes.h"
+#include "choices.h"
 #include "plan.h"
 
 #endif

@@ -29,6 +29,7 @@ const char *question_name(uint32_t asked_for)
         [ASK_ROUTES] = "routes",
         [ASK_HEADER1] = "header1",
         [ASK_HEADER2] = "header2",
+        [ASK_ROUTES2] = "routes2",
         [ASK_X1_VERSION_1] = "x1-version-1"
     };
     return asked_for < QUESTIONS ? names[asked_for] : NULL;
@@ -37,4 +38,9 @@ const char *question_name(uint32_t asked_for)
 int is_question(uint32_t asked_for)
 {
     return question_name(asked_for) != NULL;
+}
+
+int asks_routes(uint32_t asked_for)
+{
+    return asked_for == ASK_ROUTES || asked_for == ASK_ROUTES2;
 }

@@ -16,6 +16,8 @@ enum {
     ASK_ROUTES,
     ASK_HEADER1,
     ASK_HEADER2,
+    /* Routes by the second lister of 02's ticket 12. */
+    ASK_ROUTES2,
     /* The numbers between are kept for questions that are still to come. */
     ASK_X1_VERSION_1 = 16,
     QUESTIONS
@@ -46,6 +48,9 @@ posed pose(const asked *ask);
 
 /* Whether a number asks a question. */
 int is_question(uint32_t asked_for);
+
+/* Whether it asks for routes, by either lister. */
+int asks_routes(uint32_t asked_for);
 
 /* The word that names a question on a command line; none where the number
  * asks nothing. */

@@ -224,6 +224,16 @@ static void ask_record(source *from, const wanted *kinds, asked *ask)
         spoil(from, 1, file);
 }
 
+/* By which lister routes are asked for: drawn last, so that a case is the same
+ * by both. */
+static uint32_t some_lister(source *from, const wanted *kinds)
+{
+    if (!kinds->asked_for[ASK_ROUTES2])
+        return ASK_ROUTES;
+    return kinds->asked_for[ASK_ROUTES] && once_in(from, 2) ? ASK_ROUTES
+                                                            : ASK_ROUTES2;
+}
+
 static void ask_routes(source *from, const wanted *kinds, asked *ask)
 {
     static yard made;
@@ -243,6 +253,7 @@ static void ask_routes(source *from, const wanted *kinds, asked *ask)
                  ask->numbers);
     if (once_in(from, 12))
         spoil(from, 1, file);
+    ask->question = some_lister(from, kinds);
 }
 
 /* A right or a damaged file, now and then of the other type; the numbers,
@@ -260,12 +271,22 @@ static void ask_header(source *from, const wanted *kinds, asked *ask)
         ask->numbers[i] = (uint32_t)draw_bits(from);
 }
 
+/* Whether cases of a question are wanted; those of routes by either lister are
+ * made as one question. */
+static int wants(const wanted *kinds, uint32_t question)
+{
+    if (question == ASK_ROUTES2)
+        return 0;
+    return kinds->asked_for[question]
+        || (question == ASK_ROUTES && kinds->asked_for[ASK_ROUTES2]);
+}
+
 static uint32_t some_question(source *from, const wanted *kinds)
 {
     uint32_t chosen;
     do
         chosen = (uint32_t)draw_between(from, ASK_X1, QUESTIONS - 1);
-    while (!kinds->asked_for[chosen]);
+    while (!wants(kinds, chosen));
     return chosen;
 }
 

@@ -551,4 +551,5 @@ void build_plan_case(uint64_t seed, plan_case *made)
     make_plan(&from, &made->file, limit, &made->plan);
     draw_asked(&from, limit, made);
     made->words = draw_words(&from, made);
+    made->flat = once_in(&from, 2);
 }

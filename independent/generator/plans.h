@@ -15,7 +15,8 @@ typedef struct {
 } plan_text;
 
 /* An X.2, a plan, and what the listings are to be asked with: the first so
- * many of limit, budget and room as words. */
+ * many of limit, budget and room as words; by the second lister where flat is
+ * not 0. */
 typedef struct {
     stored file;
     plan_text plan;
@@ -23,6 +24,7 @@ typedef struct {
     uint32_t budget;
     uint32_t room;
     uint32_t words;
+    int flat;
 } plan_case;
 
 /* The case of a seed. The plan has the yard's own routes, all of them or with
