@@ -1,10 +1,12 @@
 /* An example of the C library: reads a station's two files and prints the verdict of the pair, the headers, the first track, the coordinate
- * in the middle of that track, its last point, the record after the header of the X.2, the signal that it links to, and the routes from it.
+ * in the middle of that track, its last point, the record after the header of the X.2, the signal that it links to, and the routes from it,
+ * which the second engine lists too.
  *
  *     tools/library && target/libyard/reader examples/1.1 examples/1.2 */
 #include <inttypes.h>
 #include <stdint.h>
 #include <stdio.h>
+#include <string.h>
 
 #include "yard.h"
 
@@ -136,10 +138,24 @@ static void print_record(void)
     print_signal(link);
 }
 
+enum { LIMIT = 0, BUDGET = 65535, WORDS = 4096 };
+
+/* Lists the routes from a start by the engine that needs no more stack for a larger yard, and prints whether its list is the one given. */
+static void print_second_list(size_t start, const uint8_t *counts, const uint8_t *words)
+{
+    static uint8_t others[2 * WORDS];
+    uint8_t other_counts[YARD_ROUTES_SIZE];
+    if (refused("routes", yard_routes_flat(second.bytes, second.length, start, LIMIT, BUDGET, other_counts, sizeof other_counts, others,
+                                           sizeof others)))
+        return;
+    int same = memcmp(other_counts, counts, sizeof other_counts) == 0
+        && memcmp(others, words, 2 * yard_unsigned(counts, YARD_ROUTES_WORDS)) == 0;
+    printf("the second engine: %s\n", same ? "the same" : "another list");
+}
+
 /* Prints every route from the boundary after the header, by the places of its objects. */
 static void print_routes(void)
 {
-    enum { LIMIT = 0, BUDGET = 65535, WORDS = 4096 };
     static uint8_t words[2 * WORDS];
     uint8_t counts[YARD_ROUTES_SIZE];
     size_t start = records_start(), at = 0;
@@ -152,6 +168,7 @@ static void print_routes(void)
         for (unsigned k = 0; k < objects; k++)
             printf(k + 1 < objects ? "%u " : "%u\n", yard_word(words, at++));
     }
+    print_second_list(start, counts, words);
 }
 
 int main(int words, char **word)

@@ -4,7 +4,8 @@
  * is printed with the ratios, as a table in Markdown; what counts is the
  * ratios alone.
  *
- *   bench                    all rows
+ *   bench                    all rows, and how both route engines compare
+ *   bench walks              how both route engines compare
  *   bench rows               the rows' numbers and the sides of each
  *   bench ROW SIDE TIMES     one side of a row, so many times, and no clock:
  *                            for a tool that counts instructions */
@@ -120,13 +121,21 @@ static uint64_t library_header2(const stored *file)
     return yard_header2(file->bytes, file->length, out, sizeof out);
 }
 
+/* The counts and the list of the last call that lists routes. */
+static uint8_t counts[YARD_ROUTES_SIZE], words_of_routes[2 * ROUTE_WORDS];
+
 static uint64_t library_routes(const stored *file)
 {
-    static uint8_t words[2 * ROUTE_WORDS];
-    uint8_t counts[YARD_ROUTES_SIZE];
     return yard_routes(file->bytes, file->length, asked_boundary(file),
                        ASKED_LIMIT, ASKED_BUDGET, counts, sizeof counts,
-                       words, sizeof words);
+                       words_of_routes, sizeof words_of_routes);
+}
+
+static uint64_t library_routes_flat(const stored *file)
+{
+    return yard_routes_flat(file->bytes, file->length, asked_boundary(file),
+                            ASKED_LIMIT, ASKED_BUDGET, counts, sizeof counts,
+                            words_of_routes, sizeof words_of_routes);
 }
 
 /* ---- the core: one function for each compiler and question */
@@ -160,6 +169,7 @@ OF_CORE(record)
 OF_CORE(header1)
 OF_CORE(header2)
 OF_CORE(routes)
+OF_CORE(routes_flat)
 
 /* ---- the plain reader: 0 is accepted, as with the others */
 
@@ -242,6 +252,8 @@ static const row rows[] = {
                 coordinate, plain_reads_coordinate),
     TWO_SIZES("record", realistic_application, record, NULL),
     ROW("routes, 40957 walks", diamonds, DIAMONDS, routes, NULL),
+    ROW("routes, 40957 walks, second engine", diamonds, DIAMONDS,
+        routes_flat, NULL),
     ROW("checksum, plain C by eight tables", worst_application, LARGEST,
         checksum, eight_tables),
     { "checksum, plain C by one table", worst_application, LARGEST,
@@ -388,6 +400,27 @@ static void print_growth(const double per_byte[ROWS])
                    rows[i].name, per_byte[i] / per_byte[i - 1]);
 }
 
+/* Both route engines of the library, as the sides of one row, so that they
+ * take turns: the walks of each in a second, and what part of the first's the
+ * second's are. */
+static int measure_walks(void)
+{
+    enum { FIRST, SECOND };
+    static const row engines = { "routes of both engines", diamonds, DIAMONDS,
+                                 { library_routes, library_routes_flat } };
+    double best[SIDES_MOST] = { 0 }, walks;
+    make_files(&engines);
+    measure(&engines, best);
+    walks = yard_unsigned(counts, YARD_ROUTES_WALKS);
+    printf("\nWalks per second: ");
+    print_number(walks / best[FIRST] * 1e9);
+    printf(" by yard_routes, ");
+    print_number(walks / best[SECOND] * 1e9);
+    printf(" by yard_routes_flat; the second's are %.2f of the first's.\n",
+           best[FIRST] / best[SECOND]);
+    return 0;
+}
+
 static int measure_all(void)
 {
     double per_byte[ROWS] = { 0 };
@@ -400,7 +433,7 @@ static int measure_all(void)
         per_byte[i] = best[LIBRARY] / bytes_made();
     }
     print_growth(per_byte);
-    return 0;
+    return measure_walks();
 }
 
 /* Before anything is measured: all sides answer every row alike, and the
@@ -465,10 +498,12 @@ int main(int count, char **words)
     make_sum_tables();
     if (count == 2 && strcmp(words[1], "rows") == 0)
         return print_rows();
+    if (count == 2 && strcmp(words[1], "walks") == 0)
+        return sides_agree() ? measure_walks() : 1;
     if (count == 4)
         return repeat(words[1], words[2], words[3]);
     if (count == 1)
         return sides_agree() ? measure_all() : 1;
-    fputs("usage: bench [rows | ROW SIDE TIMES]\n", stderr);
+    fputs("usage: bench [walks | rows | ROW SIDE TIMES]\n", stderr);
     return MISUSED;
 }

@@ -10,7 +10,8 @@ uint32_t values_size_of(uint32_t asked_for)
     case ASK_POINT: return YARD_POINT_SIZE;
     case ASK_COORDINATE: return YARD_COORDINATE_SIZE;
     case ASK_RECORD: return YARD_RECORD_SIZE;
-    case ASK_ROUTES: return YARD_ROUTES_SIZE;
+    case ASK_ROUTES:
+    case ASK_ROUTES2: return YARD_ROUTES_SIZE;
     case ASK_HEADER1: return YARD_HEADER1_SIZE;
     case ASK_HEADER2: return YARD_HEADER2_SIZE;
     default: return 0;
@@ -173,14 +174,23 @@ static void expect_record(const posed *ask, expected *due)
     zeros_up_to(due, YARD_RECORD_SIZE);
 }
 
-static void expect_routes(const posed *ask, expected *due)
+/* Routes by the core's lister that goes with the question. */
+static ind_routes core_routes(const posed *ask, uint16_t *words)
 {
     static ind_walks walks;
+    if (ask->question == ASK_ROUTES2)
+        return ind_routes_flat(ask->bytes[0], ask->length[0],
+                               ask->numbers[0], ask->numbers[1],
+                               ask->numbers[2], words, ask->numbers[3]);
+    return ind_routes_from(ask->bytes[0], ask->length[0], ask->numbers[0],
+                           ask->numbers[1], ask->numbers[2], words,
+                           ask->numbers[3], &walks);
+}
+
+static void expect_routes(const posed *ask, expected *due)
+{
     static uint16_t words[ROOM_LARGEST];
-    ind_routes got = ind_routes_from(ask->bytes[0], ask->length[0],
-                                     ask->numbers[0], ask->numbers[1],
-                                     ask->numbers[2], words, ask->numbers[3],
-                                     &walks);
+    ind_routes got = core_routes(ask, words);
     answer(due, got.answer);
     value(due, got.routes);
     value(due, got.words);
@@ -223,7 +233,8 @@ void expect(const posed *ask, expected *due)
     case ASK_POINT: expect_point(ask, due); break;
     case ASK_COORDINATE: expect_coordinate(ask, due); break;
     case ASK_RECORD: expect_record(ask, due); break;
-    case ASK_ROUTES: expect_routes(ask, due); break;
+    case ASK_ROUTES:
+    case ASK_ROUTES2: expect_routes(ask, due); break;
     case ASK_HEADER1: expect_header1(ask, due); break;
     case ASK_HEADER2: expect_header2(ask, due); break;
     default: answer(due, answer_case(ask)); break;

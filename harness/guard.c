@@ -3,7 +3,8 @@
  * unreadable page, before it and after it in turn; one of no bytes is a null
  * pointer too. Each answer is compared with the independent core, a file has
  * to keep its bytes, and an output has to hold the answer and after it its
- * old bytes; on a refusal it keeps all of them. */
+ * old bytes; on a refusal it keeps all of them. Routes are always asked of
+ * both functions that list them, and the two have to leave the same bytes. */
 #define _XOPEN_SOURCE 700
 #include <signal.h>
 #include <stdio.h>
@@ -23,6 +24,8 @@ enum {
     SPARE_LARGEST = 8,
     OUT_ROOM = VALUES_ROOM + SPARE_LARGEST,
     LENT_WORDS_ROOM = WORDS_ROOM + 1,
+    /* The functions that list routes. */
+    LISTERS = 2,
     /* The exit status after a signal. */
     RUN_SIGNALLED = 3
 };
@@ -107,11 +110,14 @@ static const char *way_name(int lent)
 }
 
 /* The function that answers a question: its name has an underscore where the
- * question's has a hyphen. */
+ * question's has a hyphen, and that of routes2 says how it lists. */
 static void say_function(uint32_t asked_for)
 {
     size_t from = said_size;
-    say(asked_for == CHECKSUM ? "checksum" : question_name(asked_for));
+    if (asked_for == ASK_ROUTES2)
+        say("routes_flat");
+    else
+        say(asked_for == CHECKSUM ? "checksum" : question_name(asked_for));
     for (size_t i = from; i < said_size; i++)
         if (said[i] == '-')
             said[i] = '_';
@@ -218,6 +224,9 @@ static uint64_t ask_library(const call *of, const uint8_t *const file[FILES],
     case ASK_ROUTES:
         return yard_routes(file[0], length[0], n[0], n[1], n[2], out,
                            of->out_length, words, of->words_length);
+    case ASK_ROUTES2:
+        return yard_routes_flat(file[0], length[0], n[0], n[1], n[2], out,
+                                of->out_length, words, of->words_length);
     case ASK_HEADER1:
         return yard_header1(file[0], length[0], out, of->out_length);
     default:
@@ -261,12 +270,12 @@ static int lends_nothing(const call *of)
         if (of->ask.length[i] == 0)
             return 1;
     return (values_size_of(question) > 0 && of->out_length == 0)
-        || (question == ASK_ROUTES && of->words_length == 0);
+        || (asks_routes(question) && of->words_length == 0);
 }
 
-/* One call with every buffer lent in one way. */
-static void one_call(figures *seen, const call *of, const expected *due,
-                     way lent)
+/* One call with every buffer lent in one way; what is returned. */
+static uint64_t one_call(figures *seen, const call *of, const expected *due,
+                         way lent)
 {
     const uint8_t *file[FILES];
     uint8_t *out = lend(out_room, of->out_length, lent);
@@ -293,6 +302,39 @@ static void one_call(figures *seen, const call *of, const expected *due,
     seen->changed += changed;
     if (got != due->answer || changed > 0)
         tell_difference(seen, of, got, due);
+    return got;
+}
+
+static void tell_unlike(const figures *seen, const call *of)
+{
+    if (seen->differ + seen->changed > 1)
+        return;
+    printf("first defect: case %llu, the two functions that list routes leave "
+           "different bytes, output of %lu bytes, words of %lu, with %s\n",
+           (unsigned long long)case_now, (unsigned long)of->out_length,
+           (unsigned long)of->words_length, way_name((int)way_now));
+    fflush(stdout);
+}
+
+/* A listing by both functions, with every buffer lent in one way: the second
+ * has to return what the first did, and to leave every byte of both outputs
+ * as the first left it. */
+static void both_calls(figures *seen, const call of[LISTERS],
+                       const expected due[LISTERS], way lent)
+{
+    static uint8_t out_left[OUT_ROOM], words_left[LENT_WORDS_ROOM];
+    const uint8_t *out = lend(out_room, of->out_length, lent);
+    const uint8_t *words = lend(words_room, of->words_length, lent);
+    uint64_t got = one_call(seen, &of[0], &due[0], lent);
+    int like;
+    copy(out_left, out, of->out_length);
+    copy(words_left, words, of->words_length);
+    like = one_call(seen, &of[1], &due[1], lent) == got
+        && alike(out_left, out, of->out_length)
+        && alike(words_left, words, of->words_length);
+    seen->differ += !like;
+    if (!like)
+        tell_unlike(seen, of);
 }
 
 /* An output that is too short for the values is refused last. */
@@ -317,7 +359,7 @@ static uint32_t some_length(source *from, uint32_t needed)
  * largest that they do, which names nothing either. */
 static void raise_a_number(source *from, call *of)
 {
-    int last = of->ask.question == ASK_ROUTES ? 3 : 2;
+    int last = asks_routes(of->ask.question) ? 3 : 2;
     uint32_t which = draw(from, (uint32_t)last);
     if (!once_in(from, 16))
         return;
@@ -325,12 +367,38 @@ static void raise_a_number(source *from, call *of)
     of->ask.numbers[which] = 0xFFFFFFFF;
 }
 
+/* The answer that is due to a call, with outputs as long as they are. */
+static void expect_call(const call *of, expected *due)
+{
+    expect(&of->ask, due);
+    shorten(of, due);
+}
+
+/* A listing by both functions, with its buffers lent in each way. */
+static void list_each_way(figures *seen, const call *of)
+{
+    static const uint32_t listers[LISTERS] = { ASK_ROUTES, ASK_ROUTES2 };
+    static expected due[LISTERS];
+    int ways = lends_nothing(of) ? WAYS : NULL_FOR_NOTHING;
+    call both[LISTERS];
+    for (int i = 0; i < LISTERS; i++) {
+        both[i] = *of;
+        both[i].ask.question = listers[i];
+        expect_call(&both[i], &due[i]);
+    }
+    for (int lent = PAGE_BEFORE; lent < ways; lent++)
+        both_calls(seen, both, due, (way)lent);
+}
+
 /* The call with its buffers lent in each way. */
 static void call_each_way(figures *seen, const call *of)
 {
     static expected due;
-    expect(&of->ask, &due);
-    shorten(of, &due);
+    if (asks_routes(of->ask.question)) {
+        list_each_way(seen, of);
+        return;
+    }
+    expect_call(of, &due);
     one_call(seen, of, &due, PAGE_BEFORE);
     one_call(seen, of, &due, PAGE_AFTER);
     if (lends_nothing(of))
@@ -344,7 +412,7 @@ static call call_of(source *from, const asked *ask)
     of.ask = pose(ask);
     of.out_length = some_length(from, values_size_of(ask->question));
     of.words_length = 0;
-    if (ask->question == ASK_ROUTES)
+    if (asks_routes(ask->question))
         of.words_length = 2 * ask->numbers[3] + draw(from, 2);
     for (int i = 0; i < NUMBERS; i++)
         of.above[i] = ask->numbers[i];
@@ -362,7 +430,7 @@ static void lend_nothing(source *from, call *of)
                 of->ask.length[i] = 0;
         if (once_in(from, 2))
             of->out_length = 0;
-        if (question == ASK_ROUTES && once_in(from, 2)) {
+        if (asks_routes(question) && once_in(from, 2)) {
             of->words_length = 0;
             of->ask.numbers[3] = 0;
         }

@@ -74,6 +74,14 @@ static uint64_t routes(const stored *file)
         .answer.number;
 }
 
+static uint64_t routes_flat(const stored *file)
+{
+    static uint16_t words[ROUTE_WORDS];
+    return ind_routes_flat(file->bytes, file->length, asked_boundary(file),
+                           ASKED_LIMIT, ASKED_BUDGET, words, ROUTE_WORDS)
+        .answer.number;
+}
+
 const core_sides SIDES = {
 #ifdef __clang__
     "clang",
@@ -81,5 +89,5 @@ const core_sides SIDES = {
     "gcc",
 #endif
     checksum, x1, x2, pair, track, point, coordinate, record, header1,
-    header2, routes
+    header2, routes, routes_flat
 };

@@ -54,6 +54,7 @@ typedef struct {
     side header1;
     side header2;
     side routes;
+    side routes_flat;
 } core_sides;
 
 /* By this program's own compiler, and by clang where the program is built

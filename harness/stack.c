@@ -42,6 +42,14 @@ static void routes(size_t limit)
 static void routes_of_160(void) { routes(160); }
 static void routes_of_512(void) { routes(512); }
 
+static void routes_flat(size_t limit)
+{
+    answered = yard_routes_flat(forked.bytes, forked.length, FIRST_START, limit, 65535, out, OUTPUT, words, WORDS);
+}
+
+static void flat_of_160(void) { routes_flat(160); }
+static void flat_of_512(void) { routes_flat(512); }
+
 typedef struct {
     const char *name;
     void (*call)(void);
@@ -64,6 +72,8 @@ static const measured calls[] = {
     { "pair", pair, ON_PAIR },
     { "routes, limit 160", routes_of_160, ON_ROUTES },
     { "routes, limit 512", routes_of_512, ON_ROUTES },
+    { "routes, limit 160, flat", flat_of_160, ON_X2 },
+    { "routes, limit 512, flat", flat_of_512, ON_X2 },
 };
 
 /* The bytes of the stack that a call changes. */
@@ -92,7 +102,7 @@ int main(void)
     largest_station(LARGEST, station);
     for (size_t i = 0; i < sizeof calls / sizeof calls[0]; i++) {
         unsigned bytes = taken(calls[i].call);
-        printf("%-19s %6u bytes of stack, at most %6u; number %u\n", calls[i].name, bytes, calls[i].allowed, YARD_NUMBER(answered));
+        printf("%-23s %6u bytes of stack, at most %6u; number %u\n", calls[i].name, bytes, calls[i].allowed, YARD_NUMBER(answered));
         over |= bytes > calls[i].allowed;
     }
     if (over)

@@ -11,8 +11,10 @@
  *   pointer may be null, and the answer is that of any other pointer. Otherwise it points to so many bytes, which no one changes during the
  *   call; an output overlaps no other argument.
  * - No byte outside these is read or written. Nothing is kept between calls and nothing is shared, so that calls may run at the same time.
- *   There is no heap, and every call returns. A call takes at most 14 KB of stack on an X.1, 22 KB on an X.2 and 25 KB on a pair; routes
- *   take at most 250 KB at limit 512, some 400 bytes for each turnout that a walk enters at the front. tools/stack measures it.
+ *   There is no heap, and every call returns. A call takes at most 14 KB of stack on an X.1, 22 KB on an X.2 and 25 KB on a pair;
+ *   yard_routes takes at most 250 KB at limit 512, some 400 bytes for each turnout that a walk enters at the front. yard_routes_flat takes
+ *   no more than any other call on an X.2, 22 KB at every limit; once the file is judged the engine itself takes 7.3 KB: the path 1 KB, the
+ *   open choices 2 KB, the marks of the test for a repeat 4 KB. tools/stack measures it, and tools/calls bounds it by the code.
  * - A function other than yard_checksum returns one number, made of the answer's number, its file and its place: take it apart by
  *   YARD_NUMBER, YARD_FILE and YARD_PLACE. Number 0 is accepted or answered. Any other is a refusal, with the byte place that it is about.
  * - An answer's values are put at the start of the output, four bytes each and low byte first, negative ones in two's complement: read them
@@ -298,6 +300,12 @@ enum yard_routes_value {
 };
 
 #define YARD_ROUTES_SIZE 12
+
+/* The same list by a second way: the arguments, the answer, the counts, the words and the refusals are those of yard_routes, on every
+ * input. It holds the open choices in an array of its own and calls nothing that calls itself, so that its stack does not grow with the
+ * yard: for a host with a small stack, and to compare one engine's list with the other's. */
+uint64_t yard_routes_flat(const uint8_t *file, size_t file_length, size_t start, size_t limit, size_t budget, uint8_t *counts,
+                          size_t counts_length, uint8_t *words, size_t words_length);
 
 #ifdef __cplusplus
 }
