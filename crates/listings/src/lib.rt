@@ -119,8 +119,9 @@ fn answered(
     answer.number()
 }
 
-// The question routes, by an engine, with room for as many words. It answers the number of the answer, 0 where the routes are listed. Where the question has
-// more words than are here and the list does not fit those that are, it answers 15 and prints nothing: what the answer is, it cannot say.
+// The question routes, by an engine, with room for as many words. It answers the number of the answer, 0 where the routes are listed. Where
+// the question has more words than are here and the list does not fit those that are, it answers 15 and prints nothing: what the answer is, it
+// cannot say.
 pub fn routes(
     engine: Engine,
     f: &[u8],

@@ -85,8 +85,8 @@ fn answered(
     }
 }
 
-// The routes from a start, by an engine, beside the plan that stands in some words. The words of the list go to the front of `list`, as many as find room
-// there; a refusal leaves every word of it as it was.
+// The routes from a start, by an engine, beside the plan that stands in some words. The words of the list go to the front of `list`, as many
+// as find room there; a refusal leaves every word of it as it was.
 pub fn compare(
     engine: Engine,
     f: &[u8],
