@@ -1,20 +1,35 @@
--- How the verdict on a balise comes from those on its table and its message.
+-- A byte past the file's end; and how the verdict on a balise comes from those on its table and its message.
 use Prim.Native.Nat.{ℕ, _+_, _-_, _≤_, _<_}
 use mathlib.Core.Path.{_≡_, sym, ap, _∙_}
-use mathlib.Core.Bool.{Bool, true, and-true}
+use mathlib.Core.Bool.{Bool, true, false, not, _&&_, and-true}
 use mathlib.Core.List.{List, _++_}
-use borrow.Author.Tests.{lt-ltb, le-ltb}
+use borrow.Author.Tests.{lt-ltb, le-ltb, not-true, not-false}
+use lib.ListN.{length}
+use native.Mathlib.Omega.{arith}
 use Rattle.octets.specs.Octets.{numAt}
+use Rattle.octets.proofs.Reading.{past}
 use Rattle.verdict.specs.declared.Judged.{Judged}
 use Rattle.verdict.specs.declared.Mark.{Mark}
 use Rattle.verdict.specs.declared.Reason.the-variants as reason
 use Rattle.verdict.specs.declared.Rule.the-variants as rule
-use Rattle.verdict.specs.Facts.{same, test, mark, allTests, also, judge}
-use Rattle.verdict.proofs.Facts.{judge-then}
+use Rattle.verdict.specs.Facts.{Fact, same, test, mark, allTests, also, judge}
+use Rattle.verdict.proofs.Facts.{tests-append, judge-then}
 use Rattle.tables.specs.Rows.{tableFacts}
 use Rattle.x2_records.specs.Places as place
 use Rattle.x2_records.specs.Rows.{baliseTable}
 use Rattle.x2_kinds.specs.KindFields.{messageEnd, sizeByteOf, messageFields}
+
+-- a byte past the file's end counts as 0
+pub nothing-there : (f : List ℕ) (p : ℕ) → length f ≤ p → numAt 1 f p ≡ 0
+nothing-there f p h = sym (past 1 f p h (omega arith) .is)
+
+-- two lists of facts, the second tested only where the first passes
+module _ (x : Bool) (a b : List Fact) (p : x ≡ allTests a) where
+  pub stops : not x ≡ true → false ≡ allTests (a ++ b)
+  stops h = ap (λ (t : Bool). t && allTests b) (sym (not-true x h) ∙ p) ∙ sym (tests-append a b)
+
+  pub goes-on : not x ≡ false → (y : Bool) → y ≡ allTests b → y ≡ allTests (a ++ b)
+  goes-on h y q = q ∙ ap (λ (t : Bool). t && allTests b) (sym (not-false x h) ∙ p) ∙ sym (tests-append a b)
 
 -- the test of a message's last byte, where the balise has so many bytes
 abbrev lastTest : List ℕ → ℕ → ℕ → Bool

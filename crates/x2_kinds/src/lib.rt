@@ -1,6 +1,7 @@
 // The fields of each kind of record: tables 6 to 12, a line for each rule in the table's order. For each table there are two functions: one
 // tests the record, and one is the verdict so far, then the facts of the table. `at` is where the record starts. A test asks once whether
-// the file ends inside the record, and then goes fact by fact, so that its reads need not ask it again.
+// the file ends before a byte of the record that may not be 0, a track or the signal byte: past the end a byte counts as 0, so that the
+// record does not obey. Reads of what stands before that byte need not ask again.
 ghost use mathlib.Core.Path.{_≡_};
 ghost use mathlib.Core.List.{_++_};
 ghost use Rattle.verdict.specs.Facts.{allTests, judge};
@@ -23,6 +24,7 @@ use tables::lies_between;
 use tables::named;
 use tables::number_of;
 use tables::part;
+use tables::place_of;
 use verdict::Judged;
 use verdict::Reason;
 use verdict::Rule;
@@ -60,7 +62,7 @@ fn boundary_obeys(f: &[u8], at: u32, low: usize, high: usize) -> bool
     ensures { λ r. ⌜ r ≡ allTests (tableFacts (now (f .entry)) at (boundaryTable low high)) ⌝ }
 {
     if f.len() < at as usize + Boundary::SIZE {
-        return boundary_fields(Judged::Accepted, f, at, low, high).is_accepted();
+        return false;
     }
     let entry = lies_between(f, at, Boundary::ENTRY, low, high);
     let neighbour = is_among_five(
@@ -103,7 +105,7 @@ fn turnout_obeys(f: &[u8], at: u32) -> bool
     ensures { λ r. ⌜ r ≡ allTests (tableFacts (now (f .entry)) at turnoutTable) ⌝ }
 {
     if f.len() < at as usize + Turnout::SIZE {
-        return turnout_fields(Judged::Accepted, f, at).is_accepted();
+        return false;
     }
     let entry = equals(f, at, Turnout::ENTRY, Turnout::TYPE);
     let number = lies_between(f, at, Turnout::NUMBER, 1, 255);
@@ -137,8 +139,8 @@ fn turnout_fields(v: Judged, f: &[u8], at: u32) -> Judged
 fn fixed_obeys(f: &[u8], at: u32) -> bool
     ensures { λ r. ⌜ r ≡ allTests (tableFacts (now (f .entry)) at baliseTable) ⌝ }
 {
-    if f.len() < at as usize + Balise::SIZE {
-        return fixed_fields(Judged::Accepted, f, at).is_accepted();
+    if f.len() <= place_of(at, Balise::TRACK) {
+        return false;
     }
     let entry = equals(f, at, Balise::ENTRY, Balise::TYPE);
     let number = lies_between(f, at, Balise::NUMBER, 0, Balise::NONE - 1);
@@ -211,9 +213,10 @@ fn message_fields(v: Judged, f: &[u8], at: u32) -> Judged
 pub fn balise_obeys(f: &[u8], at: u32) -> bool
     ensures { λ r. ⌜ r ≡ allTests (tableFacts (now (f .entry)) at baliseTable ++ messageFields (now (f .entry)) at) ⌝ }
 {
-    let fixed = fixed_obeys(f, at);
-    let message = message_obeys(f, at);
-    fixed & message
+    if !fixed_obeys(f, at) {
+        return false;
+    }
+    message_obeys(f, at)
 }
 
 // The same, as facts.
@@ -229,7 +232,7 @@ fn signal_obeys(f: &[u8], at: u32) -> bool
     ensures { λ r. ⌜ r ≡ allTests (tableFacts (now (f .entry)) at signalTable) ⌝ }
 {
     if f.len() < at as usize + Signal::SIZE {
-        return signal_fields(Judged::Accepted, f, at).is_accepted();
+        return false;
     }
     let entry = equals(f, at, Signal::ENTRY, Signal::TYPE);
     let name = has_name(f, at, Signal::NAME, NOT_EMPTY);
@@ -259,7 +262,7 @@ fn joint_obeys(f: &[u8], at: u32) -> bool
     ensures { λ r. ⌜ r ≡ allTests (tableFacts (now (f .entry)) at jointTable) ⌝ }
 {
     if f.len() < at as usize + Joint::SIZE {
-        return joint_fields(Judged::Accepted, f, at).is_accepted();
+        return false;
     }
     let entry = equals(f, at, Joint::ENTRY, Joint::TYPE);
     let name = has_name(f, at, Joint::NAME, MAY_BE_EMPTY);
@@ -282,8 +285,8 @@ fn joint_fields(v: Judged, f: &[u8], at: u32) -> Judged
 fn siding_obeys(f: &[u8], at: u32) -> bool
     ensures { λ r. ⌜ r ≡ allTests (tableFacts (now (f .entry)) at sidingTable) ⌝ }
 {
-    if f.len() < at as usize + Siding::SIZE {
-        return siding_fields(Judged::Accepted, f, at).is_accepted();
+    if f.len() <= place_of(at, Siding::TRACK) {
+        return false;
     }
     let entry = equals(f, at, Siding::ENTRY, Siding::TYPE);
     let name = has_name(f, at, Siding::NAME, NOT_EMPTY);
