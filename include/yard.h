@@ -288,7 +288,11 @@ enum yard_siding_value {
  *
  * The list is put at the start of `words`, in words of two bytes, low byte first: of each route its number of objects and then their
  * places, from the boundary on; normal before reverse where two routes part. There is room for half as many words as there are bytes, and
- * an odd last byte is never touched. Bytes after the list are left as they were. */
+ * an odd last byte is never touched. Bytes after the list are left as they were.
+ *
+ * Routes read backwards: of two calls on one file by one limit that are not refused, from the boundaries A and B, with any budgets and any
+ * room, by this function or by yard_routes_flat, a route from A that ends at B is in the first list exactly when its reverse is in the
+ * second. */
 uint64_t yard_routes(const uint8_t *file, size_t file_length, size_t start, size_t limit, size_t budget, uint8_t *counts,
                      size_t counts_length, uint8_t *words, size_t words_length);
 

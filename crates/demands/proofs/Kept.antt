@@ -26,6 +26,9 @@ use Rattle.route_theorems.proofs.Listed as yard
 use Rattle.route_theorems.proofs.Range as range
 use Rattle.route_theorems.proofs.Asked.{routes-asked}
 use Rattle.route_theorems.proofs.Base.{stated-is, stated-left, default-is}
+use Rattle.route_backwards.proofs.Reading.{one-reading}
+use Rattle.route_backwards.proofs.Backwards.{routes-back, listed-iff, lists-back}
+use Rattle.route_backwards.proofs.Engines.{calls-back}
 use Rattle.demands.specs.Demands.{Returns, Accepts, Lists}
 
 -- a refusal leaves every byte of an output
@@ -94,4 +97,9 @@ lists = record {
   as-approved = stated-is;
   left-as-approved = stated-left;
   engines = calls-agree;
+  route-back = routes-back;
+  read-one-way = one-reading;
+  in-memory = listed-iff;
+  backwards = lists-back;
+  calls-backwards = calls-back;
 }

@@ -5,7 +5,7 @@
 use Prim.Native.Nat.{ℕ, _≤_, _<_}
 use mathlib.Core.Path.{_≡_}
 use mathlib.Core.Logic.{_↔_}
-use mathlib.Core.List.{List, List·Memᴰ}
+use mathlib.Core.List.{List, reverse, List·Memᴰ}
 use lib.ListN.{getD}
 use Rattle.verdict.specs.declared.Fault.{Fault}
 use Rattle.verdict.specs.declared.Verdict.the-variants as verdict
@@ -48,7 +48,7 @@ use Rattle.route_graph.specs.Objects.{objectAt}
 use Rattle.route_graph.specs.Read.{objectOf}
 use Rattle.route_walks.specs.declared.Tally.{Tally}
 use Rattle.route_walks.specs.Lent.{roomOf}
-use Rattle.route_walks.specs.Legal.{Walk}
+use Rattle.route_walks.specs.Legal.{Walk, Route}
 use Rattle.route_walks.specs.All.{AllRoutes}
 use Rattle.route_lister.specs.declared.RoutesAnswer.the-variants as routes
 use Rattle.route_lister.specs.Answered.{limitOf, routesAnswer}
@@ -56,6 +56,9 @@ use Rattle.route_lister.specs.Listing.{Listing}
 use Rattle.route_question.specs.Routes.{routesAsked, leftAsked}
 use Rattle.route_theorems.specs.Asked.{BoundaryHere, routesChecks}
 use Rattle.route_theorems.specs.Base.{routesWas, leftWas}
+use Rattle.route_question.specs.declared.Engine.{Engine}
+use Rattle.route_backwards.specs.Backwards.{RouteTo, Holds, ListedIn, Backwards, NotRefused, seenOf}
+use Rattle.route_backwards.specs.Calls.{CalledBy, seenCalling}
 use Rattle.c_values.specs.Shown.{leaves}
 use Rattle.export_theorems.specs.Fit.{trackSigned, pointSigned, coordinateSigned, recordSigned, AnswerBack}
 use Rattle.exports.proofs.yard_checksum.Kinds as checksum-kinds
@@ -200,3 +203,21 @@ pub record Lists : Type 0 where
   -- the second engine answers and leaves what the first does, for every input: as far as the contracts of both allow
   -- 02: Ticket12.3
   pub engines : Agree 3 routes-kinds.ps routes-kinds.r routes-reads.Post routes-flat-reads.Post
+  -- a route read backwards is a route: in an accepted file w leads from a to b within a limit exactly when its reverse leads from b to a
+  -- 02: Ticket13.1
+  pub route-back : (f : List ℕ) → x2Verdict f ≡ verdict.Accepted → (a b : ℕ) → BoundaryHere f a → BoundaryHere f b → (limit : ℕ) (w : List ℕ)
+      → RouteTo (objectAt f (layoutOf f)) a b limit w ↔ RouteTo (objectAt f (layoutOf f)) b a limit (reverse w)
+  -- 'listed' is said of the words in the memory after a listing that is not refused: they are read in one way, and what is listed there are the
+  -- routes
+  -- 02: Ticket13.2
+  pub read-one-way : (n : ℕ) (memory : List ℕ) (rs qs : List (List ℕ)) → Holds n memory rs → Holds n memory qs → rs ≡ qs
+  -- 02: Ticket13.2
+  pub in-memory : (q : NotRefused) (w : List ℕ) → ListedIn (seenOf q .words) (seenOf q .memory) w
+      ↔ Route (objectAt (q .file) (layoutOf (q .file))) (q .start) (limitOf (q .limit)) w
+  -- so of two that are not refused, of one file and by one limit, whatever their budgets and rooms: a route from the one start to the other is
+  -- listed exactly when its reverse is listed from there
+  -- 02: Ticket13.2
+  pub backwards : (p q : NotRefused) → Backwards (seenOf p) (seenOf q)
+  -- the same of two calls from C whose number is 0, by either engine each: as far as their contracts allow
+  -- 02: Ticket13.2
+  pub calls-backwards : (e e′ : Engine) (p : CalledBy e) (q : CalledBy e′) → Backwards (seenCalling e p) (seenCalling e′ q)

@@ -82,5 +82,5 @@ pub record ReturnsObey (f : List ℕ) (l : Layout) : Type 0 where
   -- 01: X2.links.8
   pub single : (at : ℕ) → List·Memᴰ at (starts f l) → (Member f l at → ⊥) → Distinct f (linkPlaces (kindAt l at) at)
   -- the links of a balise of place above 1 are those of the record directly before it
-  -- 02: Ticket2.3
+  -- 02: Ticket2.3, Ticket13.4
   pub members : (at : ℕ) → List·Memᴰ at (starts f l) → Member f l at → (b : ℕ) → DirectlyBefore f l b at → SameLinks f b at

@@ -13,6 +13,7 @@ use Rattle.x2_obeys.specs.Fields.{FieldsObey, AgreementObeys}
 use Rattle.x2_obeys.specs.Links.{TargetsObey, ReturnsObey}
 use Rattle.x2_verdict.specs.Facts.{leastLength, fileType}
 
+-- 02: Ticket13.4
 pub record Obeys (f : List ℕ) : Type 0 where
   -- 01: No.1
   pub least : leastLength ≤ length f

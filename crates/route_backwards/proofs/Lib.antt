@@ -1,0 +1,4 @@
+pub mod Turned
+pub mod Reading
+pub mod Backwards
+pub mod Engines
