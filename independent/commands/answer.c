@@ -303,16 +303,22 @@ static void print_record(FILE *output, const posed *ask)
     }
 }
 
+void print_listing(FILE *output, const ind_routes *found,
+                   const uint16_t *words)
+{
+    answer_line(output, found->answer);
+    if (found->answer.number != IND_ACCEPTED)
+        return;
+    line(output, "routes", found->routes);
+    line(output, "words", found->words);
+    line(output, "walks", found->walks);
+    print_route_lines(output, words, found->routes);
+}
+
 static void print_routes(FILE *output, const posed *ask)
 {
     ind_routes routes = ask_routes(ask);
-    answer_line(output, routes.answer);
-    if (routes.answer.number != IND_ACCEPTED)
-        return;
-    line(output, "routes", routes.routes);
-    line(output, "words", routes.words);
-    line(output, "walks", routes.walks);
-    print_route_lines(output, route_words, routes.routes);
+    print_listing(output, &routes, route_words);
 }
 
 /* The station's name stands in an X.2's header alone. */

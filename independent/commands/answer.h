@@ -19,6 +19,11 @@ void print_route_line(FILE *output, const uint16_t *route);
 /* So many routes from a list's words, each on one line. */
 void print_route_lines(FILE *output, const uint16_t *words, uint32_t routes);
 
+/* A list of routes as yardask prints it: the answer and, where it is not
+ * refused, the counts and the routes. */
+void print_listing(FILE *output, const ind_routes *found,
+                   const uint16_t *words);
+
 /* The whole answer as yardask prints it. */
 void print_answer(FILE *output, const posed *ask);
 

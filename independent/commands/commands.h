@@ -7,7 +7,9 @@ enum {
     RUN_WELL = 0,
     RUN_BAD = 1,
     /* The command line was wrong. */
-    RUN_MISUSED = 2
+    RUN_MISUSED = 2,
+    /* What is to be judged cannot be read, so that nothing is judged of it. */
+    RUN_UNJUDGED = 2
 };
 
 int command_sums_files(void);
@@ -23,6 +25,12 @@ int command_plan(int count, char **words);
 
 /* This takes SEED FILE PLAN. */
 int command_plan_case(int count, char **words);
+
+/* This takes SEED COUNT. */
+int command_backwards_cases(int count, char **words);
+
+/* This takes CASES ANSWERS. */
+int command_backwards(int count, char **words);
 
 /* These take SEED COUNT [KIND..]. */
 int command_cases(int count, char **words);

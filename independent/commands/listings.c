@@ -82,7 +82,7 @@ static void make_refused_y(stored *file)
 }
 
 /* Two boundaries, 41 and 53, and nothing else: the smallest X.2. */
-static void make_two(stored *file)
+void make_two(stored *file)
 {
     begin(&drawn, 1, 1);
     join(&drawn, 1, LINK, 2, LINK);
@@ -111,7 +111,7 @@ static void make_loop_of(uint32_t joints, stored *file)
     lay_out(&drawn, NULL, file);
 }
 
-static void make_loop(stored *file)
+void make_loop(stored *file)
 {
     make_loop_of(2, file);
 }
@@ -124,7 +124,7 @@ static void make_long_loop(stored *file)
 /* 41 is before turnout 65. Its normal leg leads to joint 113, where the way
  * ends; its reverse leg to turnout 89, which has no normal link and leads to
  * 53 by its reverse one. */
-static void make_dead_end(stored *file)
+void make_dead_end(stored *file)
 {
     uint32_t first, second, joint;
     begin(&drawn, 1, 1);
@@ -141,7 +141,7 @@ static void make_dead_end(stored *file)
 /* A double crossover: 47 and 59 are before turnouts 95 and 119, 71 and 83
  * before 143 and 167, and each leg of the first two is joined with a leg of
  * the others. */
-static void make_crossover(stored *file)
+void make_crossover(stored *file)
 {
     uint32_t first;
     begin(&drawn, 2, 2);
@@ -158,7 +158,7 @@ static void make_crossover(stored *file)
 /* 62 is before a tree of seven turnouts from 170 on, in which the legs of each
  * lead to two others, the last to ends that stand in no order. On the reverse
  * side of the first there are signal 338 and joint 357 more. */
-static void make_tree(stored *file)
+void make_tree(stored *file)
 {
     static const uint32_t ends[] = { 3, 1, 8, 2, 5, 7, 4, 6 };
     enum { TURNOUTS = 7, INNER = 3, ENDS = 8 };
@@ -185,7 +185,7 @@ static void make_tree(stored *file)
  * objects by normal legs alone. Reverse legs lead to ends at every hundredth
  * turnout, and else to joints where the way ends, so that a choice is open at
  * each turnout of the way at once. */
-static void make_deep(stored *file)
+void make_deep(stored *file)
 {
     enum { TURNOUTS = 510, EVERY = 100, ENDS = 6 };
     uint32_t first, at = 1, port = LINK, ends = 1;

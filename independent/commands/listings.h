@@ -5,6 +5,16 @@
 
 #include <stdio.h>
 
+#include "generator/stored.h"
+
+/* Some of their yards. */
+void make_two(stored *file);
+void make_loop(stored *file);
+void make_dead_end(stored *file);
+void make_crossover(stored *file);
+void make_tree(stored *file);
+void make_deep(stored *file);
+
 /* Writes each as a case of question routes2. */
 void write_listings(FILE *output);
 

@@ -37,6 +37,10 @@ static const command commands[] = {
       "exact SEED COUNT ..   answer them from blocks of exactly their size" },
     { "plan-exact", NULL, command_plan_exact,
       "plan-exact SEED ..    print what yardplan prints of such cases" },
+    { "backwards-cases", NULL, command_backwards_cases,
+      "backwards-cases ..    write so many yards, a case for each boundary" },
+    { "backwards", NULL, command_backwards,
+      "backwards CASES ..    such cases and their answers, read backwards" },
     { "self", NULL, command_self,
       "self [EXAMPLES]       check document 01's examples, plans, the depot" },
 };

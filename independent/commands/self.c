@@ -2,7 +2,8 @@
  * headers and the track of the example files, balise groups by 02's ticket 2,
  * the lookup of tracks by its ticket 7, long lines by its ticket 8, names by
  * its ticket 10, heights by its ticket 11 and fixed listings by both listers
- * of its ticket 12, each asserted of the core. */
+ * of its ticket 12, each asserted of the core; and the check of its ticket 13,
+ * routes read backwards. */
 #include "self.h"
 
 #include <string.h>
@@ -49,14 +50,8 @@ enum {
     HIGH_STEP = 3
 };
 
-/* A line from a start boundary to an end boundary over a group of balises:
- * numbers 1, 3 and 4 of five. */
+/* The line over a group of balises: its other places. */
 enum {
-    G_START = 41,
-    G_END = 53,
-    G_ONE = 65,
-    G_THREE = 81,
-    G_FOUR = 97,
     G_LENGTH = 117,
     G_START_ENTRY = 24,
     G_END_COUNT = 27,
@@ -186,9 +181,7 @@ static void put_g_balise(uint8_t *balise, uint32_t place)
     put_group(balise, place, G_COUNT);
 }
 
-/* The line over a group: others link to number 1 alone, and all of the group
- * have its links. */
-static void make_g(stored *file)
+void make_g(stored *file)
 {
     uint8_t *bytes = file->bytes;
     begin_yard(file, G_LENGTH);
@@ -1435,6 +1428,7 @@ int command_self(int count, char **words)
     stand_examples();
     list_example();
     plan_examples();
+    backwards_examples();
     if (count == 1)
         depot_examples(words[0]);
     printf("%lu passed, %lu failed\n", passed, failed);

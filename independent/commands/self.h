@@ -14,6 +14,16 @@ enum {
     Y_TURNOUT = 80
 };
 
+/* A line from a start boundary to an end boundary over a group of balises:
+ * numbers 1, 3 and 4 of five. Where its records start. */
+enum {
+    G_START = 41,
+    G_END = 53,
+    G_ONE = 65,
+    G_THREE = 81,
+    G_FOUR = 97
+};
+
 /* What stands in lent words before a listing. */
 enum {
     UNTOUCHED = 0xA55A
@@ -25,11 +35,18 @@ void ensure(int holds, const char *sentence);
 /* Yard Y with this reverse link. */
 void make_y(stored *file, uint32_t reverse);
 
+/* The line over a group: others link to number 1 alone, and all of the group
+ * have its links. */
+void make_g(stored *file);
+
 /* Whether this text and nothing else was printed; closes what was kept. */
 int printed(FILE *kept, const char *due);
 
 /* Plans, beside yard Y. */
 void plan_examples(void);
+
+/* Routes read backwards: what the check passes, and what it notices. */
+void backwards_examples(void);
 
 /* The first depot beside its plan, from the folder of the examples. */
 void depot_examples(const char *folder);

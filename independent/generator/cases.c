@@ -22,7 +22,7 @@ static size_wanted some_size(source *from, const wanted *kinds)
     return once_in(from, 5) ? SIZE_MIDDLE : SIZE_SMALL;
 }
 
-static uint32_t some_station(source *from)
+uint32_t some_station(source *from)
 {
     static const uint32_t values[] = { 1, 2, 255, 256, 65535 };
     return once_in(from, 2) ? ONE_OF(from, values) : 1 + draw(from, 65535);
@@ -130,9 +130,7 @@ static void damage_aimed(source *from, int application, stored *file)
         break_geography(from, file);
 }
 
-/* Damages a right file in one of many ways; the checksum is mostly
- * repaired, so that the checks after it are reached. */
-static void spoil(source *from, int application, stored *file)
+void spoil(source *from, int application, stored *file)
 {
     /* Of a hundred, up to which number each way is taken. */
     enum { AIMED = 72, FLIPPED = 84, CUT = 92, TOO_LONG = 94, RANDOM = 97 };
@@ -290,10 +288,15 @@ static uint32_t some_question(source *from, const wanted *kinds)
     return chosen;
 }
 
+source source_of(uint64_t seed, uint64_t index)
+{
+    source seeds = source_from(seed);
+    return source_from(draw_bits(&seeds) + index * BETWEEN_CASES);
+}
+
 void build_case(const generation *run, uint64_t index, asked *ask)
 {
-    source seeds = source_from(run->seed);
-    source from = source_from(draw_bits(&seeds) + index * BETWEEN_CASES);
+    source from = source_of(run->seed, index);
     memset(ask->numbers, 0, sizeof ask->numbers);
     ask->files[0].length = 0;
     ask->files[1].length = 0;

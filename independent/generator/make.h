@@ -81,7 +81,10 @@ typedef enum {
     YARD_LONG_LINE,
     /* Not among small yards but for listing routes. */
     YARD_LONG_WAYS,
-    YARD_SHAPES
+    YARD_SHAPES,
+    /* Only where every boundary is asked for its routes: not among the shapes
+     * that are drawn from elsewhere. */
+    YARD_PARALLEL = YARD_SHAPES
 } yard_shape;
 
 /* A right yard; which groups it has is drawn too. */

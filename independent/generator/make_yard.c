@@ -1,6 +1,6 @@
 /* Right yards as objects and their links: lines, tangles, ladders,
  * crossovers, wyes, balloon loops, diamonds, long lines, long ways that
- * branch, dead ends, rings, and groups of balises. */
+ * branch, lines beside each other, dead ends, rings, and groups of balises. */
 #include "make.h"
 
 #include "core/core.h"
@@ -438,6 +438,50 @@ static void shape_long_ways(source *from, yard *made)
         long_diamonds(from, made);
 }
 
+/* A crossover from one line to another: two turnouts joined by a leg of each,
+ * the one entered at the front, the other left by it. */
+static void cross_over(source *from, yard *made, free_port *one,
+                       free_port *other)
+{
+    uint32_t apart = add(from, made, IND_TURNOUT);
+    uint32_t together = add(from, made, IND_TURNOUT);
+    uint32_t off = once_in(from, 2) ? REVERSE : NORMAL;
+    uint32_t on = off == REVERSE ? NORMAL : REVERSE;
+    join(from, made, one->at, one->port, apart, FRONT);
+    join(from, made, other->at, other->port, together, on);
+    join(from, made, apart, off, together, off);
+    *one = (free_port){ apart, on };
+    *other = (free_port){ together, FRONT };
+}
+
+/* Lines beside each other from boundary to boundary, with crossovers between
+ * neighbours both ways: many routes between several boundaries. Two lines may
+ * be joined at their far ends, so that a walk comes back by the other. */
+static void shape_parallel(source *from, yard *made)
+{
+    enum { LINES_MOST = 5 };
+    free_port line[LINES_MOST];
+    uint32_t lines = 2 + draw(from, LINES_MOST - 1);
+    uint32_t of_a_line = 1 + draw(from, made->size == SIZE_SMALL ? 3 : 7);
+    uint32_t crossovers = lines * of_a_line;
+    for (uint32_t i = 0; i < lines; i++)
+        line[i] = (free_port){ add_boundary(from, made), 0 };
+    while (crossovers-- > 0) {
+        uint32_t above = draw(from, lines - 1);
+        uint32_t first = above + draw(from, 2);
+        cross_over(from, made, &line[first], &line[2 * above + 1 - first]);
+    }
+    for (uint32_t i = 0; i < lines; i++) {
+        if (i + 1 < lines && once_in(from, 6)) {
+            join(from, made, line[i].at, line[i].port, line[i + 1].at,
+                 line[i + 1].port);
+            i++;
+        } else {
+            close_port(from, made, line[i].at, line[i].port);
+        }
+    }
+}
+
 static void build_shape(source *from, yard_shape shape, yard *made)
 {
     switch (shape) {
@@ -449,6 +493,7 @@ static void build_shape(source *from, yard_shape shape, yard *made)
     case YARD_DIAMONDS: shape_diamonds(from, made); break;
     case YARD_LONG_LINE: shape_long_line(from, made); break;
     case YARD_LONG_WAYS: shape_long_ways(from, made); break;
+    case YARD_PARALLEL: shape_parallel(from, made); break;
     default: shape_lines(from, made); break;
     }
 }
