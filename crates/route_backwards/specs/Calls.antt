@@ -51,7 +51,8 @@ seenAsking e q = record {
   memory = q .call .left .1 .1 .1 .1 .0;
 }
 
--- ---- the same as C calls it: before the words stands the memory for the counts, and the number that is returned says whether it is refused
+-- ---- the same as C calls it: it is given the file, the start, the limit, the budget, the memory for the counts and that for the words, and it
+-- is refused where the number that it returns is not 0
 
 abbrev pub calledOf : Engine → Out 3 yard-routes-kinds.ps yard-routes-kinds.r
 calledOf First = yard-routes-reads.Post
@@ -62,7 +63,7 @@ pub record CalledBy (e : Engine) : Type 0 where
   pub call : Call 3 yard-routes-kinds.ps yard-routes-kinds.r (calledOf e)
   pub not-refused : numberPart (call .returned) ≡ 0
 
--- how many words the list has is the second of the counts, in four bytes
+-- how many words the list has is the second of the counts, which have four bytes each
 abbrev pub seenCalling : (e : Engine) → CalledBy e → Seen
 seenCalling e q = record {
   file = now (q .call .given .0);
