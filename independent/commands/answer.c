@@ -33,6 +33,15 @@ static ind_coordinate ask_coordinate(const posed *ask)
                              ask->numbers[1]);
 }
 
+static ind_degrees ask_degrees(const posed *ask)
+{
+    if (ask->question == ASK_DEGREES)
+        return ind_degrees_at(ask->bytes[0], ask->length[0], ask->numbers[0],
+                              ask->numbers[1]);
+    return ind_point_degrees_at(ask->bytes[0], ask->length[0],
+                                ask->numbers[0], ask->numbers[1]);
+}
+
 static ind_record ask_record(const posed *ask)
 {
     return ind_record_at(ask->bytes[0], ask->length[0], ask->numbers[0]);
@@ -69,6 +78,8 @@ ind_answer answer_case(const posed *ask)
     case ASK_TRACK: return ask_track(ask).answer;
     case ASK_POINT: return ask_point(ask).answer;
     case ASK_COORDINATE: return ask_coordinate(ask).answer;
+    case ASK_DEGREES:
+    case ASK_POINT_DEGREES: return ask_degrees(ask).answer;
     case ASK_RECORD: return ask_record(ask).answer;
     case ASK_ROUTES:
     case ASK_ROUTES2: return ask_routes(ask).answer;
@@ -129,6 +140,13 @@ static void hexadecimal_line(FILE *output, const char *field,
     for (uint32_t i = 0; i < size; i++)
         fprintf(output, "%02x", bytes[i]);
     putc('\n', output);
+}
+
+/* The 64 bits of a binary64 in hexadecimal, the highest first. */
+static void bits_line(FILE *output, const char *field, double number)
+{
+    fprintf(output, "%s %016llx\n", field,
+            (unsigned long long)ind_bits_of(number));
 }
 
 static void exit_balise_line(FILE *output, const char *field, uint32_t number)
@@ -198,6 +216,18 @@ static void print_coordinate(FILE *output, const posed *ask)
         return;
     line(output, "latitude", coordinate.latitude);
     line(output, "longitude", coordinate.longitude);
+}
+
+static void print_degrees(FILE *output, const posed *ask)
+{
+    ind_degrees degrees = ask_degrees(ask);
+    answer_line(output, degrees.answer);
+    if (degrees.answer.number != IND_ACCEPTED)
+        return;
+    line(output, "latitude", degrees.latitude);
+    line(output, "longitude", degrees.longitude);
+    bits_line(output, "latitude_degrees", degrees.latitude_degrees);
+    bits_line(output, "longitude_degrees", degrees.longitude_degrees);
 }
 
 static void print_boundary(FILE *output, const ind_boundary *boundary)
@@ -347,6 +377,8 @@ void print_answer(FILE *output, const posed *ask)
     case ASK_TRACK: print_track(output, ask); break;
     case ASK_POINT: print_point(output, ask); break;
     case ASK_COORDINATE: print_coordinate(output, ask); break;
+    case ASK_DEGREES:
+    case ASK_POINT_DEGREES: print_degrees(output, ask); break;
     case ASK_RECORD: print_record(output, ask); break;
     case ASK_ROUTES:
     case ASK_ROUTES2: print_routes(output, ask); break;

@@ -409,7 +409,7 @@ static void name_without_place(const asked *ask, uint32_t number, char *name)
         name_listing(ask, name);
     else if (asks_routes(ask->question))
         name_refused_listing(ask, number, name);
-    else if (ask->question == ASK_POINT && number == IND_ACCEPTED)
+    else if (first_of(ask->question) == ASK_POINT && number == IND_ACCEPTED)
         strcpy(name, height_name(ask));
     else if (!application && ind_has_heights(ask->files[0].bytes))
         strcpy(name, "version_2");
@@ -427,13 +427,13 @@ static void name_length(const stored *file, int application, char *name)
 static int about_a_place(uint32_t question, uint32_t number)
 {
     return number > IND_LENGTH && number < IND_OUT_OF_RANGE
-        && (question != ASK_COORDINATE || number < IND_NO_TRACK);
+        && (first_of(question) != ASK_COORDINATE || number < IND_NO_TRACK);
 }
 
 /* Whether tracks were looked up by their numbers for this answer. */
 static int about_a_track(uint32_t question, uint32_t number)
 {
-    return (question == ASK_PAIR || question == ASK_COORDINATE)
+    return (question == ASK_PAIR || first_of(question) == ASK_COORDINATE)
         && (number == IND_ACCEPTED || number == IND_NO_TRACK
             || number == IND_BEYOND_END);
 }
@@ -491,7 +491,7 @@ static void name_lookup(const asked *ask, ind_answer answer, char *name)
     char *after = name + strlen(name);
     if (answer.number == IND_ACCEPTED && of_all_numbers(ask))
         strcpy(name, "all_numbers");
-    else if (ask->question == ASK_COORDINATE)
+    else if (first_of(ask->question) == ASK_COORDINATE)
         name_word(ask->numbers[0], after);
     else if (answer.number == IND_ACCEPTED)
         name_words(&ask->files[0], after);
@@ -576,24 +576,32 @@ static void pass_over(const asked *ask, uint64_t index)
     (void)index;
 }
 
-/* The cases of routes that were written, by their indexes. */
-static uint64_t routes_written[NAMES_LARGEST];
-static uint32_t routes_count;
+/* The cases that were written of a question that comes with a second, by
+ * their indexes. */
+static struct {
+    uint32_t question;
+    uint64_t index;
+} written[NAMES_LARGEST];
+static uint32_t written_count;
 
 static void write_first(const asked *ask, uint64_t index)
 {
     write_case(stdout, ask);
-    if (ask->question == ASK_ROUTES)
-        routes_written[routes_count++] = index;
+    if (second_of(ask->question) == ASK_NOTHING)
+        return;
+    written[written_count].question = ask->question;
+    written[written_count++].index = index;
 }
 
-/* Those cases once more, each asked of the second lister. */
-static void write_routes_again(const generation *run)
+/* Those cases of one question once more, each asked by the second. */
+static void write_again(const generation *run, uint32_t question)
 {
     static asked ask;
-    for (uint32_t i = 0; i < routes_count; i++) {
-        build_case(run, routes_written[i], &ask);
-        ask.question = ASK_ROUTES2;
+    for (uint32_t i = 0; i < written_count; i++) {
+        if (written[i].question != question)
+            continue;
+        build_case(run, written[i].index, &ask);
+        ask.question = second_of(question);
         write_case(stdout, &ask);
     }
 }
@@ -609,7 +617,8 @@ int command_places(int count, char **words)
     return RUN_WELL;
 }
 
-/* Behind the first of each name, what is asked of the second lister. */
+/* Behind the first of each name, what is asked of the second lister, and then
+ * what is asked in degrees. */
 int command_each(int count, char **words)
 {
     generation run;
@@ -617,8 +626,10 @@ int command_each(int count, char **words)
         return RUN_MISUSED;
     name_cases(&run, write_first);
     if (run.kinds.asked_for[ASK_ROUTES]) {
-        write_routes_again(&run);
+        write_again(&run, ASK_ROUTES);
         write_listings(stdout);
     }
+    write_again(&run, ASK_COORDINATE);
+    write_again(&run, ASK_POINT);
     return RUN_WELL;
 }

@@ -1,6 +1,6 @@
 /* The independent reader's core: pure functions on buffers that the caller
  * lends. It allocates nothing, prints nothing and keeps nothing between calls.
- * Written from document 01 and the standard alone.
+ * Written from documents 01 and 02 and the standard alone.
  *
  * This header is for those who use the core; its own files include those of
  * what lies below them, in the order here (see ../order).
@@ -19,6 +19,7 @@
 #include "opening.h"
 #include "geography.h"
 #include "tracks.h"
+#include "degrees.h"
 #include "tables.h"
 #include "name.h"
 #include "layout.h"

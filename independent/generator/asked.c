@@ -30,6 +30,8 @@ const char *question_name(uint32_t asked_for)
         [ASK_HEADER1] = "header1",
         [ASK_HEADER2] = "header2",
         [ASK_ROUTES2] = "routes2",
+        [ASK_DEGREES] = "degrees",
+        [ASK_POINT_DEGREES] = "point-degrees",
         [ASK_X1_VERSION_1] = "x1-version-1"
     };
     return asked_for < QUESTIONS ? names[asked_for] : NULL;
@@ -40,7 +42,27 @@ int is_question(uint32_t asked_for)
     return question_name(asked_for) != NULL;
 }
 
+uint32_t second_of(uint32_t asked_for)
+{
+    switch (asked_for) {
+    case ASK_POINT: return ASK_POINT_DEGREES;
+    case ASK_COORDINATE: return ASK_DEGREES;
+    case ASK_ROUTES: return ASK_ROUTES2;
+    default: return ASK_NOTHING;
+    }
+}
+
+uint32_t first_of(uint32_t asked_for)
+{
+    switch (asked_for) {
+    case ASK_POINT_DEGREES: return ASK_POINT;
+    case ASK_DEGREES: return ASK_COORDINATE;
+    case ASK_ROUTES2: return ASK_ROUTES;
+    default: return asked_for;
+    }
+}
+
 int asks_routes(uint32_t asked_for)
 {
-    return asked_for == ASK_ROUTES || asked_for == ASK_ROUTES2;
+    return first_of(asked_for) == ASK_ROUTES;
 }

@@ -222,16 +222,6 @@ static void ask_record(source *from, const wanted *kinds, asked *ask)
         spoil(from, 1, file);
 }
 
-/* By which lister routes are asked for: drawn last, so that a case is the same
- * by both. */
-static uint32_t some_lister(source *from, const wanted *kinds)
-{
-    if (!kinds->asked_for[ASK_ROUTES2])
-        return ASK_ROUTES;
-    return kinds->asked_for[ASK_ROUTES] && once_in(from, 2) ? ASK_ROUTES
-                                                            : ASK_ROUTES2;
-}
-
 static void ask_routes(source *from, const wanted *kinds, asked *ask)
 {
     static yard made;
@@ -251,7 +241,6 @@ static void ask_routes(source *from, const wanted *kinds, asked *ask)
                  ask->numbers);
     if (once_in(from, 12))
         spoil(from, 1, file);
-    ask->question = some_lister(from, kinds);
 }
 
 /* A right or a damaged file, now and then of the other type; the numbers,
@@ -269,14 +258,13 @@ static void ask_header(source *from, const wanted *kinds, asked *ask)
         ask->numbers[i] = (uint32_t)draw_bits(from);
 }
 
-/* Whether cases of a question are wanted; those of routes by either lister are
- * made as one question. */
+/* Whether cases of a question are wanted; those of two that have the same are
+ * made as the first's. */
 static int wants(const wanted *kinds, uint32_t question)
 {
-    if (question == ASK_ROUTES2)
+    if (question != first_of(question))
         return 0;
-    return kinds->asked_for[question]
-        || (question == ASK_ROUTES && kinds->asked_for[ASK_ROUTES2]);
+    return kinds->asked_for[question] || kinds->asked_for[second_of(question)];
 }
 
 static uint32_t some_question(source *from, const wanted *kinds)
@@ -286,6 +274,17 @@ static uint32_t some_question(source *from, const wanted *kinds)
         chosen = (uint32_t)draw_between(from, ASK_X1, QUESTIONS - 1);
     while (!wants(kinds, chosen));
     return chosen;
+}
+
+/* By which of two questions a case of the first is asked: drawn last, so that
+ * the case is the same by both. */
+static uint32_t some_of_two(source *from, const wanted *kinds,
+                            uint32_t question)
+{
+    uint32_t second = second_of(question);
+    if (!kinds->asked_for[second])
+        return question;
+    return kinds->asked_for[question] && once_in(from, 2) ? question : second;
 }
 
 source source_of(uint64_t seed, uint64_t index)
@@ -313,4 +312,5 @@ void build_case(const generation *run, uint64_t index, asked *ask)
     case ASK_HEADER2: ask_header(&from, &run->kinds, ask); break;
     default: ask_of_geography(&from, &run->kinds, ask); break;
     }
+    ask->question = some_of_two(&from, &run->kinds, ask->question);
 }

@@ -5,7 +5,8 @@
 #include "asked.h"
 #include "random.h"
 
-/* Which questions are to be asked, and whether all files are to be small. */
+/* Which questions are to be asked, of which ASK_NOTHING is never one, and
+ * whether all files are to be small. */
 typedef struct {
     int asked_for[QUESTIONS];
     int small;
