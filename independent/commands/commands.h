@@ -16,6 +16,7 @@ int command_sums_files(void);
 int command_sums(void);
 int command_answer(void);
 int command_list(void);
+int command_degree_cases(void);
 
 /* This takes [EXAMPLES]. */
 int command_self(int count, char **words);

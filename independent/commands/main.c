@@ -41,6 +41,8 @@ static const command commands[] = {
       "backwards-cases ..    write so many yards, a case for each boundary" },
     { "backwards", NULL, command_backwards,
       "backwards CASES ..    such cases and their answers, read backwards" },
+    { "degree-cases", command_degree_cases, NULL,
+      "degree-cases          write cases of every whole degree" },
     { "self", NULL, command_self,
       "self [EXAMPLES]       check document 01's examples, plans, the depot" },
 };
@@ -53,8 +55,8 @@ static int usage(void)
     for (size_t i = 0; i < COMMANDS; i++)
         fprintf(stderr, "  %s\n", commands[i].usage);
     fputs("after SEED COUNT may stand kinds: x1 x2 pair track point "
-          "coordinate record\nroutes header1 header2 routes2 "
-          "x1-version-1; and small, for small files alone\n",
+          "coordinate record\nroutes header1 header2 routes2 degrees "
+          "point-degrees x1-version-1; and small,\nfor small files alone\n",
           stderr);
     return RUN_MISUSED;
 }
