@@ -2,8 +2,8 @@
  * headers and the track of the example files, balise groups by 02's ticket 2,
  * the lookup of tracks by its ticket 7, long lines by its ticket 8, names by
  * its ticket 10, heights by its ticket 11 and fixed listings by both listers
- * of its ticket 12, each asserted of the core; and the check of its ticket 13,
- * routes read backwards. */
+ * of its ticket 12, each asserted of the core; the check of its ticket 13,
+ * routes read backwards; and degrees by its ticket 14. */
 #include "self.h"
 
 #include <string.h>
@@ -1429,6 +1429,7 @@ int command_self(int count, char **words)
     list_example();
     plan_examples();
     backwards_examples();
+    degrees_examples();
     if (count == 1)
         depot_examples(words[0]);
     printf("%lu passed, %lu failed\n", passed, failed);

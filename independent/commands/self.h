@@ -48,6 +48,10 @@ void plan_examples(void);
 /* Routes read backwards: what the check passes, and what it notices. */
 void backwards_examples(void);
 
+/* Degrees: the division, every whole degree, refusals, and what the cases of
+ * whole degrees notice. */
+void degrees_examples(void);
+
 /* The first depot beside its plan, from the folder of the examples. */
 void depot_examples(const char *folder);
 
