@@ -9,6 +9,8 @@ uint32_t values_size_of(uint32_t asked_for)
     case ASK_TRACK: return YARD_TRACK_SIZE;
     case ASK_POINT: return YARD_POINT_SIZE;
     case ASK_COORDINATE: return YARD_COORDINATE_SIZE;
+    case ASK_DEGREES:
+    case ASK_POINT_DEGREES: return YARD_DEGREES_SIZE;
     case ASK_RECORD: return YARD_RECORD_SIZE;
     case ASK_ROUTES:
     case ASK_ROUTES2: return YARD_ROUTES_SIZE;
@@ -31,6 +33,14 @@ static void value(expected *due, uint32_t n)
     for (int i = 0; i < YARD_VALUE_SIZE; i++)
         at[i] = (uint8_t)(n >> 8 * i);
     due->values_size += YARD_VALUE_SIZE;
+}
+
+/* A binary64 more: two values, the one with its low bits first. */
+static void binary64(expected *due, double number)
+{
+    uint64_t bits = ind_bits_of(number);
+    value(due, (uint32_t)bits);
+    value(due, (uint32_t)(bits >> 32));
 }
 
 /* Zeros up to so many bytes. */
@@ -79,6 +89,29 @@ static void expect_coordinate(const posed *ask, expected *due)
     answer(due, got.answer);
     value(due, (uint32_t)got.latitude);
     value(due, (uint32_t)got.longitude);
+}
+
+static void degrees_values(const ind_degrees *got, expected *due)
+{
+    answer(due, got->answer);
+    value(due, (uint32_t)got->latitude);
+    value(due, (uint32_t)got->longitude);
+    binary64(due, got->latitude_degrees);
+    binary64(due, got->longitude_degrees);
+}
+
+static void expect_degrees(const posed *ask, expected *due)
+{
+    ind_degrees got = ind_degrees_at(ask->bytes[0], ask->length[0],
+                                     ask->numbers[0], ask->numbers[1]);
+    degrees_values(&got, due);
+}
+
+static void expect_point_degrees(const posed *ask, expected *due)
+{
+    ind_degrees got = ind_point_degrees_at(ask->bytes[0], ask->length[0],
+                                           ask->numbers[0], ask->numbers[1]);
+    degrees_values(&got, due);
 }
 
 static void boundary_values(const ind_boundary *got, expected *due)
@@ -232,6 +265,8 @@ void expect(const posed *ask, expected *due)
     case ASK_TRACK: expect_track(ask, due); break;
     case ASK_POINT: expect_point(ask, due); break;
     case ASK_COORDINATE: expect_coordinate(ask, due); break;
+    case ASK_DEGREES: expect_degrees(ask, due); break;
+    case ASK_POINT_DEGREES: expect_point_degrees(ask, due); break;
     case ASK_RECORD: expect_record(ask, due); break;
     case ASK_ROUTES:
     case ASK_ROUTES2: expect_routes(ask, due); break;

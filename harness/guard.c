@@ -4,7 +4,9 @@
  * pointer too. Each answer is compared with the independent core, a file has
  * to keep its bytes, and an output has to hold the answer and after it its
  * old bytes; on a refusal it keeps all of them. Routes are always asked of
- * both functions that list them, and the two have to leave the same bytes. */
+ * both functions that list them, and the two have to leave the same bytes; a
+ * coordinate and a point are always asked in degrees too, and first at every
+ * whole degree. */
 #define _XOPEN_SOURCE 700
 #include <signal.h>
 #include <stdio.h>
@@ -17,6 +19,7 @@
 #include "expected.h"
 #include "generator/damage.h"
 #include "generator/random.h"
+#include "generator/whole_degrees.h"
 #include "lent.h"
 
 enum {
@@ -26,6 +29,8 @@ enum {
     LENT_WORDS_ROOM = WORDS_ROOM + 1,
     /* The functions that list routes. */
     LISTERS = 2,
+    /* The most questions that have the same cases. */
+    QUESTIONS_ALIKE = 2,
     /* The exit status after a signal. */
     RUN_SIGNALLED = 3
 };
@@ -62,7 +67,9 @@ enum {
     NO_CALL = -1
 };
 
-/* The call under way, and how its buffers are lent. */
+/* The case under way, one of a seed or one of the whole degrees; the call, and
+ * how its buffers are lent. */
+static const char *volatile cases_now = "case";
 static volatile uint64_t case_now;
 static volatile sig_atomic_t question_now = NO_CALL, way_now;
 
@@ -143,7 +150,9 @@ static void caught(int number)
     say_number((uint64_t)number);
     say(" (");
     say(signal_name(number));
-    say(") in case ");
+    say(") in ");
+    say(cases_now);
+    say(" ");
     say_number(case_now);
     say(",");
     say_call();
@@ -219,6 +228,12 @@ static uint64_t ask_library(const call *of, const uint8_t *const file[FILES],
     case ASK_COORDINATE:
         return yard_coordinate(file[0], length[0], n[0], n[1], out,
                                of->out_length);
+    case ASK_DEGREES:
+        return yard_degrees(file[0], length[0], n[0], n[1], out,
+                            of->out_length);
+    case ASK_POINT_DEGREES:
+        return yard_point_degrees(file[0], length[0], n[0], n[1], out,
+                                  of->out_length);
     case ASK_RECORD:
         return yard_record(file[0], length[0], n[0], out, of->out_length);
     case ASK_ROUTES:
@@ -245,9 +260,10 @@ static void tell_difference(const figures *seen, const call *of,
 {
     if (seen->differ + seen->changed > 1)
         return;
-    printf("first defect: case %llu, question %s, output of %lu bytes, with "
+    printf("first defect: %s %llu, question %s, output of %lu bytes, with "
            "%s\n",
-           (unsigned long long)case_now, question_name(of->ask.question),
+           cases_now, (unsigned long long)case_now,
+           question_name(of->ask.question),
            (unsigned long)of->out_length, way_name((int)way_now));
     printf("library     %u at %lu, file %u\n", YARD_NUMBER(got),
            (unsigned long)YARD_PLACE(got), YARD_FILE(got));
@@ -405,14 +421,15 @@ static void call_each_way(figures *seen, const call *of)
         one_call(seen, of, &due, NULL_FOR_NOTHING);
 }
 
-/* The call that asks a case, with outputs of some length. */
-static call call_of(source *from, const asked *ask)
+/* The call that asks a question of a case, with outputs of some length. */
+static call call_of(source *from, const asked *ask, uint32_t question)
 {
     call of;
     of.ask = pose(ask);
-    of.out_length = some_length(from, values_size_of(ask->question));
+    of.ask.question = question;
+    of.out_length = some_length(from, values_size_of(question));
     of.words_length = 0;
-    if (asks_routes(ask->question))
+    if (asks_routes(question))
         of.words_length = 2 * ask->numbers[3] + draw(from, 2);
     for (int i = 0; i < NUMBERS; i++)
         of.above[i] = ask->numbers[i];
@@ -470,12 +487,37 @@ static void checksum_each_way(figures *seen, const stored *file,
     }
 }
 
-/* A case's call and checksum, with buffers of no bytes. */
+/* The questions that a case is asked: its own and, where another has the same
+ * cases, that one too; but routes are asked once, since that asks both
+ * functions that list them. Gives back how many. */
+static int questions_of(const asked *ask, uint32_t questions[QUESTIONS_ALIKE])
+{
+    questions[0] = first_of(ask->question);
+    questions[1] = second_of(questions[0]);
+    return questions[1] == ASK_NOTHING || asks_routes(ask->question) ? 1 : 2;
+}
+
+/* A case's calls. */
+static void run_calls(figures *seen, source *from, const asked *ask)
+{
+    uint32_t questions[QUESTIONS_ALIKE];
+    int count = questions_of(ask, questions);
+    for (int i = 0; i < count; i++) {
+        call of = call_of(from, ask, questions[i]);
+        call_each_way(seen, &of);
+    }
+}
+
+/* A case's calls and checksum, with buffers of no bytes. */
 static void run_with_nothing(figures *seen, source *from, const asked *ask)
 {
-    call of = call_of(from, ask);
-    lend_nothing(from, &of);
-    call_each_way(seen, &of);
+    uint32_t questions[QUESTIONS_ALIKE];
+    int count = questions_of(ask, questions);
+    for (int i = 0; i < count; i++) {
+        call of = call_of(from, ask, questions[i]);
+        lend_nothing(from, &of);
+        call_each_way(seen, &of);
+    }
     checksum_each_way(seen, &ask->files[0], 0);
 }
 
@@ -486,11 +528,9 @@ static void run_case(figures *seen, const generation *run, uint64_t index)
     static asked ask;
     source from = source_from(run->seed ^ (index << 20));
     uint32_t which;
-    call of;
     case_now = index;
     build_case(run, index, &ask);
-    of = call_of(&from, &ask);
-    call_each_way(seen, &of);
+    run_calls(seen, &from, &ask);
     checksum_each_way(seen, &ask.files[0], ask.files[0].length);
     if (once_in(&from, 4))
         run_with_nothing(seen, &from, &ask);
@@ -498,8 +538,34 @@ static void run_case(figures *seen, const generation *run, uint64_t index)
     flip_bits(&from, &ask.files[which]);
     if (!once_in(&from, 4))
         seal(&ask.files[which]);
-    of = call_of(&from, &ask);
-    call_each_way(seen, &of);
+    run_calls(seen, &from, &ask);
+}
+
+/* Whether a question is asked for, or the other that has the same cases. */
+static int is_asked_for(const wanted *kinds, uint32_t question)
+{
+    return kinds->asked_for[question] || kinds->asked_for[first_of(question)];
+}
+
+/* A position and a point at every whole degree and beside it, each asked in
+ * degrees with an output of just as many bytes as they take. */
+static void run_whole_degrees(figures *seen, const wanted *kinds)
+{
+    static asked ask;
+    cases_now = "whole-degree case";
+    for (uint32_t i = 0; i < DEGREE_CASES; i++) {
+        whole_degree put;
+        call of = { .out_length = YARD_DEGREES_SIZE };
+        build_whole_degree(i, &ask, &put);
+        if (!is_asked_for(kinds, ask.question))
+            continue;
+        case_now = i;
+        of.ask = pose(&ask);
+        for (int n = 0; n < NUMBERS; n++)
+            of.above[n] = ask.numbers[n];
+        call_each_way(seen, &of);
+    }
+    cases_now = "case";
 }
 
 /* A question's calls, and how many were answered by each number. */
@@ -509,7 +575,7 @@ static void print_calls(const figures *seen, uint32_t asked_for)
     unsigned long long calls = 0;
     for (int n = 0; n < IND_NUMBERS; n++)
         calls += answers[n];
-    printf("%-12s %10llu calls:", question_name(asked_for), calls);
+    printf("%-13s %10llu calls:", question_name(asked_for), calls);
     for (int n = 0; n < IND_NUMBERS; n++)
         if (answers[n] > 0)
             printf(" %d:%llu", n, (unsigned long long)answers[n]);
@@ -518,7 +584,7 @@ static void print_calls(const figures *seen, uint32_t asked_for)
 
 static void print_figures(const figures *seen)
 {
-    printf("%-12s %10llu calls\n", "checksum",
+    printf("%-13s %10llu calls\n", "checksum",
            (unsigned long long)seen->checksums);
     for (uint32_t q = ASK_X1; q < QUESTIONS; q++)
         if (is_question(q))
@@ -535,7 +601,7 @@ int main(int count, char **words)
 {
     static figures seen;
     generation run;
-    uint64_t index = 0;
+    uint64_t index = 0, at_degrees;
     if (count < 3) {
         fputs("usage: guard SEED COUNT [KIND..]\n", stderr);
         return RUN_MISUSED;
@@ -547,7 +613,9 @@ int main(int count, char **words)
     out_room = make_room(OUT_ROOM);
     words_room = make_room(LENT_WORDS_ROOM);
     catch_signals();
-    while (seen.calls < run.end)
+    run_whole_degrees(&seen, &run.kinds);
+    at_degrees = seen.calls;
+    while (seen.calls - at_degrees < run.end)
         run_case(&seen, &run, index++);
     print_figures(&seen);
     return seen.differ + seen.changed == 0 ? RUN_WELL : RUN_BAD;

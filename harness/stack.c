@@ -32,6 +32,10 @@ static void point(void) { answered = yard_point(geography.bytes, geography.lengt
 static void point_height(void) { answered = yard_point(heights.bytes, heights.length, 0, 1, out, OUTPUT); }
 static void coordinate(void) { answered = yard_coordinate(geography.bytes, geography.length, 1, 1, out, OUTPUT); }
 static void coordinate_heights(void) { answered = yard_coordinate(heights.bytes, heights.length, 1, 1, out, OUTPUT); }
+static void degrees(void) { answered = yard_degrees(geography.bytes, geography.length, 1, 1, out, OUTPUT); }
+static void degrees_heights(void) { answered = yard_degrees(heights.bytes, heights.length, 1, 1, out, OUTPUT); }
+static void point_degrees(void) { answered = yard_point_degrees(geography.bytes, geography.length, 0, 1, out, OUTPUT); }
+static void point_degrees_heights(void) { answered = yard_point_degrees(heights.bytes, heights.length, 0, 1, out, OUTPUT); }
 static void record(void) { answered = yard_record(application.bytes, application.length, FIRST_START, out, OUTPUT); }
 
 static void routes(size_t limit)
@@ -66,6 +70,10 @@ static const measured calls[] = {
     { "point, heights", point_height, ON_X1 },
     { "coordinate", coordinate, ON_X1 },
     { "coordinate, heights", coordinate_heights, ON_X1 },
+    { "degrees", degrees, ON_X1 },
+    { "degrees, heights", degrees_heights, ON_X1 },
+    { "point-degrees", point_degrees, ON_X1 },
+    { "point-degrees, heights", point_degrees_heights, ON_X1 },
     { "x2", verdict2, ON_X2 },
     { "header2", header2, ON_X2 },
     { "record", record, ON_X2 },
