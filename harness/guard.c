@@ -255,10 +255,18 @@ static void count_answer(figures *seen, uint32_t asked_for, uint64_t answer)
     seen->answers[asked_for][YARD_NUMBER(answer) % IND_NUMBERS]++;
 }
 
-static void tell_difference(const figures *seen, const call *of,
-                            uint64_t got, const expected *due)
+/* Whether no defect was told before: the first alone is. */
+static int is_first_defect(void)
 {
-    if (seen->differ + seen->changed > 1)
+    static int told;
+    int first = !told;
+    told = 1;
+    return first;
+}
+
+static void tell_difference(const call *of, uint64_t got, const expected *due)
+{
+    if (!is_first_defect())
         return;
     printf("first defect: %s %llu, question %s, output of %lu bytes, with "
            "%s\n",
@@ -317,13 +325,13 @@ static uint64_t one_call(figures *seen, const call *of, const expected *due,
     seen->differ += got != due->answer;
     seen->changed += changed;
     if (got != due->answer || changed > 0)
-        tell_difference(seen, of, got, due);
+        tell_difference(of, got, due);
     return got;
 }
 
-static void tell_unlike(const figures *seen, const call *of)
+static void tell_unlike(const call *of)
 {
-    if (seen->differ + seen->changed > 1)
+    if (!is_first_defect())
         return;
     printf("first defect: case %llu, the two functions that list routes leave "
            "different bytes, output of %lu bytes, words of %lu, with %s\n",
@@ -350,7 +358,7 @@ static void both_calls(figures *seen, const call of[LISTERS],
         && alike(words_left, words, of->words_length);
     seen->differ += !like;
     if (!like)
-        tell_unlike(seen, of);
+        tell_unlike(of);
 }
 
 /* An output that is too short for the values is refused last. */
@@ -456,6 +464,8 @@ static void lend_nothing(source *from, call *of)
 
 static void tell_checksum(uint32_t length, uint32_t got, uint32_t due)
 {
+    if (!is_first_defect())
+        return;
     printf("first defect: case %llu, checksum of %lu bytes, with %s\n",
            (unsigned long long)case_now, (unsigned long)length,
            way_name((int)way_now));
@@ -479,7 +489,7 @@ static void checksum_each_way(figures *seen, const stored *file,
         got = yard_checksum(bytes, length);
         question_now = NO_CALL;
         seen->differ += got != due;
-        if (got != due && seen->differ + seen->changed == 1)
+        if (got != due)
             tell_checksum(length, got, due);
         seen->calls++;
         seen->checksums++;
