@@ -436,9 +436,10 @@ static void generated_examples(void)
 
 /* ---- wrong ways, each of which the cases of whole degrees have to notice */
 
-/* Start and place of a case, latitude first. */
+/* Start, end and place of a case, latitude first. */
 typedef struct {
     int32_t start[AXES];
+    int32_t end[AXES];
     int32_t place[AXES];
 } degrees_seen;
 
@@ -450,6 +451,11 @@ static double increment_alone(const degrees_seen *of, int axis)
 static double start_alone(const degrees_seen *of, int axis)
 {
     return ind_degrees_of(of->start[axis]);
+}
+
+static double end_for_start(const degrees_seen *of, int axis)
+{
+    return ind_degrees_of(of->end[axis] + of->place[axis] - of->start[axis]);
 }
 
 static double axes_swapped(const degrees_seen *of, int axis)
@@ -505,6 +511,7 @@ static const struct {
 } wrong_ways[] = {
     { increment_alone, "the increment alone is noticed" },
     { start_alone, "the start alone is noticed" },
+    { end_for_start, "the end for the start is noticed" },
     { axes_swapped, "swapped axes are noticed" },
     { start_and_increment, "a sum of two quotients is noticed" },
     { seconds_first, "division by 1000 and 3600 is noticed" },
@@ -529,6 +536,7 @@ static int is_noticed(double (*degrees)(const degrees_seen *of, int axis))
         build_whole_degree(i, &ask, &put);
         track = track_of(&ask);
         of = (degrees_seen){ { track.start_latitude, track.start_longitude },
+                             { track.end_latitude, track.end_longitude },
                              { put.latitude, put.longitude } };
         for (int axis = 0; axis < AXES; axis++)
             noticed[ask.question == ASK_POINT_DEGREES][axis] |=

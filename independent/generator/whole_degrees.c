@@ -71,7 +71,7 @@ static degree_track passing(const int32_t place[AXES], int falling)
 }
 
 /* The track that has a point there, by the largest or the least increment, and
- * ends where it starts. */
+ * ends halfway back. */
 static degree_track touching(const int32_t place[AXES], int falling)
 {
     degree_track made = { { 0 }, { { 0 } } };
@@ -81,6 +81,7 @@ static degree_track touching(const int32_t place[AXES], int falling)
         int32_t increment = increment_to(place[axis], axis, wanted, other);
         made.start[axis] = place[axis] - increment;
         made.increments[PLACE_POINT][axis] = increment;
+        made.increments[POINTS - 1][axis] = increment / 2;
     }
     return made;
 }
