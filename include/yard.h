@@ -28,6 +28,7 @@
 
 #include <stddef.h>
 #include <stdint.h>
+#include <string.h>
 
 #ifdef __cplusplus
 extern "C" {
@@ -82,6 +83,16 @@ static inline int32_t yard_signed(const uint8_t *out, size_t index)
 {
     uint32_t value = yard_unsigned(out, index);
     return value <= INT32_MAX ? (int32_t)value : -1 - (int32_t)(UINT32_MAX - value);
+}
+
+/* The binary64 that stands at the values of an index and of the next one: eight bytes, low byte first. A double has to be a binary64, as it is
+ * on every machine that the library is made for. */
+static inline double yard_double(const uint8_t *out, size_t index)
+{
+    uint64_t bits = (uint64_t)yard_unsigned(out, index + 1) << 32 | yard_unsigned(out, index);
+    double number;
+    memcpy(&number, &bits, sizeof number);
+    return number;
 }
 
 /* The 16-bit word of an index in the words of a list of routes. */
@@ -168,6 +179,26 @@ enum yard_coordinate_value {
 };
 
 #define YARD_COORDINATE_SIZE 8
+
+/* The same coordinate in degrees, for a drawing program. The milliarcseconds remain the record and stand first; beside them stand latitude and
+ * longitude in degrees, each a binary64: the whole number of milliarcseconds divided once by 3,600,000, to the nearest, a tie to the even one.
+ * Whole degrees are exact. Read them by yard_double. Refusals are those of yard_coordinate. */
+uint64_t yard_degrees(const uint8_t *file, size_t file_length, size_t number, size_t position, uint8_t *out, size_t out_length);
+
+/* The same of the point of an index in the track of an index: its coordinate is that of the track's start plus its own increments. Refusals are
+ * those of yard_point. */
+uint64_t yard_point_degrees(const uint8_t *file, size_t file_length, size_t track, size_t index, uint8_t *out, size_t out_length);
+
+/* The values of both. */
+enum yard_degrees_value {
+    YARD_DEGREES_LATITUDE,              /* signed, in milliarcseconds */
+    YARD_DEGREES_LONGITUDE,             /* signed, in milliarcseconds */
+    YARD_DEGREES_LATITUDE_DEGREES,      /* a binary64: this value and the next one */
+    YARD_DEGREES_LONGITUDE_DEGREES = 4, /* a binary64: this value and the next one */
+    YARD_DEGREES_VALUES = 6
+};
+
+#define YARD_DEGREES_SIZE 24
 
 /* ---- questions on an X.2: each first gives the file's own fault */
 
