@@ -1,2 +1,4 @@
 pub mod Quotients
 pub mod Once
+pub mod Whole
+pub mod Examples
