@@ -5,3 +5,5 @@ pub mod Examples
 pub mod Rounded
 pub mod Opposites
 pub mod Numbers
+pub mod Ordered
+pub mod Bits
