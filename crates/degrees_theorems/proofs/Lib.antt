@@ -1,9 +1,11 @@
 pub mod Quotients
+pub mod Rounded
 pub mod Once
 pub mod Whole
 pub mod Examples
-pub mod Rounded
-pub mod Opposites
 pub mod Numbers
+pub mod Comparing
 pub mod Ordered
 pub mod Bits
+pub mod Spacing
+pub mod Apart

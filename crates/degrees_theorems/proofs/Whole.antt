@@ -45,11 +45,10 @@ module _ (k : ℤ) (small : natAbs k * degree ≤ counted) where
   pub multiple-exact : IsWhole (degreesOf (k *ℤ pos degree)) k
   multiple-exact = subst⁻¹ (λ (x : Float). IsWhole x k) multiple-is (conversion-exact k (omega arith))
 
--- a longitude's range
 within : (k : ℤ) → natAbs k ≤ 180 → natAbs k * degree ≤ counted
 within k h = omega arith
 
--- THEOREM
+-- THEOREM: for every whole number of degrees that a coordinate can have
 pub whole-degrees : (k : ℤ) → natAbs k ≤ 180 → degreesOf (k *ℤ pos degree) ≡ ofInt binary64 k
 whole-degrees k h = multiple-is k (within k h)
 

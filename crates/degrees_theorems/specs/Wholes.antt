@@ -17,3 +17,7 @@ IsWhole x z = HasValue x (negative z) (natAbs z) 1
 -- up to here, either way, a binary64 holds every whole number
 abbrev pub counted : ℕ
 counted = 2 ^ 53
+
+-- up to here, either way, the binary64 numbers tell degrees of different whole milliarcseconds apart
+abbrev pub toldApart : ℕ
+toldApart = 2 ^ 51

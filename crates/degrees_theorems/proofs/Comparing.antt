@@ -1,13 +1,16 @@
--- Opposite numbers are in the opposite order, and one that is not above 0 is at most one that is not below it.
-use Prim.Native.Nat.{ℕ, zero, suc, _+_, _*_, _<_}
-use native.Mathlib.Nat.{add-comm}
+-- Comparing two numbers: opposite numbers are in the opposite order; one that is not above 0 is at most one that is not below it; and of two that
+-- are not below 0 the one with the smaller fraction is less.
+use Prim.Native.Nat.{ℕ, zero, suc, _+_, _*_, _≤_, _<_}
+use native.Mathlib.Nat.{add-comm, lt-irrefl, lt-of-not-le, not-le-of-lt, mul-pos}
 use native.Mathlib.Omega.{arith}
-use mathlib.Core.Path.{_≡_, subst}
+use mathlib.Core.Path.{_≡_, sym, subst, subst⁻¹}
 use mathlib.Core.Bool.{Bool, true, false, not, _&&_, _||_, Bool·beq, true≢false, false≢true}
-use lib.Dec.{T, ltb, lt→ltb, eqb, eqb→eq, eqb-refl}
+use lib.Dec.{T, ltb, ltb→lt, lt→ltb, eqb, eqb→eq, eqb-refl}
 use lib.Ieee.{Float, inf, fin, up, down, below, level, neg, lt, le}
 use lib.Ieee.Exact.{HasValue}
-use lib.Ieee.Fits.{and-l, and-r, and-i}
+use lib.Ieee.Fits.{and-l, and-r, and-i, down-pos}
+use lib.Ieee.Order.{transfer}
+use lib.Ieee.Positive.{first-pos}
 
 -- ---- opposites
 
@@ -71,3 +74,29 @@ le-across (fin true m e) (fin false n g) a c b d h k = go (m * up e * down g) (n
     go zero zero = tt
     go zero (suc q) = left zero (suc q) (omega arith)
     go (suc p) q = left (suc p) q (omega arith)
+
+pub lt-across : (x y : Float) (a c b d : ℕ) → HasValue x true a c → HasValue y false b d → 0 < a → T (lt x y)
+unfolding lt
+lt-across (fin false m e) y a c b d h k some = absurd (false≢true (h .0))
+lt-across (fin true m e) (fin true n g) a c b d h k some = absurd (true≢false (k .0))
+lt-across (fin true m e) (fin false n g) a c b d h k some =
+    let size : 0 < m * up e = first-pos (m * up e) c (subst⁻¹ (λ (i : ℕ). 0 < i) (h .1) (mul-pos some (down-pos e))) in
+    lt→ltb 0 (m * up e * down g + n * up g * down e) (omega (arith, mul-pos size (down-pos g)))
+
+-- ---- two that are not below 0
+
+pub lt-of-values : (x y : Float) (a c b d : ℕ) → HasValue x false a c → HasValue y false b d → a * d < b * c → T (lt x y)
+unfolding lt
+lt-of-values (fin true m e) y a c b d h k l = absurd (true≢false (h .0))
+lt-of-values (fin false m e) (fin true n g) a c b d h k l = absurd (true≢false (k .0))
+lt-of-values (fin false m e) (fin false n g) a c b d h k l =
+    lt→ltb (m * up e * down g) (n * up g * down e)
+    (lt-of-not-le (λ (q : n * up g * down e ≤ m * up e * down g).
+    not-le-of-lt l (transfer b a d c (n * up g) (m * up e) (down g) (down e) (down-pos g) (down-pos e) (sym (k .1)) (sym (h .1)) q)))
+
+pub lt-itself : (x : Float) → T (lt x x) → ⊥
+unfolding lt
+lt-itself (inf true) h = h
+lt-itself (inf false) h = h
+lt-itself (fin true m e) h = lt-irrefl (m * up e * down e) (ltb→lt (m * up e * down e) (m * up e * down e) h)
+lt-itself (fin false m e) h = lt-irrefl (m * up e * down e) (ltb→lt (m * up e * down e) (m * up e * down e) h)
