@@ -1,2 +1,4 @@
+pub mod Sums
 pub mod Stretches
 pub mod Questions
+pub mod Ranges

@@ -5,7 +5,7 @@ use Prim.Native.Nat.{ℕ, suc, _-_, _≤_}
 use mathlib.Core.List.{List}
 use lib.IntN.{ℤ}
 use Rattle.x1_layout.specs.Layout.{lastOf}
-use Rattle.x1_obeys.specs.Obeys.{pointPlace}
+use Rattle.x1_obeys.specs.Obeys.{Within, pointPlace}
 use Rattle.rounding.specs.Nearest.{Nearest, exactOf}
 use Rattle.x1_questions.specs.declared.answers.Coordinate.{Coordinate}
 use Rattle.x1_questions.specs.Stretch.{positionOf, latitudeOf, longitudeOf}
@@ -31,3 +31,9 @@ pub record CoordinateAt (f : List ℕ) (size e x : ℕ) (r : Coordinate) : Type 
   pub between : Neighbours f size e x point
   pub latitude : NearestAt f (latitudeOf f e) x (pointPlace f size e point) (pointPlace f size e (suc point)) (r .latitude)
   pub longitude : NearestAt f (longitudeOf f e) x (pointPlace f size e point) (pointPlace f size e (suc point)) (r .longitude)
+
+-- c is in the ranges that 01 has for a point's coordinates
+-- 01: X1.points.3
+pub record CoordinateRange (c : Coordinate) : Type 0 where
+  pub latitude : Within 324000000 (c .latitude)
+  pub longitude : Within 648000000 (c .longitude)

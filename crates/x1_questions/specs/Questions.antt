@@ -1,13 +1,17 @@
--- X.1's questions (01: 'A question ..'). Each first gives its file's own fault. An index that names nothing is 13; a coordinate's absent
--- track is 11 and a position beyond the end 12; all with place 0. Indexes count from 0. `size` is the size of a point.
+-- X.1's questions (01: 'A question ..'; the coordinate of a point is 02's, ticket 14). Each first gives its file's own fault. An index that
+-- names nothing is 13; a coordinate's absent track is 11 and a position beyond the end 12; all with place 0. Indexes count from 0. `size` is
+-- the size of a point.
 use Prim.Native.Nat.{ℕ}
 use mathlib.Core.Bool.{cond}
 use mathlib.Core.List.{List}
 use lib.Dec.{ltb, leb}
+use lib.IntN.{_+ℤ_}
 use Rattle.verdict.specs.declared.Reason.the-variants as reason
 use Rattle.verdict.specs.Answers.{refusal, afterVerdict}
 use Rattle.envelope.specs.Header.{headerIn}
 use Rattle.x1_records.specs.Tracks.{trackAt, pointAt, pointsIn}
+use Rattle.x1_records.specs.declared.Track.{Track}
+use Rattle.x1_records.specs.declared.Point.{Point}
 use Rattle.x1_layout.specs.Layout.{sizeOf, countOf, firstOf, lastOf}
 use Rattle.x1_verdict.specs.Facts.{verdictOf}
 use Rattle.x1_obeys.specs.Obeys.{entryPlace, pointPlace}
@@ -21,6 +25,7 @@ use Rattle.x1_questions.specs.declared.answers.TrackAnswer.{TrackAnswer}
 use Rattle.x1_questions.specs.declared.answers.TrackAnswer.the-variants as track
 use Rattle.x1_questions.specs.declared.answers.PointAnswer.{PointAnswer}
 use Rattle.x1_questions.specs.declared.answers.PointAnswer.the-variants as point
+use Rattle.x1_questions.specs.declared.answers.Coordinate.{Coordinate}
 use Rattle.x1_questions.specs.declared.answers.CoordinateAnswer.{CoordinateAnswer}
 use Rattle.x1_questions.specs.declared.answers.CoordinateAnswer.the-variants as coordinate
 
@@ -51,6 +56,22 @@ unfoldable pub pointOf : List ℕ → ℕ → ℕ → PointAnswer
 pointOf f i j =
     afterVerdict point.Refused (verdictOf f)
     (cond (ltb i (countOf f)) (pointIn f (sizeOf f) (entryPlace i) j) (point.Refused (refusal reason.Question)))
+
+-- ---- the coordinate of point j of track i
+
+-- its track's start plus its increment
+-- 02: Ticket14.4
+abbrev pub startPlus : Track → Point → Coordinate
+startPlus t p = record { latitude = t .«start_latitude» +ℤ p .«latitude_increment»; longitude = t .«start_longitude» +ℤ p .«longitude_increment» }
+
+-- of the point and the track that are answered; what refuses the point refuses its coordinate
+abbrev pub ofBoth : PointAnswer → TrackAnswer → CoordinateAnswer
+ofBoth (point.Refused u) a = coordinate.Refused u
+ofBoth (point.Point p) (track.Track t) = coordinate.Coordinate (startPlus t p)
+ofBoth (point.Point p) (track.Refused u) = coordinate.Refused u
+
+unfoldable pub pointCoordinateOf : List ℕ → ℕ → ℕ → CoordinateAnswer
+pointCoordinateOf f i j = ofBoth (pointOf f i j) (trackOf f i)
 
 -- ---- the coordinate at position x of the track with a number
 

@@ -1,11 +1,13 @@
-// The questions on an X.1 file, track geography (01: 'A question ..'): header, track, point, and the coordinate at a position. Each takes
-// the verdict apart and returns the file's own fault at once.
+// The questions on an X.1 file, track geography (01: 'A question ..'): header, track, point, the coordinate of a point (02, ticket 14), and the
+// coordinate at a position. Each takes the verdict apart and returns the file's own fault at once.
 ghost use mathlib.Core.Path.{_≡_};
 ghost use Prim.Native.Nat.{_+_, _*_, _≤_, _<_};
 ghost use Rattle.envelope.specs.Seal.{mostLength};
+ghost use Rattle.x1_verdict.specs.Facts.{verdictOf};
 ghost use Rattle.x1_obeys.specs.Obeys.{entryPlace};
-ghost use Rattle.x1_questions.specs.Questions.{headerOf, trackOf, pointOf, onTrack, coordinateAsked};
+ghost use Rattle.x1_questions.specs.Questions.{headerOf, trackOf, pointOf, pointCoordinateOf, onTrack, coordinateAsked};
 ghost use Rattle.x1_questions.specs.inner.Requires.{TrackObeys};
+ghost use Rattle.x1_questions.specs.inner.Sought.{soughtPoint};
 
 mod answers;
 mod stretch;
@@ -28,8 +30,11 @@ use x1_lookup::Found;
 use x1_lookup::find_track;
 use x1_records::COUNT;
 use x1_records::ENTRIES;
+use x1_records::LATITUDE;
+use x1_records::LONGITUDE;
 use x1_records::Point;
 use x1_records::Track;
+use x1_verdict::sum_of;
 use x1_verdict::verdicts::verdict_of;
 
 // Where the entry of track i stands.
@@ -73,6 +78,35 @@ pub fn track(f: &[u8], index: usize) -> TrackAnswer
     TrackAnswer::Track(Track::read(f, size_of(f), at))
 }
 
+// Where a point stands, and the entry of its track.
+struct Standing {
+    entry: u16,
+    place: u16,
+}
+
+enum Sought {
+    There(Standing),
+    Nowhere,
+}
+
+// Where the point of an index in the track of an index stands.
+fn find_point(f: &[u8], track: usize, index: usize) -> Sought
+    requires { ⌜ verdictOf (now f) ≡ Verdict.Accepted ⌝ }
+    ensures { λ r. ⌜ r ≡ soughtPoint (now (f .entry)) track index ⌝ }
+{
+    if number_of(f, HEADER, COUNT) <= track {
+        return Sought::Nowhere;
+    }
+    let size = size_of(f);
+    let entry = entry_place(track as u8);
+    let its = Track::read(f, size, entry);
+    if its.points() <= index {
+        return Sought::Nowhere;
+    }
+    let place = point_place(its.first, size, index);
+    Sought::There(Standing { entry, place })
+}
+
 // The point of an index in the track of an index.
 pub fn point(f: &[u8], track: usize, index: usize) -> PointAnswer
     ensures { λ r. ⌜ r ≡ pointOf (now (f .entry)) track index ⌝ }
@@ -81,16 +115,31 @@ pub fn point(f: &[u8], track: usize, index: usize) -> PointAnswer
     let Verdict::Accepted = v else {
         return PointAnswer::Refused(v.fault());
     };
-    if number_of(f, HEADER, COUNT) <= track {
+    let sought = find_point(f, track, index);
+    let Sought::There(at) = sought else {
         return PointAnswer::Refused(refusal(Reason::Question));
-    }
-    let size = size_of(f);
-    let entry = Track::read(f, size, entry_place(track as u8));
-    if entry.points() <= index {
-        return PointAnswer::Refused(refusal(Reason::Question));
-    }
-    let at = point_place(entry.first, size, index);
-    PointAnswer::Point(Point::read(f, size, at))
+    };
+    PointAnswer::Point(Point::read(f, size_of(f), at.place))
+}
+
+// Its coordinate: the track's start plus its own increments.
+pub fn point_coordinate(f: &[u8], track: usize, index: usize) -> CoordinateAnswer
+    ensures { λ r. ⌜ r ≡ pointCoordinateOf (now (f .entry)) track index ⌝ }
+{
+    let v = verdict_of(f);
+    let Verdict::Accepted = v else {
+        return CoordinateAnswer::Refused(v.fault());
+    };
+    let sought = find_point(f, track, index);
+    let Sought::There(at) = sought else {
+        return CoordinateAnswer::Refused(refusal(Reason::Question));
+    };
+    let e = at.entry as u32;
+    let p = at.place as u32;
+    CoordinateAnswer::Coordinate(Coordinate {
+        latitude: sum_of(f, LATITUDE, e, p),
+        longitude: sum_of(f, LONGITUDE, e, p),
+    })
 }
 
 // The coordinate at a position of the track with a number.

@@ -1,21 +1,10 @@
 -- `x1_questions::stretch::along` meets its contract. The two sums are small, so the machine reads them back as they are; inside the
 -- limits rounding always answers.
-use Prim.Native.Nat.{ℕ}
-use mathlib.Core.Path.{_≡_, _∙_}
-use mathlib.Core.List.{List}
-use native.Mathlib.Omega.{arith}
-use lib.IntN.{ℤ}
-use Rattle.octets.proofs.Signs.{read, kept}
-use Rattle.x1_records.specs.declared.Axis.{Axis}
-use Rattle.x1_verdict.specs.Agreement.{axisSum, SumOf}
 use Rattle.rounding.proofs.Answers.{never-outside, given-read}
+use Rattle.x1_questions.proofs.Sums.{summed}
 use borrow.Author.Needs.{needs}
 use Rattle.x1_questions.proofs.stretch.along.Statement.{statement}
 use Rattle.x1_questions.proofs.stretch.along.Tie as tie
-
--- a sum as the machine reads it back
-summed : (f : List ℕ) (axis : Axis) (e p : ℕ) (r : ℤ) → SumOf f axis e p r → read r ≡ axisSum f axis e p
-summed f axis e p r s = let n = s .small in kept r (omega arith) ∙ s .is
 
 returns : tie.Need-returns
 returns c =
