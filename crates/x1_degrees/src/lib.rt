@@ -51,7 +51,7 @@ impl DegreesAnswer {
 }
 
 // Sets the degrees beside a coordinate. In its range it is a number of 32 bits.
-fn surveyed(coordinate: Coordinate) -> Surveyed
+fn beside(coordinate: Coordinate) -> Surveyed
     requires { ⌜ CoordinateRange coordinate ⌝ }
     ensures { λ r. ⌜ r ≡ surveyedAt coordinate ⌝ }
 {
@@ -67,7 +67,7 @@ pub fn degrees_at(f: &[u8], number: usize, position: usize) -> DegreesAnswer
     ensures { λ r. ⌜ r ≡ degreesAsked (now (f .entry)) number position ⌝ }
 {
     match x1_questions::coordinate(f, number, position) {
-        CoordinateAnswer::Coordinate(c) => DegreesAnswer::Surveyed(surveyed(c)),
+        CoordinateAnswer::Coordinate(c) => DegreesAnswer::Surveyed(beside(c)),
         CoordinateAnswer::Refused(fault) => DegreesAnswer::Refused(fault),
     }
 }
@@ -77,7 +77,7 @@ pub fn point_degrees(f: &[u8], track: usize, index: usize) -> DegreesAnswer
     ensures { λ r. ⌜ r ≡ pointDegreesOf (now (f .entry)) track index ⌝ }
 {
     match x1_questions::point_coordinate(f, track, index) {
-        CoordinateAnswer::Coordinate(c) => DegreesAnswer::Surveyed(surveyed(c)),
+        CoordinateAnswer::Coordinate(c) => DegreesAnswer::Surveyed(beside(c)),
         CoordinateAnswer::Refused(fault) => DegreesAnswer::Refused(fault),
     }
 }
