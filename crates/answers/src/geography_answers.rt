@@ -125,7 +125,8 @@ pub fn point(f: &[u8], track: usize, index: usize) -> usize
     }
 }
 
-fn coordinate_lines(c: Coordinate) {
+// A coordinate.
+pub fn coordinate_lines(c: Coordinate) {
     answered();
     signed_line(b"latitude", c.latitude);
     signed_line(b"longitude", c.longitude);

@@ -7,8 +7,10 @@ use octets::byte_after;
 use octets::byte_at;
 use octets::distance;
 
-// How many hexadecimal digits a byte has.
+// How many hexadecimal digits a byte has, and 64 bits.
 const BYTE_DIGITS: usize = 2;
+
+const BITS_DIGITS: usize = 16;
 
 // What parts the names of several lines.
 const SPACE: usize = 0x20;
@@ -108,6 +110,16 @@ pub fn signed_line(name: &[u8], z: i64)
         write(b" ");
     }
     write_number(distance(z));
+    write(b"\n");
+}
+
+// A name and 64 bits, in hexadecimal.
+pub fn bits_line(name: &[u8], bits: u64)
+    ensures { λ r. ⌜ r ≡ tt ⌝ }
+{
+    write(name);
+    write(b" ");
+    io::print_hex(STDOUT_FILENO, bits, BITS_DIGITS);
     write(b"\n");
 }
 

@@ -14,7 +14,7 @@ use route_question::Engine;
 
 // The questions, a line for each: the words of its command and, after two spaces or more, what it answers. Help is these lines; a question is
 // known by its word, and its number is that of its line.
-const QUESTIONS: [u8; 1162] = *b"\
+const QUESTIONS: [u8; 1368] = *b"\
 yardask x1 FILE                                the verdict of an X.1 file: its number and the place of the fault\n\
 yardask x1-version-1 FILE                      the verdict of an X.1 by a reader that knows structure version 1 alone\n\
 yardask x2 FILE                                the verdict of an X.2 file\n\
@@ -24,6 +24,8 @@ yardask header2 FILE                           the versions, the station and the
 yardask track FILE INDEX                       a track of an X.1, by its index from 0\n\
 yardask point FILE TRACK POINT                 a point of a track of an X.1, both by their indexes from 0\n\
 yardask coordinate FILE TRACKNUMBER POSITION   latitude and longitude at a position (centimetres) of a track\n\
+yardask degrees FILE TRACKNUMBER POSITION      the same, and in degrees: a binary64 each, by its bits in hexadecimal\n\
+yardask point-degrees FILE TRACK POINT         the coordinate of a point, and in degrees\n\
 yardask record FILE OFFSET                     the record of an X.2 that starts at an offset\n\
 yardask routes FILE START LIMIT BUDGET ROOM    the routes of an X.2 from a boundary, of at most LIMIT objects (0: 160)\n\
 yardask routes2 FILE START LIMIT BUDGET ROOM   the same, by the second engine\n";
@@ -46,13 +48,17 @@ const POINT: usize = 8;
 
 const COORDINATE: usize = 9;
 
-const RECORD: usize = 10;
+const DEGREES: usize = 10;
 
-const ROUTES: usize = 11;
+const POINT_DEGREES: usize = 11;
 
-const ROUTES2: usize = 12;
+const RECORD: usize = 12;
 
-const HELP: usize = 13;
+const ROUTES: usize = 13;
+
+const ROUTES2: usize = 14;
+
+const HELP: usize = 15;
 
 const NO_QUESTION: usize = 0;
 
@@ -322,6 +328,10 @@ fn answer(question: usize, f: &[u8], a: usize, b: usize) {
         answers::point(f, a, b);
     } else if question == COORDINATE {
         answers::coordinate(f, a, b);
+    } else if question == DEGREES {
+        answers::degrees(f, a, b);
+    } else if question == POINT_DEGREES {
+        answers::point_degrees(f, a, b);
     } else {
         answers::record(f, a);
     }

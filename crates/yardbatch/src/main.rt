@@ -1,6 +1,6 @@
 // Many questions in one run. Standard input is a sequence of cases: the question in 1 byte (x1, x2, pair, track, point, coordinate,
-// record, routes, header1, header2 and routes2 are 1 to 11; 12 to 15 are kept for questions to come and unknown until then; x1-version-1 is 16),
-// four numbers of 4 bytes each, two lengths of 4 bytes each, and the bytes of the first and of the second file; all numbers are
+// record, routes, header1, header2, routes2, degrees and point-degrees are 1 to 13; 14 and 15 are kept for questions to come and unknown until
+// then; x1-version-1 is 16), four numbers of 4 bytes each, two lengths of 4 bytes each, and the bytes of the first and of the second file; all numbers are
 // little-endian. Standard output is, for each case, what yardask prints, and an empty line. Input that ends inside a case, an unknown
 // question, or a list of routes that does not fit the 65,535 words that are here where the case lends more, is a line on standard error and
 // ends the run.
@@ -40,6 +40,10 @@ const HEADER1: usize = 9;
 const HEADER2: usize = 10;
 
 const ROUTES2: usize = 11;
+
+const DEGREES: usize = 12;
+
+const POINT_DEGREES: usize = 13;
 
 const X1_VERSION_1: usize = 16;
 
@@ -172,6 +176,14 @@ fn part_answered(question: usize, head: &[u8], first: &[u8]) -> bool {
     }
     if question == RECORD {
         answers::record(first, a);
+        return true;
+    }
+    if question == DEGREES {
+        answers::degrees(first, a, b);
+        return true;
+    }
+    if question == POINT_DEGREES {
+        answers::point_degrees(first, a, b);
         return true;
     }
     false
