@@ -127,7 +127,7 @@ module _ (f : List ℕ) {n : ℕ} (c : n ≡ countOf f) (i j : ℕ) where
 -- ---- what is answered of it: v is the verdict as it was found, s where the point stands, r what was read there
 
 module _ (f : List ℕ) where
-  abbrev pointFrom : Sought → PointAnswer
+  abbrev pub pointFrom : Sought → PointAnswer
   pointFrom (There w) = point.Point (pointAt f (sizeOf f) (w .place))
   pointFrom Nowhere = point.Refused (refusal reason.Question)
 
@@ -167,7 +167,7 @@ module _ (f : List ℕ) where
     abbrev in-points : Bool
     in-points = ltb j (pointsIn (sizeOf f) (firstOf f (entryPlace i)) (lastOf f (entryPlace i)))
 
-    point-sought : pointOf f i j ≡ pointFrom (soughtPoint f i j)
+    pub point-sought : pointOf f i j ≡ pointFrom (soughtPoint f i j)
     unfolding pointOf soughtPoint
     point-sought = no-fault point.Refused (verdictOf f) _ (sym e ∙ g) ∙ point-tests i j in-tracks in-points
 

@@ -8,3 +8,4 @@ pub mod Points
 pub mod Ranges
 pub mod Base
 pub mod Heights
+pub mod Degrees

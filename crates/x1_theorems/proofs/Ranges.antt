@@ -1,9 +1,9 @@
 -- THEOREM: whatever a question on an X.1 file answers lies in 01's ranges, since only an accepted file is answered of. An increment has no
--- range of its own: the start and what it adds up to have one each, so that it is at most twice as far from 0.
-use Prim.Native.Nat.{ℕ, suc, _+_, _-_, _≤_, _<_}
-use mathlib.Core.Path.{_≡_, refl, sym, ap, subst, _∙_}
-use mathlib.Core.Bool.{Bool, true, false, cond}
-use mathlib.Core.Logic.{⊎-elim}
+-- range of its own: the start and what it adds up to have one each, so that it is at most twice as far from 0. For coordinates it is proved in
+-- x1_questions.
+use Prim.Native.Nat.{ℕ, _+_, _-_, _≤_, _<_}
+use mathlib.Core.Path.{_≡_, ap, subst, _∙_}
+use mathlib.Core.Bool.{cond}
 use mathlib.Core.List.{List}
 use lib.Dec.{ltb}
 use lib.IntN.{ℤ, natAbs, _+ℤ_, _-ℤ_, +ℤ-comm, +ℤ-negℤ-cancel}
@@ -14,7 +14,6 @@ use Rattle.verdict.specs.declared.Reason.the-variants as reason
 use Rattle.verdict.specs.declared.Fault.{Fault}
 use Rattle.verdict.specs.declared.Verdict.the-variants as verdict
 use Rattle.verdict.specs.Answers.{refusal, answerNumber}
-use Rattle.verdict.proofs.Orders.{le-or-lt}
 use Rattle.verdict.proofs.Questions.{accepted-by, some-number}
 use Rattle.envelope.specs.declared.Header.{Header}
 use Rattle.envelope.specs.Header.{headerIn}
@@ -27,26 +26,17 @@ use Rattle.x1_records.specs.declared.Track.{Track}
 use Rattle.x1_records.specs.declared.Point.{Point}
 use Rattle.x1_layout.specs.Layout.{countOf, firstOf, lastOf}
 use Rattle.x1_verdict.specs.Facts.{verdictOf}
-use Rattle.x1_obeys.specs.Obeys.{Between, Within, structureOf, sizeOf, entryPlace, pointPlace, Obeys}
-use Rattle.rounding.proofs.Ends.{coordinate-only, coordinate-size}
+use Rattle.x1_obeys.specs.Obeys.{Between, Within, structureOf, sizeOf, entryPlace, pointPlace}
 use Rattle.rounding.proofs.Sizes.{minus-size}
-use Rattle.x1_lookup.specs.Lookup.{findTrack}
-use Rattle.x1_lookup.specs.declared.Found.{Found}
-use Rattle.x1_lookup.specs.declared.Found.the-variants.{At, Absent}
-use Rattle.x1_lookup.proofs.Lookup.{verdict-obeys, absent-iff}
+use Rattle.x1_lookup.proofs.Lookup.{verdict-obeys}
 use Rattle.x1_questions.specs.declared.answers.HeaderAnswer.the-variants as header
 use Rattle.x1_questions.specs.declared.answers.TrackAnswer.the-variants as track
 use Rattle.x1_questions.specs.declared.answers.PointAnswer.the-variants as point
-use Rattle.x1_questions.specs.declared.answers.Coordinate.{Coordinate}
-use Rattle.x1_questions.specs.declared.answers.CoordinateAnswer.the-variants as coordinate
-use Rattle.x1_questions.specs.Answers.{headerAnswer, trackAnswer, pointAnswer, coordinateAnswer}
-use Rattle.x1_questions.specs.Stretch.{endPositionOf, positionOf, latitudeOf, longitudeOf}
-use Rattle.x1_questions.specs.Coordinate.{Neighbours, NearestAt, CoordinateAt}
-use Rattle.x1_questions.specs.inner.Requires.{TrackObeys}
-use Rattle.x1_questions.specs.Questions.{headerOf, trackIn, trackOf, pointIn, pointOf, onFound, coordinateAsked}
-use Rattle.x1_questions.proofs.Stretches.{track-obeys, found-obeys, named-iff, point-in}
+use Rattle.x1_questions.specs.Answers.{headerAnswer, trackAnswer, pointAnswer}
+use Rattle.x1_questions.specs.Questions.{headerOf, trackIn, trackOf, pointIn, pointOf}
+use Rattle.x1_questions.proofs.Stretches.{track-obeys, named-iff}
+use Rattle.x1_questions.proofs.Ranges.{chosen}
 use Rattle.x1_theorems.proofs.Points.{point-obeys}
-use Rattle.x1_theorems.proofs.Coordinates.{coordinate-nearest, position-refused, track-refused}
 
 -- ---- the ranges
 
@@ -76,15 +66,7 @@ pub record PointRange (p : Point) : Type 0 where
   pub heading : Within 31416 (p .heading)
   pub near : Between 0 1 (p .near)
 
-pub record CoordinateRange (c : Coordinate) : Type 0 where
-  pub latitude : Within 324000000 (c .latitude)
-  pub longitude : Within 648000000 (c .longitude)
-
--- ---- what was chosen: of two answers the one that is not refused
-
-chosen : {A : Type 0} (t : Bool) (a b c : A) → ¬ (b ≡ c) → cond t a b ≡ c → (t ≡ true) × (a ≡ c)
-chosen true a b c n e = (refl, e)
-chosen false a b c n e = absurd (n e)
+-- ---- the theorems
 
 -- what leads from x to a number is no farther from 0 than both together
 step-size : (x y : ℤ) (m : ℕ) → natAbs x ≤ m → natAbs (x +ℤ y) ≤ m → natAbs y ≤ m + m
@@ -93,8 +75,6 @@ step-size x y m h k =
     let s = minus-size (x +ℤ y) x in
     let n = ap natAbs e in
     omega arith
-
--- ---- the theorems
 
 module _ (f : List ℕ) where
   pub header-range : (h : Header) → headerOf f ≡ header.Header h → HeaderRange h
@@ -178,52 +158,3 @@ module _ (f : List ℕ) where
         heading = fields .heading;
         near = fields .near;
       })
-
--- ---- the coordinate: no farther from 0 than the two points that it lies between
-
-module _ (f : List ℕ) (e x : ℕ) (o : TrackObeys f (sizeOf f) e) where
-  on-way : (y : ℕ → ℤ) (limit : ℕ) → ((j : ℕ) → pointPlace f (sizeOf f) e j ≤ lastOf f e → Within limit (y (pointPlace f (sizeOf f) e j)))
-      → (j : ℕ) → Neighbours f (sizeOf f) e x j → (r : ℤ) → NearestAt f y x (pointPlace f (sizeOf f) e j) (pointPlace f (sizeOf f) e (suc j)) r → Within limit r
-  on-way y limit within j n r h =
-      let from = pointPlace f (sizeOf f) e j in
-      let to = pointPlace f (sizeOf f) e (suc j) in
-      let rises = o .agrees .rising j (n .in-track) in
-      let ahead = n .ahead in
-      let past = x - positionOf f from in
-      let long = positionOf f to - positionOf f from in
-      let same = coordinate-only (y from) (y to) past long h (omega arith) in
-      let near = coordinate-size (y from) (y to) past long (omega arith) (omega arith) limit (within j (point-in f (sizeOf f) e (size-positive (structureOf f)) o x j n)) (within (suc j) (n .in-track)) in
-      let size = ap natAbs same in
-      omega arith
-
-  at-range : (r : Coordinate) → CoordinateAt f (sizeOf f) e x r → CoordinateRange r
-  at-range r c = record {
-    latitude = on-way (latitudeOf f e) 324000000 (o .agrees .latitudes) (c .point) (c .between) (r .latitude) (c .latitude);
-    longitude = on-way (longitudeOf f e) 648000000 (o .agrees .longitudes) (c .point) (c .between) (r .longitude) (c .longitude);
-  }
-
-answered-of : (f : List ℕ) (number x : ℕ) (r : Coordinate) → coordinateAsked f number x ≡ coordinate.Coordinate r → verdictOf f ≡ verdict.Accepted
-unfolding coordinateAsked
-answered-of f number x r e =
-    accepted-by coordinate.Refused (verdictOf f) (onFound f (sizeOf f) x (findTrack f number)) (coordinate.Coordinate r)
-    (λ u q. some-number (u .reason) (ap answerNumber (ap coordinateAnswer q))) e .0
-
-pub coordinate-range : (f : List ℕ) (number x : ℕ) (r : Coordinate) → coordinateAsked f number x ≡ coordinate.Coordinate r → CoordinateRange r
-coordinate-range f number x r e = on-found (findTrack f number) refl
-  where
-    never : (u : Fault) → coordinateAsked f number x ≡ coordinate.Refused u → ⊥
-    never u q = some-number (u .reason) (ap answerNumber (ap coordinateAnswer (sym q ∙ e)))
-
-    obeys : Obeys f
-    obeys = (verdict-obeys f) .0 (answered-of f number x r e)
-
-    on-found : (s : Found) → findTrack f number ≡ s → CoordinateRange r
-    on-found Absent q = absurd (never (refusal reason.Track) ((track-refused f obeys number x) .1 ((absent-iff f number) .0 q)))
-    on-found (At at) q =
-        ⊎-elim
-        (λ (h : x ≤ endPositionOf f at).
-        let w = coordinate-nearest f obeys number at q x h in
-        let same : w .0 ≡ r = let z = sym (w .1) ∙ e in cc in
-        subst CoordinateRange same (at-range f at x (found-obeys f obeys number at q) (w .0) (w .2)))
-        (λ (h : endPositionOf f at < x). absurd (never (refusal reason.Position) ((position-refused f obeys number at q x) .1 h)))
-        (le-or-lt x (endPositionOf f at))

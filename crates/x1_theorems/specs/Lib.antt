@@ -3,3 +3,4 @@ pub mod Says
 pub mod Asked
 pub mod Base
 pub mod Heights
+pub mod Degrees
