@@ -11,6 +11,7 @@ pub mod OfX1Layout
 pub mod OfX1Fields
 pub mod OfX1Verdict
 pub mod OfRounding
+pub mod OfDegrees
 pub mod OfDecimal
 pub mod OfX2Records
 pub mod OfX2Layout
@@ -21,6 +22,7 @@ pub mod OfX2Returns
 pub mod OfX2Verdict
 pub mod OfX1Lookup
 pub mod OfX1Questions
+pub mod OfX1Degrees
 pub mod OfPair
 pub mod OfText
 pub mod OfAnswers

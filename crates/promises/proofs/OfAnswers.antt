@@ -12,6 +12,10 @@ use Rattle.answers.proofs.point.Kinds as point-kinds
 use Rattle.answers.proofs.point.Reads as point-reads
 use Rattle.answers.proofs.coordinate.Kinds as coordinate-kinds
 use Rattle.answers.proofs.coordinate.Reads as coordinate-reads
+use Rattle.answers.proofs.degrees.Kinds as degrees-kinds
+use Rattle.answers.proofs.degrees.Reads as degrees-reads
+use Rattle.answers.proofs.point_degrees.Kinds as point-degrees-kinds
+use Rattle.answers.proofs.point_degrees.Reads as point-degrees-reads
 use Rattle.answers.proofs.pair.Kinds as pair-kinds
 use Rattle.answers.proofs.pair.Reads as pair-reads
 use Rattle.answers.proofs.x2.Kinds as x2-kinds
@@ -37,6 +41,12 @@ point-determined κs a = by-equation (λ v w. refl)
 
 pub coordinate-determined : Determined 1 coordinate-kinds.ps coordinate-kinds.r coordinate-reads.Pre coordinate-reads.Post
 coordinate-determined κs a = by-equation (λ v w. refl)
+
+pub degrees-determined : Determined 1 degrees-kinds.ps degrees-kinds.r degrees-reads.Pre degrees-reads.Post
+degrees-determined κs a = by-equation (λ v w. refl)
+
+pub point-degrees-determined : Determined 1 point-degrees-kinds.ps point-degrees-kinds.r point-degrees-reads.Pre point-degrees-reads.Post
+point-degrees-determined κs a = by-equation (λ v w. refl)
 
 pub pair-determined : Determined 2 pair-kinds.ps pair-kinds.r pair-reads.Pre pair-reads.Post
 pair-determined κs a = by-equation (λ v w. refl)

@@ -16,6 +16,8 @@ use Rattle.text.proofs.lines.Kinds as lines-kinds
 use Rattle.text.proofs.lines.Reads as lines-reads
 use Rattle.text.proofs.signed_line.Kinds as signed-line-kinds
 use Rattle.text.proofs.signed_line.Reads as signed-line-reads
+use Rattle.text.proofs.bits_line.Kinds as bits-line-kinds
+use Rattle.text.proofs.bits_line.Reads as bits-line-reads
 use Rattle.text.proofs.name_line.Kinds as name-line-kinds
 use Rattle.text.proofs.name_line.Reads as name-line-reads
 use Rattle.text.proofs.message_line.Kinds as message-line-kinds
@@ -41,6 +43,9 @@ lines-determined κs a = by-equation (λ v w. refl)
 
 pub signed-line-determined : Determined 1 signed-line-kinds.ps signed-line-kinds.r signed-line-reads.Pre signed-line-reads.Post
 signed-line-determined κs a = by-equation (λ v w. refl)
+
+pub bits-line-determined : Determined 1 bits-line-kinds.ps bits-line-kinds.r bits-line-reads.Pre bits-line-reads.Post
+bits-line-determined κs a = by-equation (λ v w. refl)
 
 pub name-line-determined : Determined 2 name-line-kinds.ps name-line-kinds.r name-line-reads.Pre name-line-reads.Post
 name-line-determined κs a = by-equation (λ v w. refl)

@@ -6,6 +6,8 @@ use Rattle.x1_questions.proofs.track.Kinds as track-kinds
 use Rattle.x1_questions.proofs.track.Reads as track-reads
 use Rattle.x1_questions.proofs.point.Kinds as point-kinds
 use Rattle.x1_questions.proofs.point.Reads as point-reads
+use Rattle.x1_questions.proofs.point_coordinate.Kinds as point-coordinate-kinds
+use Rattle.x1_questions.proofs.point_coordinate.Reads as point-coordinate-reads
 use Rattle.x1_questions.proofs.coordinate.Kinds as coordinate-kinds
 use Rattle.x1_questions.proofs.coordinate.Reads as coordinate-reads
 use Rattle.x1_questions.proofs.header.Kinds as header-kinds
@@ -16,6 +18,9 @@ track-determined κs a = by-equation (λ v w. refl)
 
 pub point-determined : Determined 1 point-kinds.ps point-kinds.r point-reads.Pre point-reads.Post
 point-determined κs a = by-equation (λ v w. refl)
+
+pub point-coordinate-determined : Determined 1 point-coordinate-kinds.ps point-coordinate-kinds.r point-coordinate-reads.Pre point-coordinate-reads.Post
+point-coordinate-determined κs a = by-equation (λ v w. refl)
 
 pub coordinate-determined : Determined 1 coordinate-kinds.ps coordinate-kinds.r coordinate-reads.Pre coordinate-reads.Post
 coordinate-determined κs a = by-equation (λ v w. refl)

@@ -7,7 +7,7 @@ use mathlib.Core.List.{List}
 use lib.Dec.{ltb, leb}
 use lib.IntN.{ℤ, natAbs}
 use native.Mathlib.Omega.{arith}
-use borrow.Author.Tests.{ltb-true}
+use borrow.Author.Tests.{ltb-true, lt-ltb}
 use Rattle.verdict.specs.declared.Reason.the-variants as reason
 use Rattle.verdict.specs.declared.Fault.{Fault}
 use Rattle.verdict.specs.declared.Verdict.{Verdict}
@@ -93,7 +93,7 @@ coordinate-range f number x c q =
 
 -- ---- of a point
 
-module _ (f : List ℕ) (i j : ℕ) (c : Coordinate) where
+module _ (f : List ℕ) (i j : ℕ) where
   abbrev its-entry : ℕ
   its-entry = entryPlace i
 
@@ -103,21 +103,26 @@ module _ (f : List ℕ) (i j : ℕ) (c : Coordinate) where
   abbrev its : Coordinate
   its = pointCoordinate f its-entry (pointPlace f (sizeOf f) its-entry j)
 
+  -- where there is such a point, it is answered
+  pub coordinate-named : verdictOf f ≡ verdict.Accepted → i < countOf f → j < points → pointCoordinateOf f i j ≡ coordinate.Coordinate its
+  unfolding soughtPoint
+  coordinate-named g h k = coordinate-sought f refl g i j ∙ rw (lt-ltb i (countOf f) h, lt-ltb j points k) refl
+
   in-file : Obeys f → i < countOf f → j < points → CoordinateRange its
   in-file o h k =
       let t = track-obeys f o i h in
       let l = (named-iff f (sizeOf f) its-entry (size-positive (structureOf f)) t j) .0 k in
       record { latitude = t .agrees .latitudes j l; longitude = t .agrees .longitudes j l }
 
-  by-tests : Obeys f → (a b : Bool) → ltb i (countOf f) ≡ a → ltb j points ≡ b → coordinateFrom f (sought f i j a b) ≡ coordinate.Coordinate c → CoordinateRange c
-  by-tests o false b g h r = absurd (never c (refusal reason.Question) r)
-  by-tests o true false g h r = absurd (never c (refusal reason.Question) r)
-  by-tests o true true g h r = let same : its ≡ c = cc in subst CoordinateRange same (in-file o (ltb-true i (countOf f) g) (ltb-true j points h))
+  by-tests : Obeys f → (c : Coordinate) (a b : Bool) → ltb i (countOf f) ≡ a → ltb j points ≡ b → coordinateFrom f (sought f i j a b) ≡ coordinate.Coordinate c → CoordinateRange c
+  by-tests o c false b g h r = absurd (never c (refusal reason.Question) r)
+  by-tests o c true false g h r = absurd (never c (refusal reason.Question) r)
+  by-tests o c true true g h r = let same : its ≡ c = cc in subst CoordinateRange same (in-file o (ltb-true i (countOf f) g) (ltb-true j points h))
 
-  pub point-coordinate-range : pointCoordinateOf f i j ≡ coordinate.Coordinate c → CoordinateRange c
+  pub point-coordinate-range : (c : Coordinate) → pointCoordinateOf f i j ≡ coordinate.Coordinate c → CoordinateRange c
   unfolding soughtPoint
-  point-coordinate-range q = by-verdict (verdictOf f) refl
+  point-coordinate-range c q = by-verdict (verdictOf f) refl
     where
       by-verdict : (v : Verdict) → verdictOf f ≡ v → CoordinateRange c
       by-verdict (verdict.Refused t) g = absurd (never c t (sym (file-fault f t g .3 i j) ∙ q))
-      by-verdict verdict.Accepted g = by-tests ((verdict-obeys f) .0 g) (ltb i (countOf f)) (ltb j points) refl refl (sym (coordinate-sought f refl g i j) ∙ q)
+      by-verdict verdict.Accepted g = by-tests ((verdict-obeys f) .0 g) c (ltb i (countOf f)) (ltb j points) refl refl (sym (coordinate-sought f refl g i j) ∙ q)

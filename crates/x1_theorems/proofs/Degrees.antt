@@ -11,7 +11,13 @@ use Rattle.verdict.specs.declared.Fault.{Fault}
 use Rattle.verdict.specs.Answers.{answerNumber, answerPlace, answerValues}
 use Rattle.verdict.specs.Order.{Asked}
 use Rattle.verdict.proofs.Questions.{some-number}
+use Rattle.x1_records.specs.declared.Point.{Point}
+use Rattle.x1_records.specs.Tracks.{pointAt}
+use Rattle.x1_records.proofs.Whole.{size-positive}
 use Rattle.x1_verdict.specs.Facts.{verdictOf}
+use Rattle.x1_obeys.specs.Obeys.{structureOf, sizeOf, entryPlace, pointPlace}
+use Rattle.x1_lookup.specs.Lookup.{numberAt}
+use Rattle.x1_lookup.proofs.Lookup.{verdict-obeys, found-iff}
 use Rattle.degrees.specs.Degrees.{degreesOf}
 use Rattle.degrees_theorems.proofs.Once.{conversion-exact, one-rounding}
 use Rattle.degrees_theorems.proofs.Numbers.{degrees-finite}
@@ -26,7 +32,9 @@ use Rattle.x1_questions.specs.Answers.{coordinateAnswer}
 use Rattle.x1_questions.specs.Coordinate.{CoordinateRange}
 use Rattle.x1_questions.specs.Questions.{trackOf, pointOf, ofBoth, pointCoordinateOf, coordinateAsked}
 use Rattle.x1_questions.proofs.Alike.{point-alike}
-use Rattle.x1_questions.proofs.Ranges.{coordinate-range, point-coordinate-range}
+use Rattle.x1_questions.specs.Stretch.{positionOf}
+use Rattle.x1_questions.proofs.Stretches.{track-obeys, named-iff}
+use Rattle.x1_questions.proofs.Ranges.{coordinate-range, coordinate-named, point-coordinate-range}
 use Rattle.x1_degrees.specs.declared.Surveyed.{Surveyed}
 use Rattle.x1_degrees.specs.declared.DegreesAnswer.{DegreesAnswer}
 use Rattle.x1_degrees.specs.declared.DegreesAnswer.the-variants as answer
@@ -35,6 +43,8 @@ use Rattle.x1_degrees.specs.Questions.{surveyedAt, withDegrees, degreesAsked, p
 use Rattle.x1_theorems.specs.Asked.{pointChecks, coordinateChecks}
 use Rattle.x1_theorems.specs.Degrees.{DegreesOf, InDegrees, StandsAt}
 use Rattle.x1_theorems.proofs.Asked.{point-asked, coordinate-asked}
+use Rattle.x1_theorems.proofs.Coordinates.{coordinate-at-point}
+use Rattle.x1_theorems.proofs.Ranges.{point-handed}
 
 -- ---- the number and the place, of two answers that have the same ones
 
@@ -111,6 +121,22 @@ unfolding pointDegreesOf
 point-degrees-beside f i j s e =
     let w = its-own (pointCoordinateOf f i j) s e in
     subst InDegrees (sym (w .1)) (both (s .coordinate) (point-coordinate-range f i j (s .coordinate) (w .0)))
+
+-- ---- the two questions
+
+-- THEOREM: at the position of a point, on its track, the answer is that of the point.
+pub degrees-agree : (f : List ℕ) (i j : ℕ) (p : Point) → pointOf f i j ≡ point.Point p → degreesAsked f (numberAt f (entryPlace i)) (p .position) ≡ pointDegreesOf f i j
+unfolding degreesAsked pointDegreesOf pointAt
+degrees-agree f i j p e =
+    let w = point-handed f i j p e in
+    let o = (verdict-obeys f) .0 (w .accepted) in
+    let at = entryPlace i in
+    let number = numberAt f at in
+    let found = (found-iff f o number at) .1 (record { track = i; in-file = w .track; there = refl; same = refl }) in
+    let named = (named-iff f (sizeOf f) at (size-positive (structureOf f)) (track-obeys f o i (w .track)) j) .0 (w .point) in
+    let position : positionOf f (pointPlace f (sizeOf f) at j) ≡ p .position = ap (λ (u : Point). u .position) (w .same) in
+    ap withDegrees
+    (ap (coordinateAsked f number) (sym position) ∙ coordinate-at-point f o number at found j named ∙ sym (coordinate-named f i j (w .accepted) (w .track) (w .point)))
 
 -- ---- the answer in the one shape
 
