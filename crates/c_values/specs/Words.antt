@@ -46,6 +46,10 @@ wordOf (negsuc n) = overWord - 1 - n % overWord
 abbrev pub valueWords : List ℤ → List ℕ
 valueWords values = map wordOf values
 
+-- a number of eight bytes as two values, its low four bytes first
+abbrev pub halves : ℕ → List ℤ
+halves n = pos (n % overWord) ∷ pos (n / overWord) ∷ []
+
 -- the four bytes, low byte first
 unfoldable pub wordBytes : ℕ → List ℕ
 wordBytes w = w % overByte ∷ w / overByte % overByte ∷ w / overTwo % overByte ∷ w / overThree % overByte ∷ []

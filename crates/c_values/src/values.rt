@@ -6,12 +6,16 @@ ghost use Rattle.x1_records.specs.Tracks.{heightValues};
 ghost use Rattle.x1_questions.specs.Answers.{trackValues, pointValues, coordinateValues};
 ghost use Rattle.x2_verdict.specs.Answers.{namedHeaderValues, valueCount, boundaryFields, filled, recordValues};
 ghost use Rattle.route_lister.specs.Answered.{tallyValues};
-ghost use Rattle.c_values.specs.Words.{valueWords};
+ghost use Rattle.c_values.specs.Words.{valueWords, halves};
+ghost use Rattle.c_values.specs.Degrees.{surveyedValues};
+use crate::words::OVER_WORD;
 use crate::words::signed_word;
 use crate::words::word;
+use degrees::bits_of;
 use envelope::Header;
 use names::Name;
 use route_walks::Tally;
+use x1_degrees::Surveyed;
 use x1_questions::Coordinate;
 use x1_records::Height;
 use x1_records::Point;
@@ -37,6 +41,10 @@ pub const POINT_VALUES: usize = 7;
 const HEIGHT_VALUES: usize = 2;
 
 pub const COORDINATE_VALUES: usize = 2;
+
+const BITS_VALUES: usize = 2;
+
+pub const DEGREES_VALUES: usize = 6;
 
 pub const RECORD_VALUES: usize = 12;
 
@@ -129,6 +137,32 @@ pub fn coordinate_words(c: Coordinate) -> [u32; COORDINATE_VALUES]
     ensures { λ r. ⌜ r ≡ valueWords (coordinateValues c) ⌝ }
 {
     [signed_word(c.latitude), signed_word(c.longitude)]
+}
+
+// The bits of a binary64, low four bytes first.
+fn bits_words(bits: u64) -> [u32; BITS_VALUES]
+    ensures { λ r. ⌜ r ≡ valueWords (halves bits) ⌝ }
+{
+    let n = bits as usize;
+    [word(n % OVER_WORD), word(n / OVER_WORD)]
+}
+
+// A coordinate, and the same in degrees.
+pub fn degrees_words(s: Surveyed) -> [u32; DEGREES_VALUES]
+    ensures { λ r. ⌜ r ≡ valueWords (surveyedValues s) ⌝ }
+{
+    let coordinate = s.coordinate;
+    let degrees = s.degrees;
+    let latitude = bits_words(bits_of(degrees.latitude));
+    let longitude = bits_words(bits_of(degrees.longitude));
+    [
+        signed_word(coordinate.latitude),
+        signed_word(coordinate.longitude),
+        latitude[0],
+        latitude[1],
+        longitude[0],
+        longitude[1],
+    ]
 }
 
 // A boundary of either kind.

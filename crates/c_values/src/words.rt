@@ -18,7 +18,7 @@ const OVER_TWO: usize = 0x1_0000;
 
 const OVER_THREE: usize = 0x100_0000;
 
-const OVER_WORD: usize = 0x1_0000_0000;
+pub const OVER_WORD: usize = 0x1_0000_0000;
 
 // How many bytes a value has.
 const VALUE_SIZE: usize = 4;
