@@ -1,6 +1,6 @@
 -- The ways out of a question with an output, once for every kind of answer.
 use Prim.Native.Nat.{ℕ, _≤_, _<_}
-use mathlib.Core.Path.{_≡_, refl, sym, ap, _∙_}
+use mathlib.Core.Path.{_≡_, refl, sym, ap, subst, _∙_}
 use mathlib.Core.Bool.{Bool, true, false}
 use mathlib.Core.List.{List}
 use lib.IntN.{ℤ}
@@ -44,6 +44,12 @@ module _ {A : Type 0} (shape : A → Answer) {asked got way : A} (p : got ≡ as
   fault-shown out {n} {t} v s =
       let a : refused n t ≡ shape asked = sym v ∙ same in
       (s ∙ ap (λ (x : Answer). shown x out) a, ap (λ (x : Answer). leaves x out) a)
+
+-- the same where another function shows the answer that was given
+pub given-shown :
+    {A : Type 0} (shape : A → Answer) {asked got : A} → got ≡ asked → (out : List ℕ) {r : ℕ} {out′ : List ℕ}
+    → (r ≡ shown (shape got) out) × (out′ ≡ leaves (shape got) out) → (r ≡ shown (shape asked) out) × (out′ ≡ leaves (shape asked) out)
+given-shown {A} shape p out {r} {out′} s = subst (λ (x : A). (r ≡ shown (shape x) out) × (out′ ≡ leaves (shape x) out)) p s
 
 -- ---- routes
 

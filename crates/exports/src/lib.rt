@@ -9,11 +9,14 @@ ghost use Rattle.x2_verdict.specs.Questions.{namedHeaderOf, recordOf};
 ghost use Rattle.pair.specs.Pair.{pairOf};
 ghost use Rattle.x1_questions.specs.Answers.{headerAnswer, trackAnswer, pointAnswer, coordinateAnswer};
 ghost use Rattle.x1_questions.specs.Questions.{headerOf, trackOf, pointOf, coordinateAsked};
+ghost use Rattle.x1_degrees.specs.Questions.{degreesAsked, pointDegreesOf};
 ghost use Rattle.route_walks.specs.Lent.{roomOf};
 ghost use Rattle.route_lister.specs.Answered.{routesAnswer};
 ghost use Rattle.route_question.specs.Routes.{routesAsked, leftAsked};
+ghost use Rattle.c_values.specs.Degrees.{degreesLaid};
 ghost use Rattle.c_values.specs.Shown.{verdictShown, pairShown, shown, leaves, wordsLeft};
 use c_values::values::coordinate_words;
+use c_values::values::degrees_words;
 use c_values::values::header_words;
 use c_values::values::named_header_words;
 use c_values::values::point_words;
@@ -26,6 +29,7 @@ use c_values::words::refused;
 use c_values::words::show;
 use route_lister::RoutesAnswer;
 use verdict::Verdict;
+use x1_degrees::DegreesAnswer;
 use x1_questions::CoordinateAnswer;
 use x1_questions::HeaderAnswer;
 use x1_questions::PointAnswer;
@@ -144,6 +148,35 @@ pub extern "C" fn yard_coordinate(
         CoordinateAnswer::Coordinate(c) => show(&coordinate_words(c), out),
         CoordinateAnswer::Refused(fault) => refused(fault),
     }
+}
+
+// Answers with a coordinate and its degrees, or says why there is none.
+fn show_degrees(a: DegreesAnswer, out: &mut [u8]) -> u64
+    ensures { λ r. ⌜ r ≡ shown (degreesLaid a) (now (out .entry)) ⌝ }
+    ensures { λ _. ⌜ now (out .exit) ≡ leaves (degreesLaid a) (now (out .entry)) ⌝ }
+{
+    match a {
+        DegreesAnswer::Surveyed(s) => show(&degrees_words(s), out),
+        DegreesAnswer::Refused(fault) => refused(fault),
+    }
+}
+
+// The coordinate at a position of the track with a number, in degrees too.
+#[no_mangle]
+pub extern "C" fn yard_degrees(file: &[u8], number: usize, position: usize, out: &mut [u8]) -> u64
+    ensures { λ r. ⌜ r ≡ shown (degreesLaid (degreesAsked (now (file .entry)) number position)) (now (out .entry)) ⌝ }
+    ensures { λ _. ⌜ now (out .exit) ≡ leaves (degreesLaid (degreesAsked (now (file .entry)) number position)) (now (out .entry)) ⌝ }
+{
+    show_degrees(x1_degrees::degrees_at(file, number, position), out)
+}
+
+// The coordinate of the point of an index in the track of an index, in degrees too.
+#[no_mangle]
+pub extern "C" fn yard_point_degrees(file: &[u8], track: usize, index: usize, out: &mut [u8]) -> u64
+    ensures { λ r. ⌜ r ≡ shown (degreesLaid (pointDegreesOf (now (file .entry)) track index)) (now (out .entry)) ⌝ }
+    ensures { λ _. ⌜ now (out .exit) ≡ leaves (degreesLaid (pointDegreesOf (now (file .entry)) track index)) (now (out .entry)) ⌝ }
+{
+    show_degrees(x1_degrees::point_degrees(file, track, index), out)
 }
 
 // The record that starts at a place.
