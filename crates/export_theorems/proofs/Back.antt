@@ -24,6 +24,8 @@ use Rattle.x1_questions.specs.declared.answers.PointAnswer.the-variants as poin
 use Rattle.x1_questions.specs.declared.answers.CoordinateAnswer.{CoordinateAnswer}
 use Rattle.x1_questions.specs.declared.answers.CoordinateAnswer.the-variants as coordinate
 use Rattle.x1_questions.specs.Answers.{headerAnswer, trackAnswer, pointAnswer, coordinateAnswer}
+use Rattle.x1_degrees.specs.declared.DegreesAnswer.{DegreesAnswer}
+use Rattle.x1_degrees.specs.declared.DegreesAnswer.the-variants as degrees
 use Rattle.x2_verdict.specs.declared.NamedHeaderAnswer.{NamedHeaderAnswer}
 use Rattle.x2_verdict.specs.declared.NamedHeaderAnswer.the-variants as named
 use Rattle.x2_verdict.specs.declared.RecordAnswer.{RecordAnswer}
@@ -33,6 +35,7 @@ use Rattle.route_lister.specs.declared.RoutesAnswer.{RoutesAnswer}
 use Rattle.route_lister.specs.declared.RoutesAnswer.the-variants as listed
 use Rattle.route_lister.specs.Answered.{routesAnswer}
 use Rattle.c_values.specs.Words.{overByte, overTwo, overThree, overWord, valueSize, wordOf, valueWords, wordBytes, laidBytes}
+use Rattle.c_values.specs.Degrees.{degreesLaid}
 use Rattle.c_values.specs.Shown.{countsSize}
 use Rattle.c_values.proofs.Laid.{bytes-length}
 
@@ -128,6 +131,13 @@ coordinate-size a = answer-size (coordinateAnswer a) 2 (count a)
     count : (a : CoordinateAnswer) → length (answerValues (coordinateAnswer a)) ≡ 2
     count (coordinate.Coordinate c) = refl
     count (coordinate.Refused t) = refl
+
+pub degrees-size : (a : DegreesAnswer) → length (laidBytes (valueWords (answerValues (degreesLaid a)))) ≡ 24
+degrees-size a = answer-size (degreesLaid a) 6 (count a)
+  where
+    count : (a : DegreesAnswer) → length (answerValues (degreesLaid a)) ≡ 6
+    count (degrees.Surveyed s) = refl
+    count (degrees.Refused t) = refl
 
 filled-length : (n : ℕ) (l : List ℕ) → length (filled n l) ≡ n
 filled-length zero l = refl

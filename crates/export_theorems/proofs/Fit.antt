@@ -16,18 +16,20 @@ use Rattle.tables.specs.Table.{Sign, unsigned, signed, Row}
 use Rattle.x1_records.specs.Rows.{entryTable, pointTable, height}
 use Rattle.x1_questions.specs.Answers.{headerAnswer, trackAnswer, pointAnswer, coordinateAnswer}
 use Rattle.x1_questions.specs.Questions.{headerOf, trackOf, pointOf, coordinateAsked}
+use Rattle.x1_degrees.specs.Questions.{degreesAsked, pointDegreesOf}
 use Rattle.x2_verdict.specs.Answers.{namedHeaderAnswer, recordAnswer}
 use Rattle.x2_verdict.specs.Questions.{namedHeaderOf, recordOf}
 use Rattle.route_lister.specs.Answered.{routesAnswer}
 use Rattle.route_question.specs.Routes.{routesAsked}
 use Rattle.c_values.specs.Words.{valueSize, wordOf, valueWords, laidBytes, numberPart}
+use Rattle.c_values.specs.Degrees.{degreesLaid}
 use Rattle.c_values.specs.Shown.{short, wordsLeave, shown}
 use Rattle.export_theorems.specs.TakenApart.{numberShown}
-use Rattle.export_theorems.specs.Fit.{header1Signed, header2Signed, trackSigned, pointSigned, coordinateSigned, recordSigned, routesSigned, Fits, Back, AllFit, AnswerFits, AnswerBack}
+use Rattle.export_theorems.specs.Fit.{header1Signed, header2Signed, trackSigned, pointSigned, coordinateSigned, degreesSigned, recordSigned, routesSigned, Fits, Back, AllFit, AnswerFits, AnswerBack}
 use Rattle.c_values.proofs.Numbers.{number-above}
 use Rattle.export_theorems.proofs.Back.{value-at, number-word, signed-word}
-use Rattle.export_theorems.proofs.Fitting.{header1-fits, header2-fits, track-fits, point-fits, coordinate-fits, record-fits, routes-fits}
-use Rattle.export_theorems.proofs.TakenApart.{header1-parts, header2-parts, track-parts, point-parts, coordinate-parts, record-parts, routes-parts}
+use Rattle.export_theorems.proofs.Fitting.{header1-fits, header2-fits, track-fits, point-fits, coordinate-fits, degrees-fits, point-degrees-fits, record-fits, routes-fits}
+use Rattle.export_theorems.proofs.TakenApart.{header1-parts, header2-parts, track-parts, point-parts, coordinate-parts, degrees-parts, point-degrees-parts, record-parts, routes-parts}
 
 -- ---- a value that fits comes back
 
@@ -94,6 +96,12 @@ module _ (out f : List ℕ) where
   pub coordinate-back : (number x : ℕ) → AnswerBack coordinateSigned (coordinateAnswer (coordinateAsked f number x)) out
   coordinate-back number x =
       answer-back coordinateSigned (coordinateAnswer (coordinateAsked f number x)) out (coordinate-parts out f number x .number-is) (coordinate-fits f number x)
+
+  pub degrees-back : (number x : ℕ) → AnswerBack degreesSigned (degreesLaid (degreesAsked f number x)) out
+  degrees-back number x = answer-back degreesSigned (degreesLaid (degreesAsked f number x)) out (degrees-parts out f number x .number-is) (degrees-fits f number x)
+
+  pub point-degrees-back : (i j : ℕ) → AnswerBack degreesSigned (degreesLaid (pointDegreesOf f i j)) out
+  point-degrees-back i j = answer-back degreesSigned (degreesLaid (pointDegreesOf f i j)) out (point-degrees-parts out f i j .number-is) (point-degrees-fits f i j)
 
   -- the file's bytes are below 256, as those of every slice are
   pub record-back : ((i : ℕ) → getD f i 0 < 256) → (x : ℕ) → AnswerBack recordSigned (recordAnswer (recordOf f x)) out

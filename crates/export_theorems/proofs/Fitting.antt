@@ -1,7 +1,7 @@
 -- THEOREM: in the C library every value of an answer fits its four bytes. Only an accepted file is answered of, and its ranges keep the values
 -- small. Where a record's field has no range, its number has at most four bytes. The counts of a list of routes are kept small by the budget
 -- and the limit.
-use Prim.Native.Nat.{ℕ, zero, suc, _≤_, _<_}
+use Prim.Native.Nat.{ℕ, zero, suc, _*_, _≤_, _<_}
 use native.Mathlib.Omega.{arith}
 use mathlib.Core.Path.{_≡_, refl}
 use mathlib.Core.Bool.{Bool, true, false}
@@ -9,6 +9,8 @@ use mathlib.Core.List.{List, [], _∷_}
 use lib.IntN.{ℤ, pos, negsuc, natAbs}
 use lib.ListN.{length, getD, replicate}
 use lib.Dec.{ltb}
+use lib.Ieee.{binary64, toBits}
+use lib.Ieee.Bits.{toBits-lt}
 use borrow.Author.Tests.{ltb-false}
 use Rattle.octets.specs.Octets.{halfOf}
 use Rattle.verdict.specs.declared.Verdict.{Verdict}
@@ -23,13 +25,19 @@ use Rattle.x1_records.specs.declared.Height.{Height}
 use Rattle.x1_records.specs.declared.Height.the-variants.{Decimetres, NoHeight}
 use Rattle.x1_records.specs.Tracks.{heightValues}
 use Rattle.x1_questions.specs.declared.answers.PointAnswer.the-variants as point
+use Rattle.x1_questions.specs.declared.answers.Coordinate.{Coordinate}
 use Rattle.x1_questions.specs.declared.answers.CoordinateAnswer.{CoordinateAnswer}
 use Rattle.x1_questions.specs.declared.answers.CoordinateAnswer.the-variants as coordinate
 use Rattle.x1_questions.specs.Answers.{headerAnswer, trackAnswer, pointAnswer, coordinateAnswer}
-use Rattle.x1_questions.specs.Questions.{headerOf, trackOf, pointOf, coordinateAsked}
+use Rattle.x1_questions.specs.Coordinate.{CoordinateRange}
+use Rattle.x1_questions.specs.Questions.{headerOf, trackOf, pointOf, pointCoordinateOf, coordinateAsked}
+use Rattle.x1_questions.proofs.Ranges.{coordinate-range, point-coordinate-range}
+use Rattle.degrees.specs.Degrees.{degreesOf}
+use Rattle.degrees_theorems.proofs.Numbers.{degrees-fit}
+use Rattle.x1_degrees.specs.Questions.{surveyedAt, withDegrees, degreesAsked, pointDegreesOf}
 use Rattle.x1_theorems.specs.Heights.{HeightRange}
 use Rattle.x1_theorems.proofs.Heights.{height-range}
-use Rattle.x1_theorems.proofs.Ranges.{header-range, track-range, point-range, coordinate-range}
+use Rattle.x1_theorems.proofs.Ranges.{header-range, track-range, point-range}
 use Rattle.x2_verdict.specs.declared.NamedHeaderAnswer.{NamedHeaderAnswer}
 use Rattle.x2_verdict.specs.declared.NamedHeaderAnswer.the-variants as named
 use Rattle.x2_verdict.specs.declared.RecordAnswer.{RecordAnswer}
@@ -46,8 +54,9 @@ use Rattle.route_lister.specs.declared.RoutesAnswer.the-variants.{Refused}
 use Rattle.route_lister.specs.Answered.{limitOf, inRange, tallyOf, judged, answerAt, tallyValues, routesAnswer}
 use Rattle.route_lister.proofs.Whole.{in-range-iff}
 use Rattle.route_question.specs.Routes.{routesAsked}
-use Rattle.c_values.specs.Words.{valueSize}
-use Rattle.export_theorems.specs.Fit.{header1Signed, header2Signed, trackSigned, pointSigned, coordinateSigned, recordSigned, routesSigned, Fits, AllFit, AnswerFits}
+use Rattle.c_values.specs.Words.{overWord, valueSize}
+use Rattle.c_values.specs.Degrees.{surveyedValues, degreesLaid}
+use Rattle.export_theorems.specs.Fit.{header1Signed, header2Signed, trackSigned, pointSigned, coordinateSigned, degreesSigned, recordSigned, routesSigned, Fits, AllFit, AnswerFits}
 use Rattle.export_theorems.proofs.Counts.{fewer-routes, few-words}
 
 -- ---- within plus or minus so much
@@ -55,6 +64,28 @@ use Rattle.export_theorems.proofs.Counts.{fewer-routes, few-words}
 near : (z : ℤ) (m : ℕ) → natAbs z ≤ m → m < halfOf valueSize → Fits true z
 near (pos n) m h l = omega arith
 near (negsuc n) m h l = omega arith
+
+-- ---- a coordinate in its range, and its degrees
+
+latitude-fits : (c : Coordinate) → CoordinateRange c → Fits true (c .latitude)
+latitude-fits c r = near (c .latitude) 324000000 (r .latitude) (omega arith)
+
+longitude-fits : (c : Coordinate) → CoordinateRange c → Fits true (c .longitude)
+longitude-fits c r = near (c .longitude) 648000000 (r .longitude) (omega arith)
+
+-- the bits of degrees are a number of eight bytes, so that its high half is one of four
+bits-below : (z : ℤ) → toBits binary64 (degreesOf z) < overWord * overWord
+bits-below z = toBits-lt binary64 (degreesOf z) (degrees-fit z)
+
+surveyed-fits : (c : Coordinate) → CoordinateRange c → AllFit degreesSigned (surveyedValues (surveyedAt c))
+surveyed-fits c r =
+    let latitude = bits-below (c .latitude) in
+    let longitude = bits-below (c .longitude) in
+    (latitude-fits c r, (longitude-fits c r, (omega arith, (omega arith, (omega arith, (omega arith, tt))))))
+
+degrees-fitting : (a : CoordinateAnswer) → ((c : Coordinate) → a ≡ coordinate.Coordinate c → CoordinateRange c) → AnswerFits degreesSigned (degreesLaid (withDegrees a))
+degrees-fitting (coordinate.Coordinate c) range = surveyed-fits c (range c refl)
+degrees-fitting (coordinate.Refused t) range = tt
 
 -- ---- a record's values, with zeros after the last one
 
@@ -149,8 +180,16 @@ module _ (f : List ℕ) where
       by-answer : (a : CoordinateAnswer) → coordinateAsked f number x ≡ a → AnswerFits coordinateSigned (coordinateAnswer a)
       by-answer (coordinate.Coordinate c) e =
           let r = coordinate-range f number x c e in
-          (near (c .latitude) 324000000 (r .latitude) (omega arith), (near (c .longitude) 648000000 (r .longitude) (omega arith), tt))
+          (latitude-fits c r, (longitude-fits c r, tt))
       by-answer (coordinate.Refused t) e = tt
+
+  pub degrees-fits : (number x : ℕ) → AnswerFits degreesSigned (degreesLaid (degreesAsked f number x))
+  unfolding degreesAsked
+  degrees-fits number x = degrees-fitting (coordinateAsked f number x) (coordinate-range f number x)
+
+  pub point-degrees-fits : (i j : ℕ) → AnswerFits degreesSigned (degreesLaid (pointDegreesOf f i j))
+  unfolding pointDegreesOf
+  point-degrees-fits i j = degrees-fitting (pointCoordinateOf f i j) (point-coordinate-range f i j)
 
   -- ---- X.2
 

@@ -3,3 +3,4 @@ pub mod TakenApart
 pub mod Counts
 pub mod Fitting
 pub mod Fit
+pub mod Doubles

@@ -12,8 +12,15 @@ use Rattle.verdict.specs.declared.PairVerdict.the-variants as pair
 use Rattle.verdict.specs.Reasons.{numberOf, numberIn, placeIn, pairNumberIn, pairPlaceIn, pairFileIn}
 use Rattle.verdict.specs.Answers.{Answer, answered, refused, answerPlace}
 use Rattle.x1_verdict.specs.Facts as geography
+use Rattle.x1_questions.specs.declared.answers.TrackAnswer.{TrackAnswer}
+use Rattle.x1_questions.specs.declared.answers.TrackAnswer.the-variants as track
+use Rattle.x1_questions.specs.declared.answers.PointAnswer.{PointAnswer}
+use Rattle.x1_questions.specs.declared.answers.PointAnswer.the-variants as point
+use Rattle.x1_questions.specs.declared.answers.CoordinateAnswer.{CoordinateAnswer}
+use Rattle.x1_questions.specs.declared.answers.CoordinateAnswer.the-variants as coordinate
 use Rattle.x1_questions.specs.Answers.{headerAnswer, trackAnswer, pointAnswer, coordinateAnswer}
-use Rattle.x1_questions.specs.Questions.{headerOf, trackOf, pointOf, coordinateAsked}
+use Rattle.x1_questions.specs.Questions.{headerOf, trackOf, pointOf, ofBoth, pointCoordinateOf, coordinateAsked}
+use Rattle.x1_degrees.specs.Questions.{withDegrees, degreesAsked, pointDegreesOf}
 use Rattle.x2_verdict.specs.Facts as file
 use Rattle.x2_verdict.specs.Answers.{namedHeaderAnswer, recordAnswer}
 use Rattle.x2_verdict.specs.Questions.{namedHeaderOf, recordOf}
@@ -26,6 +33,7 @@ use Rattle.places.proofs.X2.{x2-place}
 use Rattle.places.proofs.Pair.{pair-place}
 use Rattle.places.proofs.Questions.{header1-place, header2-place, track-place, point-place, coordinate-place, record-place, routes-place}
 use Rattle.c_values.specs.Words.{overByte, answerWord, valueWords}
+use Rattle.c_values.specs.Degrees.{degreesLaid}
 use Rattle.c_values.specs.Shown.{short, wordsShown, verdictShown, pairShown}
 use Rattle.export_theorems.specs.TakenApart.{TakenApart, AnswerParts}
 use Rattle.c_values.proofs.Numbers.{number-back, file-back, place-back, number-fits, file-fits}
@@ -68,6 +76,17 @@ answer-parts (answered values) out h = by-room (short (valueWords values) out)
     by-room false = word-parts 0 0 0 (omega arith) (omega arith) (omega arith)
 answer-parts (refused n t) out h = word-parts (numberOf (t .reason)) 0 (t .place) (number-fits (t .reason)) (omega arith) h
 
+-- the coordinate of a point has the place of the point or of its track
+both-below : (p : PointAnswer) (t : TrackAnswer) → answerPlace (pointAnswer p) < placeOver → answerPlace (trackAnswer t) < placeOver → answerPlace (coordinateAnswer (ofBoth p t)) < placeOver
+both-below (point.Refused u) t h k = h
+both-below (point.Point p) (track.Track t) h k = h
+both-below (point.Point p) (track.Refused u) h k = k
+
+-- degrees have the place of the coordinate
+degrees-below : (a : CoordinateAnswer) → answerPlace (coordinateAnswer a) < placeOver → answerPlace (degreesLaid (withDegrees a)) < placeOver
+degrees-below (coordinate.Coordinate c) h = h
+degrees-below (coordinate.Refused t) h = h
+
 module _ (out f : List ℕ) where
   pub header1-parts : AnswerParts (headerAnswer (headerOf f)) out
   header1-parts = answer-parts (headerAnswer (headerOf f)) out (header1-place f)
@@ -83,6 +102,16 @@ module _ (out f : List ℕ) where
 
   pub coordinate-parts : (number x : ℕ) → AnswerParts (coordinateAnswer (coordinateAsked f number x)) out
   coordinate-parts number x = answer-parts (coordinateAnswer (coordinateAsked f number x)) out (coordinate-place f number x)
+
+  pub degrees-parts : (number x : ℕ) → AnswerParts (degreesLaid (degreesAsked f number x)) out
+  unfolding degreesAsked
+  degrees-parts number x = answer-parts (degreesLaid (degreesAsked f number x)) out (degrees-below (coordinateAsked f number x) (coordinate-place f number x))
+
+  pub point-degrees-parts : (i j : ℕ) → AnswerParts (degreesLaid (pointDegreesOf f i j)) out
+  unfolding pointDegreesOf pointCoordinateOf
+  point-degrees-parts i j =
+      answer-parts (degreesLaid (pointDegreesOf f i j)) out
+      (degrees-below (pointCoordinateOf f i j) (both-below (pointOf f i j) (trackOf f i) (point-place f i j) (track-place f i)))
 
   pub record-parts : (x : ℕ) → AnswerParts (recordAnswer (recordOf f x)) out
   record-parts x = answer-parts (recordAnswer (recordOf f x)) out (record-place f x)
