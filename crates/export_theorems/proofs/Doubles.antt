@@ -7,8 +7,9 @@ use mathlib.Core.Path.{_≡_, ap, _∙_}
 use mathlib.Core.Bool.{false}
 use mathlib.Core.List.{List}
 use lib.IntN.{pos, natAbs}
-use lib.Ieee.{binary64, ofBits}
+use lib.Ieee.{binary64, ofBits, toBits}
 use Rattle.octets.specs.Octets.{numAt}
+use Rattle.degrees.specs.Degrees.{degreesOf}
 use Rattle.degrees_theorems.proofs.Bits.{degrees-of-bits}
 use Rattle.x1_questions.specs.declared.answers.CoordinateAnswer.{CoordinateAnswer}
 use Rattle.x1_questions.specs.declared.answers.CoordinateAnswer.the-variants as coordinate
@@ -30,10 +31,12 @@ halves-back out i bits low high =
 -- a refusal's values are 0, and 0 is +0.0
 doubles-back : (a : CoordinateAnswer) (out : List ℕ) → AnswerBack degreesSigned (degreesLaid (withDegrees a)) out → DegreesBack (withDegrees a) out
 unfolding ofBits
-doubles-back (coordinate.Coordinate c) out back e = (
-  halves-back _ latitudeDegrees _ (back e 2 (omega arith)) (back e 3 (omega arith)) ∙ degrees-of-bits (c .latitude),
-  halves-back _ longitudeDegrees _ (back e 4 (omega arith)) (back e 5 (omega arith)) ∙ degrees-of-bits (c .longitude),
-)
+doubles-back (coordinate.Coordinate c) out back e =
+    let latitude = toBits binary64 (degreesOf (c .latitude)) in
+    let longitude = toBits binary64 (degreesOf (c .longitude)) in (
+      halves-back _ latitudeDegrees latitude (back e 2 (omega arith)) (back e 3 (omega arith)) ∙ degrees-of-bits (c .latitude),
+      halves-back _ longitudeDegrees longitude (back e 4 (omega arith)) (back e 5 (omega arith)) ∙ degrees-of-bits (c .longitude),
+    )
 doubles-back (coordinate.Refused t) out back e = (
   halves-back _ latitudeDegrees 0 (back e 2 (omega arith)) (back e 3 (omega arith)),
   halves-back _ longitudeDegrees 0 (back e 4 (omega arith)) (back e 5 (omega arith)),
