@@ -3,10 +3,13 @@ use mathlib.Core.Path.{_≡_, refl}
 use mathlib.Core.List.{List}
 use Prim.Native.Nat.{ℕ}
 use Rattle.verdict.specs.Answers.{Answer, answered, refused, answerNumber}
-use Rattle.promises.proofs.OfExports.{yard-checksum-determined, yard-x1-determined, yard-x1-version-1-determined, yard-x2-determined, yard-pair-determined, yard-header1-determined, yard-header2-determined, yard-track-determined, yard-point-determined, yard-coordinate-determined, yard-record-determined, yard-routes-determined, yard-routes-flat-determined}
+use Rattle.promises.proofs.OfExports.{yard-checksum-determined, yard-x1-determined, yard-x1-version-1-determined, yard-x2-determined, yard-pair-determined, yard-header1-determined, yard-header2-determined, yard-track-determined, yard-point-determined, yard-coordinate-determined, yard-degrees-determined, yard-point-degrees-determined, yard-record-determined, yard-routes-determined, yard-routes-flat-determined}
 use Rattle.promises.proofs.Engines.{calls-agree}
 use Rattle.c_values.specs.Shown.{leaves}
-use Rattle.export_theorems.proofs.Fit.{track-back, point-back, coordinate-back, record-back}
+use Rattle.export_theorems.proofs.Fit.{track-back, point-back, coordinate-back, degrees-back, point-degrees-back, record-back}
+use Rattle.export_theorems.proofs.Doubles.{degrees-double, point-degrees-double}
+use Rattle.degrees_theorems.proofs.Whole.{whole-degrees-exact}
+use Rattle.degrees_theorems.proofs.Apart.{degrees-strict}
 use Rattle.x1_obeys.specs.Obeys.{entryPlace}
 use Rattle.x1_theorems.proofs.Numbers as x1
 use Rattle.x1_lookup.specs.Lookup.{numberAt}
@@ -15,6 +18,7 @@ use Rattle.x1_theorems.proofs.Asked as survey
 use Rattle.x1_theorems.proofs.Heights.{height-read}
 use Rattle.x1_theorems.proofs.Base.{as-ever, new-refused, others-alike}
 use Rattle.x1_theorems.proofs.Coordinates.{coordinate-nearest, coordinate-only-one}
+use Rattle.x1_theorems.proofs.Degrees.{degrees-asked, point-degrees-asked, degrees-values, degrees-record, point-degrees-record, degrees-beside, point-degrees-beside}
 use Rattle.x2_theorems.proofs.Numbers as x2
 use Rattle.x2_theorems.proofs.Asked as application
 use Rattle.x2_theorems.proofs.Values.{enums-kept, names-read}
@@ -49,6 +53,8 @@ returns = record {
   track = yard-track-determined;
   point = yard-point-determined;
   position = yard-coordinate-determined;
+  degrees = yard-degrees-determined;
+  point-degrees = yard-point-degrees-determined;
   record-asked = yard-record-determined;
   list = yard-routes-determined;
   list-flat = yard-routes-flat-determined;
@@ -83,6 +89,17 @@ accepts = record {
   record-back = λ f out. record-back out f;
   nearest = λ f o i l x h. coordinate-nearest f o (numberAt f (entryPlace i)) (entryPlace i) ((found-iff f o (numberAt f (entryPlace i)) (entryPlace i)) .1 (record { track = i; in-file = l; there = refl; same = refl })) x h;
   no-other = λ f o i l x r h. coordinate-only-one f o (numberAt f (entryPlace i)) (entryPlace i) ((found-iff f o (numberAt f (entryPlace i)) (entryPlace i)) .1 (record { track = i; in-file = l; there = refl; same = refl })) x r h;
+  degrees-asked = degrees-asked;
+  point-degrees-asked = point-degrees-asked;
+  degrees-values = degrees-values;
+  degrees-record = degrees-record;
+  point-degrees-record = point-degrees-record;
+  degrees-beside = degrees-beside;
+  point-degrees-beside = point-degrees-beside;
+  whole-degrees = whole-degrees-exact;
+  degrees-order = degrees-strict;
+  degrees-back = λ f out number x. (degrees-back out f number x, degrees-double out f number x);
+  point-degrees-back = λ f out i j. (point-degrees-back out f i j, point-degrees-double out f i j);
 }
 
 -- PROMISE 3

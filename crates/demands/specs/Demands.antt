@@ -5,12 +5,16 @@
 use Prim.Native.Nat.{ℕ, _≤_, _<_}
 use mathlib.Core.Path.{_≡_}
 use mathlib.Core.Logic.{_↔_}
-use mathlib.Core.List.{List, reverse, List·Memᴰ}
+use mathlib.Core.List.{List, [], _∷_, reverse, List·Memᴰ}
+use lib.Dec.{T}
+use lib.IntN.{ℤ, pos, natAbs, _*ℤ_}
+use lib.Signed.{_<ℤ_}
 use lib.ListN.{getD}
+use lib.Ieee.{binary64, toBits, lt}
 use Rattle.verdict.specs.declared.Fault.{Fault}
 use Rattle.verdict.specs.declared.Verdict.the-variants as verdict
 use Rattle.verdict.specs.Reasons.{numberIn, placeIn, pairNumberIn, pairPlaceIn, pairFileIn}
-use Rattle.verdict.specs.Answers.{Answer, answerNumber, answerPlace}
+use Rattle.verdict.specs.Answers.{Answer, answerNumber, answerPlace, answerValues}
 use Rattle.verdict.specs.Order.{Answered, Reported, Asked}
 use Rattle.promises.specs.Determined.{Determined}
 use Rattle.promises.specs.Agree.{Agree}
@@ -30,6 +34,14 @@ use Rattle.x1_questions.specs.Questions.{headerOf, trackOf, pointOf, coordinate
 use Rattle.x1_questions.specs.Stretch.{endPositionOf}
 use Rattle.x1_questions.specs.Coordinate.{CoordinateAt}
 use Rattle.x1_questions.specs.declared.answers.CoordinateAnswer.the-variants as coordinate
+use Rattle.degrees.specs.Degrees.{degree, degreesOf}
+use Rattle.degrees_theorems.specs.Wholes.{IsWhole, toldApart}
+use Rattle.x1_degrees.specs.declared.Surveyed.{Surveyed}
+use Rattle.x1_degrees.specs.declared.DegreesAnswer.{DegreesAnswer}
+use Rattle.x1_degrees.specs.declared.DegreesAnswer.the-variants as in-degrees
+use Rattle.x1_degrees.specs.Answers.{coordinateIn, degreesIn, degreesAnswer}
+use Rattle.x1_degrees.specs.Questions.{degreesAsked, pointDegreesOf}
+use Rattle.x1_theorems.specs.Degrees.{InDegrees, StandsAt}
 use Rattle.x2_records.specs.Records.{recordAt}
 use Rattle.x2_layout.specs.Layout.{layoutOf}
 use Rattle.x2_layout.specs.Records.{kindAt, starts}
@@ -60,7 +72,8 @@ use Rattle.route_question.specs.declared.Engine.{Engine}
 use Rattle.route_backwards.specs.Backwards.{RouteTo, Holds, ListedIn, Backwards, NotRefused, seenOf}
 use Rattle.route_backwards.specs.Calls.{CalledBy, seenCalling}
 use Rattle.c_values.specs.Shown.{leaves}
-use Rattle.export_theorems.specs.Fit.{trackSigned, pointSigned, coordinateSigned, recordSigned, AnswerBack}
+use Rattle.c_values.specs.Degrees.{degreesLaid}
+use Rattle.export_theorems.specs.Fit.{trackSigned, pointSigned, coordinateSigned, degreesSigned, recordSigned, AnswerBack, DegreesBack}
 use Rattle.exports.proofs.yard_checksum.Kinds as checksum-kinds
 use Rattle.exports.proofs.yard_checksum.Reads as checksum-reads
 use Rattle.exports.proofs.yard_x1.Kinds as x1-kinds
@@ -81,6 +94,10 @@ use Rattle.exports.proofs.yard_point.Kinds as point-kinds
 use Rattle.exports.proofs.yard_point.Reads as point-reads
 use Rattle.exports.proofs.yard_coordinate.Kinds as coordinate-kinds
 use Rattle.exports.proofs.yard_coordinate.Reads as coordinate-reads
+use Rattle.exports.proofs.yard_degrees.Kinds as degrees-kinds
+use Rattle.exports.proofs.yard_degrees.Reads as degrees-reads
+use Rattle.exports.proofs.yard_point_degrees.Kinds as point-degrees-kinds
+use Rattle.exports.proofs.yard_point_degrees.Reads as point-degrees-reads
 use Rattle.exports.proofs.yard_record.Kinds as record-kinds
 use Rattle.exports.proofs.yard_record.Reads as record-reads
 use Rattle.exports.proofs.yard_routes.Kinds as routes-kinds
@@ -109,6 +126,10 @@ pub record Returns : Type 0 where
   pub track : Determined 2 track-kinds.ps track-kinds.r track-reads.Pre track-reads.Post
   pub point : Determined 2 point-kinds.ps point-kinds.r point-reads.Pre point-reads.Post
   pub position : Determined 2 coordinate-kinds.ps coordinate-kinds.r coordinate-reads.Pre coordinate-reads.Post
+  -- 02: Ticket14.1
+  pub degrees : Determined 2 degrees-kinds.ps degrees-kinds.r degrees-reads.Pre degrees-reads.Post
+  -- 02: Ticket14.1
+  pub point-degrees : Determined 2 point-degrees-kinds.ps point-degrees-kinds.r point-degrees-reads.Pre point-degrees-reads.Post
   pub record-asked : Determined 2 record-kinds.ps record-kinds.r record-reads.Pre record-reads.Post
   pub list : Determined 3 routes-kinds.ps routes-kinds.r routes-reads.Pre routes-reads.Post
   pub list-flat : Determined 3 routes-flat-kinds.ps routes-flat-kinds.r routes-flat-reads.Pre routes-flat-reads.Post
@@ -172,6 +193,41 @@ pub record Accepts : Type 0 where
       × CoordinateAt f (sizeOf f) (entryPlace i) x r
   pub no-other : (f : List ℕ) → X1Obeys f → (i : ℕ) → i < countOf f → (x : ℕ) (r : Coordinate) → CoordinateAt f (sizeOf f) (entryPlace i) x r
       → coordinateAsked f (numberAt f (entryPlace i)) x ≡ coordinate.Coordinate r
+  -- in degrees too, at a position and of a point (02, ticket 14): the refusals are those of the coordinate and of the point, and a refusal's values
+  -- are 0, the bits of 0.0 among them
+  -- 02: Ticket14.4
+  pub degrees-asked : (f : List ℕ) (number x n p : ℕ) → Shows (degreesAnswer (degreesAsked f number x)) n p
+      ↔ Asked (x1Verdict f) (survey.coordinateChecks f number x) n p
+  -- 02: Ticket14.4
+  pub point-degrees-asked : (f : List ℕ) (i j n p : ℕ) → Shows (degreesAnswer (pointDegreesOf f i j)) n p
+      ↔ Asked (x1Verdict f) (survey.pointChecks f i j) n p
+  -- 02: Ticket14.4
+  pub degrees-values : (a : DegreesAnswer) → answerValues (degreesAnswer a)
+      ≡ coordinateIn a .latitude ∷ coordinateIn a .longitude
+      ∷ pos (toBits binary64 (degreesIn a .latitude)) ∷ pos (toBits binary64 (degreesIn a .longitude)) ∷ []
+  -- the milliarcseconds are those of the coordinate, and of a point its track's start plus its increment
+  -- 02: Ticket14.3
+  pub degrees-record : (f : List ℕ) (number x : ℕ) (s : Surveyed) → degreesAsked f number x ≡ in-degrees.Surveyed s
+      → coordinateAsked f number x ≡ coordinate.Coordinate (s .coordinate)
+  -- 02: Ticket14.3
+  pub point-degrees-record : (f : List ℕ) (i j : ℕ) (s : Surveyed) → pointDegreesOf f i j ≡ in-degrees.Surveyed s → StandsAt f i j (s .coordinate)
+  -- the two numbers beside them are each their exact quotient by 3,600,000, rounded once, and finite
+  -- 02: Ticket14.2
+  pub degrees-beside : (f : List ℕ) (number x : ℕ) (s : Surveyed) → degreesAsked f number x ≡ in-degrees.Surveyed s → InDegrees s
+  -- 02: Ticket14.2
+  pub point-degrees-beside : (f : List ℕ) (i j : ℕ) (s : Surveyed) → pointDegreesOf f i j ≡ in-degrees.Surveyed s → InDegrees s
+  -- every whole degree is exact
+  -- 02: Ticket14.2
+  pub whole-degrees : (k : ℤ) → natAbs k ≤ 180 → IsWhole (degreesOf (k *ℤ pos degree)) k
+  -- more milliarcseconds are more degrees, so that no two share their degrees
+  pub degrees-order : (z w : ℤ) → natAbs z ≤ toldApart → natAbs w ≤ toldApart → z <ℤ w → T (lt (degreesOf z) (degreesOf w))
+  -- in a C caller's output each value comes back from its four bytes, and each number of degrees from its eight
+  -- 02: Ticket14.1
+  pub degrees-back : (f out : List ℕ) (number x : ℕ) → AnswerBack degreesSigned (degreesLaid (degreesAsked f number x)) out
+      × DegreesBack (degreesAsked f number x) out
+  -- 02: Ticket14.1
+  pub point-degrees-back : (f out : List ℕ) (i j : ℕ) → AnswerBack degreesSigned (degreesLaid (pointDegreesOf f i j)) out
+      × DegreesBack (pointDegreesOf f i j) out
 
 -- ---- 3. 'From a boundary of an accepted X.2, within a limit and a budget, every legal route is listed once and only once, normal before
 -- reverse, and nothing else; refused as too many steps, else as no room, exactly when 01 says.'

@@ -14,6 +14,8 @@ use Rattle.c_values.proofs.values.point_words.Kinds as point-words-kinds
 use Rattle.c_values.proofs.values.point_words.Reads as point-words-reads
 use Rattle.c_values.proofs.values.coordinate_words.Kinds as coordinate-words-kinds
 use Rattle.c_values.proofs.values.coordinate_words.Reads as coordinate-words-reads
+use Rattle.c_values.proofs.values.degrees_words.Kinds as degrees-words-kinds
+use Rattle.c_values.proofs.values.degrees_words.Reads as degrees-words-reads
 use Rattle.c_values.proofs.values.record_words.Kinds as record-words-kinds
 use Rattle.c_values.proofs.values.record_words.Reads as record-words-reads
 use Rattle.c_values.proofs.values.routes_words.Kinds as routes-words-kinds
@@ -43,6 +45,9 @@ point-words-determined κs a = by-equation (λ v w. refl)
 
 pub coordinate-words-determined : Determined 0 coordinate-words-kinds.ps coordinate-words-kinds.r coordinate-words-reads.Pre coordinate-words-reads.Post
 coordinate-words-determined κs a = by-equation (λ v w. refl)
+
+pub degrees-words-determined : Determined 0 degrees-words-kinds.ps degrees-words-kinds.r degrees-words-reads.Pre degrees-words-reads.Post
+degrees-words-determined κs a = by-equation (λ v w. refl)
 
 pub record-words-determined : Determined 0 record-words-kinds.ps record-words-kinds.r record-words-reads.Pre record-words-reads.Post
 record-words-determined κs a = by-equation (λ v w. refl)

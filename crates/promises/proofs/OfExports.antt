@@ -20,6 +20,10 @@ use Rattle.exports.proofs.yard_point.Kinds as yard-point-kinds
 use Rattle.exports.proofs.yard_point.Reads as yard-point-reads
 use Rattle.exports.proofs.yard_coordinate.Kinds as yard-coordinate-kinds
 use Rattle.exports.proofs.yard_coordinate.Reads as yard-coordinate-reads
+use Rattle.exports.proofs.yard_degrees.Kinds as yard-degrees-kinds
+use Rattle.exports.proofs.yard_degrees.Reads as yard-degrees-reads
+use Rattle.exports.proofs.yard_point_degrees.Kinds as yard-point-degrees-kinds
+use Rattle.exports.proofs.yard_point_degrees.Reads as yard-point-degrees-reads
 use Rattle.exports.proofs.yard_record.Kinds as yard-record-kinds
 use Rattle.exports.proofs.yard_record.Reads as yard-record-reads
 use Rattle.exports.proofs.yard_routes.Kinds as yard-routes-kinds
@@ -54,6 +58,12 @@ yard-point-determined κs a = (tt, λ x y v w p q. (p .0 ∙ sym (q .0), ap (λ 
 
 pub yard-coordinate-determined : Determined 2 yard-coordinate-kinds.ps yard-coordinate-kinds.r yard-coordinate-reads.Pre yard-coordinate-reads.Post
 yard-coordinate-determined κs a = (tt, λ x y v w p q. (p .0 ∙ sym (q .0), ap (λ (l : List ℕ). (tt, (tt, (tt, (l, tt))))) (p .1 ∙ sym (q .1))))
+
+pub yard-degrees-determined : Determined 2 yard-degrees-kinds.ps yard-degrees-kinds.r yard-degrees-reads.Pre yard-degrees-reads.Post
+yard-degrees-determined κs a = (tt, λ x y v w p q. (p .0 ∙ sym (q .0), ap (λ (l : List ℕ). (tt, (tt, (tt, (l, tt))))) (p .1 ∙ sym (q .1))))
+
+pub yard-point-degrees-determined : Determined 2 yard-point-degrees-kinds.ps yard-point-degrees-kinds.r yard-point-degrees-reads.Pre yard-point-degrees-reads.Post
+yard-point-degrees-determined κs a = (tt, λ x y v w p q. (p .0 ∙ sym (q .0), ap (λ (l : List ℕ). (tt, (tt, (tt, (l, tt))))) (p .1 ∙ sym (q .1))))
 
 pub yard-record-determined : Determined 2 yard-record-kinds.ps yard-record-kinds.r yard-record-reads.Pre yard-record-reads.Post
 yard-record-determined κs a = (tt, λ x y v w p q. (p .0 ∙ sym (q .0), ap (λ (l : List ℕ). (tt, (tt, (l, tt)))) (p .1 ∙ sym (q .1))))
