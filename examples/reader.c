@@ -1,6 +1,6 @@
 /* An example of the C library: reads a station's two files and prints the verdict of the pair, the headers, the first track, the coordinate
- * in the middle of that track, its last point, the record after the header of the X.2, the signal that it links to, and the routes from it,
- * which the second engine lists too.
+ * in the middle of that track and its last point, both in degrees too, the record after the header of the X.2, the signal that it links to,
+ * and the routes from it, which the second engine lists too.
  *
  *     tools/library && target/libyard/reader examples/1.1 examples/1.2 */
 #include <inttypes.h>
@@ -73,10 +73,19 @@ static void print_header2(void)
     putchar('\n');
 }
 
-/* Prints a point of the first track, and its height if it has one. */
+/* Prints an answer in degrees, by as many digits as tell each double from every other. */
+static void print_degrees(uint64_t answer, const uint8_t *degrees)
+{
+    if (refused("degrees", answer))
+        return;
+    printf("in degrees: latitude %.17g, longitude %.17g\n", yard_double(degrees, YARD_DEGREES_LATITUDE_DEGREES),
+           yard_double(degrees, YARD_DEGREES_LONGITUDE_DEGREES));
+}
+
+/* Prints a point of the first track, its height if it has one, and its coordinate in degrees. */
 static void print_point(uint32_t index)
 {
-    uint8_t point[YARD_POINT_SIZE];
+    uint8_t point[YARD_POINT_SIZE], degrees[YARD_DEGREES_SIZE];
     if (refused("point", yard_point(first.bytes, first.length, 0, index, point, sizeof point)))
         return;
     printf("point %" PRIu32 " of track 0: position %" PRIu32 " cm, ", index, yard_unsigned(point, YARD_POINT_POSITION));
@@ -84,12 +93,13 @@ static void print_point(uint32_t index)
         printf("height %" PRId32 " dm\n", yard_signed(point, YARD_POINT_HEIGHT));
     else
         puts("no height");
+    print_degrees(yard_point_degrees(first.bytes, first.length, 0, index, degrees, sizeof degrees), degrees);
 }
 
 /* Prints the first track, the coordinate in its middle, and its last point. */
 static void print_track(void)
 {
-    uint8_t track[YARD_TRACK_SIZE], coordinate[YARD_COORDINATE_SIZE];
+    uint8_t track[YARD_TRACK_SIZE], coordinate[YARD_COORDINATE_SIZE], degrees[YARD_DEGREES_SIZE];
     if (refused("track 0", yard_track(first.bytes, first.length, 0, track, sizeof track)))
         return;
     uint32_t number = yard_unsigned(track, YARD_TRACK_NUMBER), end = yard_unsigned(track, YARD_TRACK_END_POSITION);
@@ -98,6 +108,7 @@ static void print_track(void)
         return;
     printf("track %" PRIu32 " at %" PRIu32 " cm: latitude %" PRId32 ", longitude %" PRId32 "\n", number, end / 2,
            yard_signed(coordinate, YARD_COORDINATE_LATITUDE), yard_signed(coordinate, YARD_COORDINATE_LONGITUDE));
+    print_degrees(yard_degrees(first.bytes, first.length, number, end / 2, degrees, sizeof degrees), degrees);
     print_point(yard_unsigned(track, YARD_TRACK_POINTS) - 1);
 }
 

@@ -1,6 +1,6 @@
 /* The station files of T/VSTR 021-2024, for C and for whatever can call C: track geography (X.1) and fixed application data (X.2). Verdicts
- * of a file and of a pair, and the questions on them: header, track, point, coordinate, record, routes. The library is libyard.a;
- * tools/library makes it, for x86-64 Linux, and lays it out beside this header in target/libyard. Nothing else is linked with it.
+ * of a file and of a pair, and the questions on them: header, track, point, coordinate, these two in degrees, record, routes. The library is
+ * libyard.a; tools/library makes it, for x86-64 Linux, and lays it out beside this header in target/libyard. Nothing else is linked with it.
  *
  * An X.1 has structure version 1 or 2. In version 2 each point has a height at its end, and so 15 bytes for 13; all else is alike. Every
  * function on an X.1 takes both, but for yard_x1_version_1. An X.2 has structure version 1.
@@ -18,11 +18,12 @@
  * - A function other than yard_checksum returns one number, made of the answer's number, its file and its place: take it apart by
  *   YARD_NUMBER, YARD_FILE and YARD_PLACE. Number 0 is accepted or answered. Any other is a refusal, with the byte place that it is about.
  * - An answer's values are put at the start of the output, four bytes each and low byte first, negative ones in two's complement: read them
- *   by yard_unsigned and yard_signed. The bytes of the output after the values are left as they were.
+ *   by yard_unsigned and yard_signed. A binary64 is two values, the low four bytes of its bits and then the high four, and so eight bytes, low
+ *   byte first: read it by yard_double. The bytes of the output after the values are left as they were.
  * - A refusal leaves every byte of every output as it was. An output that is too short for the values is refused by YARD_ROOM at place 0,
  *   after every other refusal.
- * - Positions are in centimetres, heights in decimetres, latitude and longitude in milliarcseconds, indexes count from 0, and a place is a
- *   byte's distance from the file's start. */
+ * - Positions are in centimetres, heights in decimetres, latitude and longitude in milliarcseconds unless they are said to be in degrees,
+ *   indexes count from 0, and a place is a byte's distance from the file's start. */
 #ifndef YARD_H
 #define YARD_H
 

@@ -14,7 +14,7 @@ abbrev pub surveyedValues : Surveyed → List ℤ
 surveyedValues s =
     coordinateValues (s .coordinate) ++ halves (toBits binary64 (s .degrees .latitude)) ++ halves (toBits binary64 (s .degrees .longitude))
 
--- 02: Ticket14.7
+-- 02: Ticket14.1
 abbrev pub degreesLaid : DegreesAnswer → Answer
 degreesLaid (answer.Surveyed s) = answered (surveyedValues s)
 degreesLaid (answer.Refused t) = refused 6 t

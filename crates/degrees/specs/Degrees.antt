@@ -15,6 +15,7 @@ unfoldable pub degreesOf : ℤ → Float
 degreesOf z = div binary64 (ofInt binary64 z) (ofInt binary64 (pos degree))
 
 -- a latitude and a longitude
+-- 01: Form.6
 -- 02: Ticket14.1
 abbrev pub inDegrees : ℤ → ℤ → Degrees
 inDegrees latitude longitude = record { latitude = degreesOf latitude; longitude = degreesOf longitude }

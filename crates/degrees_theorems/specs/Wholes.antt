@@ -11,6 +11,7 @@ negative (pos n) = false
 negative (negsuc n) = true
 
 -- x is finite and exactly the whole number z, and has its sign; the zero is +0.0
+-- 02: Ticket14.2
 abbrev pub IsWhole : Float → ℤ → Type 0
 IsWhole x z = HasValue x (negative z) (natAbs z) 1
 

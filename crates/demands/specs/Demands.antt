@@ -220,6 +220,7 @@ pub record Accepts : Type 0 where
   -- 02: Ticket14.2
   pub whole-degrees : (k : ℤ) → natAbs k ≤ 180 → IsWhole (degreesOf (k *ℤ pos degree)) k
   -- more milliarcseconds are more degrees, so that no two share their degrees
+  -- 02: Ticket14.2
   pub degrees-order : (z w : ℤ) → natAbs z ≤ toldApart → natAbs w ≤ toldApart → z <ℤ w → T (lt (degreesOf z) (degreesOf w))
   -- in a C caller's output each value comes back from its four bytes, and each number of degrees from its eight
   -- 02: Ticket14.1

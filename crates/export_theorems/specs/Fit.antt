@@ -85,6 +85,7 @@ AnswerBack signs a out =
 -- ---- a binary64
 
 -- what yard_double reads: the value of an index is the low half of a number's bits, that of the next index the high half
+-- 02: Ticket14.1
 abbrev pub doubleAt : List ℕ → ℕ → Float
 doubleAt out i = ofBits binary64 (numAt valueSize out (valueSize * i) + overWord * numAt valueSize out (valueSize * suc i))
 
@@ -96,6 +97,7 @@ abbrev pub longitudeDegrees : ℕ
 longitudeDegrees = 4
 
 -- where the number that is returned says that there is an answer, its latitude and its longitude in degrees come back from the output
+-- 02: Ticket14.1
 abbrev pub DegreesBack : DegreesAnswer → List ℕ → Type 0
 DegreesBack a out =
     numberPart (shown (degreesLaid a) out) ≡ 0

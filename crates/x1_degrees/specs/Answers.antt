@@ -15,17 +15,18 @@ use Rattle.x1_degrees.specs.declared.DegreesAnswer.the-variants as answe
 abbrev pub zero : Float
 zero = fin false 0 (pos 0)
 
--- 02: Ticket14.5
+-- 02: Ticket14.4
 abbrev pub coordinateIn : DegreesAnswer → Coordinate
 coordinateIn (answer.Surveyed s) = s .coordinate
 coordinateIn (answer.Refused t) = record { latitude = pos 0; longitude = pos 0 }
 
--- 02: Ticket14.5
+-- 02: Ticket14.4
 abbrev pub degreesIn : DegreesAnswer → Degrees
 degreesIn (answer.Surveyed s) = s .degrees
 degreesIn (answer.Refused t) = record { latitude = zero; longitude = zero }
 
 -- latitude and longitude in milliarcseconds, and then the bits of both in degrees
+-- 02: Ticket14.3
 abbrev pub degreesValues : Surveyed → List ℤ
 degreesValues s =
     s .coordinate .latitude

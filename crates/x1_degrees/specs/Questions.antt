@@ -11,10 +11,12 @@ use Rattle.x1_degrees.specs.declared.DegreesAnswer.{DegreesAnswer}
 use Rattle.x1_degrees.specs.declared.DegreesAnswer.the-variants as answer
 
 -- the milliarcseconds, and the degrees beside them
+-- 01: Form.6
 -- 02: Ticket14.3
 abbrev pub surveyedAt : Coordinate → Surveyed
 surveyedAt c = record { coordinate = c; degrees = inDegrees (c .latitude) (c .longitude) }
 
+-- 02: Ticket14.4
 abbrev pub withDegrees : CoordinateAnswer → DegreesAnswer
 withDegrees (coordinate.Coordinate c) = answer.Surveyed (surveyedAt c)
 withDegrees (coordinate.Refused t) = answer.Refused t

@@ -33,7 +33,6 @@ pub record CoordinateAt (f : List ℕ) (size e x : ℕ) (r : Coordinate) : Type 
   pub longitude : NearestAt f (longitudeOf f e) x (pointPlace f size e point) (pointPlace f size e (suc point)) (r .longitude)
 
 -- c is in the ranges that 01 has for a point's coordinates
--- 01: X1.points.3
 pub record CoordinateRange (c : Coordinate) : Type 0 where
   pub latitude : Within 324000000 (c .latitude)
   pub longitude : Within 648000000 (c .longitude)

@@ -60,7 +60,7 @@ pointOf f i j =
 -- ---- the coordinate of point j of track i
 
 -- its track's start plus its increment
--- 02: Ticket14.4
+-- 02: Ticket14.2
 abbrev pub startPlus : Track → Point → Coordinate
 startPlus t p = record { latitude = t .«start_latitude» +ℤ p .«latitude_increment»; longitude = t .«start_longitude» +ℤ p .«longitude_increment» }
 
