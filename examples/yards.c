@@ -1,4 +1,4 @@
-/* The files of 01's examples, and two yards with more routes than yardlist lists; docs/SHOWN.md asks about each of them.
+/* The files of 01's examples and of 02's degrees, and two yards with more routes than yardlist lists; docs/SHOWN.md asks about each of them.
  *
  * yards writes the names of the files, a line each; yards NAME writes that file to standard output. In all of them versions, station,
  * tracks and the like are 1, and what 01 does not speak of is 0, but for the length of a track. In track-2 the structure version is 2, and
@@ -147,6 +147,18 @@ static void put_increments(unsigned tracks)
     put_tracks(&only, tracks, NULL);
 }
 
+/* Track 1 goes from 89 degrees north and 179 west to 90 and 180, which are 02's 324000000 and -648000000; track 2 from 0, 0 to one
+ * milliarcsecond north and west of it. */
+static void put_whole_degrees(unsigned tracks)
+{
+    static const track each[] = {
+        { 1, SOME, 320400000, -644400000, 2, { { 0, 0, 0, 0, ALONE }, { 2, 3600000, -3600000, 0, ALONE } } },
+        { 2, SOME, 0, 0, 2, { { 0, 0, 0, 0, ALONE }, { 2, 1, -1, 0, ALONE } } },
+    };
+    put_opening(GEOGRAPHY, VERSION_1, SOME, SOME);
+    put_tracks(each, tracks, NULL);
+}
+
 /* ---- the files */
 
 static const struct {
@@ -168,6 +180,7 @@ static const struct {
     { "track-2", put_high_track_file, 53 },
     { "increments", put_increments, 1 },
     { "fractions", put_fractions, 3 },
+    { "whole-degrees", put_whole_degrees, 2 },
 };
 
 enum { FILES = sizeof files / sizeof files[0] };
