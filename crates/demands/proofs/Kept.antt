@@ -18,7 +18,7 @@ use Rattle.x1_theorems.proofs.Asked as survey
 use Rattle.x1_theorems.proofs.Heights.{height-read}
 use Rattle.x1_theorems.proofs.Base.{as-ever, new-refused, others-alike}
 use Rattle.x1_theorems.proofs.Coordinates.{coordinate-nearest, coordinate-only-one}
-use Rattle.x1_theorems.proofs.Degrees.{degrees-asked, point-degrees-asked, degrees-values, degrees-record, point-degrees-record, degrees-beside, point-degrees-beside}
+use Rattle.x1_theorems.proofs.Degrees.{degrees-asked, point-degrees-asked, degrees-values, degrees-record, point-degrees-record, degrees-beside, point-degrees-beside, degrees-same}
 use Rattle.x2_theorems.proofs.Numbers as x2
 use Rattle.x2_theorems.proofs.Asked as application
 use Rattle.x2_theorems.proofs.Values.{enums-kept, names-read}
@@ -97,6 +97,7 @@ accepts = record {
   degrees-beside = degrees-beside;
   point-degrees-beside = point-degrees-beside;
   whole-degrees = whole-degrees-exact;
+  degrees-same = degrees-same;
   degrees-order = degrees-strict;
   degrees-back = λ f out number x. (degrees-back out f number x, degrees-double out f number x);
   point-degrees-back = λ f out i j. (point-degrees-back out f i j, point-degrees-double out f i j);

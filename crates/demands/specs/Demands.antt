@@ -10,7 +10,7 @@ use lib.Dec.{T}
 use lib.IntN.{ℤ, pos, natAbs, _*ℤ_}
 use lib.Signed.{_<ℤ_}
 use lib.ListN.{getD}
-use lib.Ieee.{binary64, toBits, lt}
+use lib.Ieee.{Float, binary64, toBits, lt}
 use Rattle.verdict.specs.declared.Fault.{Fault}
 use Rattle.verdict.specs.declared.Verdict.the-variants as verdict
 use Rattle.verdict.specs.Reasons.{numberIn, placeIn, pairNumberIn, pairPlaceIn, pairFileIn}
@@ -41,7 +41,7 @@ use Rattle.x1_degrees.specs.declared.DegreesAnswer.{DegreesAnswer}
 use Rattle.x1_degrees.specs.declared.DegreesAnswer.the-variants as in-degrees
 use Rattle.x1_degrees.specs.Answers.{coordinateIn, degreesIn, degreesAnswer}
 use Rattle.x1_degrees.specs.Questions.{degreesAsked, pointDegreesOf}
-use Rattle.x1_theorems.specs.Degrees.{InDegrees, StandsAt}
+use Rattle.x1_theorems.specs.Degrees.{DegreesOf, InDegrees, StandsAt}
 use Rattle.x2_records.specs.Records.{recordAt}
 use Rattle.x2_layout.specs.Layout.{layoutOf}
 use Rattle.x2_layout.specs.Records.{kindAt, starts}
@@ -219,7 +219,9 @@ pub record Accepts : Type 0 where
   -- every whole degree is exact
   -- 02: Ticket14.2
   pub whole-degrees : (k : ℤ) → natAbs k ≤ 180 → IsWhole (degreesOf (k *ℤ pos degree)) k
-  -- more milliarcseconds are more degrees, so that no two share their degrees
+  -- equal milliarcseconds have equal degrees, and more have more
+  -- 02: Ticket14.3
+  pub degrees-same : (z w : ℤ) (x y : Float) → DegreesOf z x → DegreesOf w y → natAbs z ≤ toldApart → natAbs w ≤ toldApart → (z ≡ w) ↔ (x ≡ y)
   -- 02: Ticket14.2
   pub degrees-order : (z w : ℤ) → natAbs z ≤ toldApart → natAbs w ≤ toldApart → z <ℤ w → T (lt (degreesOf z) (degreesOf w))
   -- in a C caller's output each value comes back from its four bytes, and each number of degrees from its eight

@@ -64,12 +64,13 @@ pointOf f i j =
 abbrev pub startPlus : Track → Point → Coordinate
 startPlus t p = record { latitude = t .«start_latitude» +ℤ p .«latitude_increment»; longitude = t .«start_longitude» +ℤ p .«longitude_increment» }
 
--- of the point and the track that are answered; what refuses the point refuses its coordinate
+-- of the point and the track that are answered; what refuses the point refuses its coordinate. The track of a point that is answered is answered
 abbrev pub ofBoth : PointAnswer → TrackAnswer → CoordinateAnswer
 ofBoth (point.Refused u) a = coordinate.Refused u
 ofBoth (point.Point p) (track.Track t) = coordinate.Coordinate (startPlus t p)
 ofBoth (point.Point p) (track.Refused u) = coordinate.Refused u
 
+-- 02: Ticket14.2
 unfoldable pub pointCoordinateOf : List ℕ → ℕ → ℕ → CoordinateAnswer
 pointCoordinateOf f i j = ofBoth (pointOf f i j) (trackOf f i)
 

@@ -6,7 +6,7 @@ use mathlib.Core.Logic.{_↔_}
 use mathlib.Core.List.{List, [], _∷_}
 use native.Mathlib.Omega.{arith}
 use lib.IntN.{ℤ, pos, natAbs}
-use lib.Ieee.{binary64, toBits}
+use lib.Ieee.{Float, binary64, round, toBits}
 use Rattle.verdict.specs.declared.Fault.{Fault}
 use Rattle.verdict.specs.Answers.{answerNumber, answerPlace, answerValues}
 use Rattle.verdict.specs.Order.{Asked}
@@ -18,9 +18,11 @@ use Rattle.x1_verdict.specs.Facts.{verdictOf}
 use Rattle.x1_obeys.specs.Obeys.{structureOf, sizeOf, entryPlace, pointPlace}
 use Rattle.x1_lookup.specs.Lookup.{numberAt}
 use Rattle.x1_lookup.proofs.Lookup.{verdict-obeys, found-iff}
-use Rattle.degrees.specs.Degrees.{degreesOf}
+use Rattle.degrees.specs.Degrees.{degree, degreesOf}
+use Rattle.degrees_theorems.specs.Wholes.{negative, toldApart}
 use Rattle.degrees_theorems.proofs.Once.{conversion-exact, one-rounding}
 use Rattle.degrees_theorems.proofs.Numbers.{degrees-finite}
+use Rattle.degrees_theorems.proofs.Apart.{degrees-say}
 use Rattle.x1_questions.specs.declared.answers.TrackAnswer.{TrackAnswer}
 use Rattle.x1_questions.specs.declared.answers.TrackAnswer.the-variants as track
 use Rattle.x1_questions.specs.declared.answers.PointAnswer.{PointAnswer}
@@ -121,6 +123,13 @@ unfolding pointDegreesOf
 point-degrees-beside f i j s e =
     let w = its-own (pointCoordinateOf f i j) s e in
     subst InDegrees (sym (w .1)) (both (s .coordinate) (point-coordinate-range f i j (s .coordinate) (w .0)))
+
+-- THEOREM: of any two answers, equal milliarcseconds have equal degrees, and no others have.
+pub degrees-same : (z w : ℤ) (x y : Float) → DegreesOf z x → DegreesOf w y → natAbs z ≤ toldApart → natAbs w ≤ toldApart → (z ≡ w) ↔ (x ≡ y)
+degrees-same z w x y p q h k = (
+  λ e. p .divided ∙ ap (λ (v : ℤ). round binary64 (negative v) (natAbs v) degree) e ∙ sym (q .divided),
+  λ e. degrees-say z w h k (one-rounding z (omega arith) ∙ sym (p .divided) ∙ e ∙ q .divided ∙ sym (one-rounding w (omega arith))),
+)
 
 -- ---- the two questions
 
