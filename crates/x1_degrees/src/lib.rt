@@ -3,7 +3,8 @@
 ghost use mathlib.Core.Path.{_≡_};
 ghost use Rattle.x1_questions.specs.Coordinate.{CoordinateRange};
 ghost use Rattle.x1_degrees.specs.Answers.{coordinateIn, degreesIn};
-ghost use Rattle.x1_degrees.specs.Questions.{surveyedAt, degreesAsked, pointDegreesOf};
+ghost use Rattle.x1_degrees.specs.Questions.{surveyedAt, withDegrees, degreesAsked, pointDegreesOf};
+ghost use Rattle.x1_degrees.specs.inner.Ranged.{Ranged};
 use degrees::Degrees;
 use degrees::in_degrees;
 use verdict::Fault;
@@ -62,22 +63,27 @@ fn beside(coordinate: Coordinate) -> Surveyed
     }
 }
 
+// Sets them beside the coordinate of an answer.
+fn with_degrees(a: CoordinateAnswer) -> DegreesAnswer
+    requires { ⌜ Ranged a ⌝ }
+    ensures { λ r. ⌜ r ≡ withDegrees a ⌝ }
+{
+    match a {
+        CoordinateAnswer::Coordinate(c) => DegreesAnswer::Surveyed(beside(c)),
+        CoordinateAnswer::Refused(fault) => DegreesAnswer::Refused(fault),
+    }
+}
+
 // The coordinate at a position of the track with a number.
 pub fn degrees_at(f: &[u8], number: usize, position: usize) -> DegreesAnswer
     ensures { λ r. ⌜ r ≡ degreesAsked (now (f .entry)) number position ⌝ }
 {
-    match x1_questions::coordinate(f, number, position) {
-        CoordinateAnswer::Coordinate(c) => DegreesAnswer::Surveyed(beside(c)),
-        CoordinateAnswer::Refused(fault) => DegreesAnswer::Refused(fault),
-    }
+    with_degrees(x1_questions::coordinate(f, number, position))
 }
 
 // The coordinate of the point of an index in the track of an index.
 pub fn point_degrees(f: &[u8], track: usize, index: usize) -> DegreesAnswer
     ensures { λ r. ⌜ r ≡ pointDegreesOf (now (f .entry)) track index ⌝ }
 {
-    match x1_questions::point_coordinate(f, track, index) {
-        CoordinateAnswer::Coordinate(c) => DegreesAnswer::Surveyed(beside(c)),
-        CoordinateAnswer::Refused(fault) => DegreesAnswer::Refused(fault),
-    }
+    with_degrees(x1_questions::point_coordinate(f, track, index))
 }
