@@ -507,28 +507,18 @@ static int questions_of(const asked *ask, uint32_t questions[QUESTIONS_ALIKE])
     return questions[1] == ASK_NOTHING || asks_routes(ask->question) ? 1 : 2;
 }
 
-/* A case's calls. */
-static void run_calls(figures *seen, source *from, const asked *ask)
+/* A case's calls, with some buffers of no bytes where nothing is set. */
+static void run_calls(figures *seen, source *from, const asked *ask,
+                      int nothing)
 {
     uint32_t questions[QUESTIONS_ALIKE];
     int count = questions_of(ask, questions);
     for (int i = 0; i < count; i++) {
         call of = call_of(from, ask, questions[i]);
+        if (nothing)
+            lend_nothing(from, &of);
         call_each_way(seen, &of);
     }
-}
-
-/* A case's calls and checksum, with buffers of no bytes. */
-static void run_with_nothing(figures *seen, source *from, const asked *ask)
-{
-    uint32_t questions[QUESTIONS_ALIKE];
-    int count = questions_of(ask, questions);
-    for (int i = 0; i < count; i++) {
-        call of = call_of(from, ask, questions[i]);
-        lend_nothing(from, &of);
-        call_each_way(seen, &of);
-    }
-    checksum_each_way(seen, &ask->files[0], 0);
 }
 
 /* A generated case, the checksum of its first file, now and then the same
@@ -540,15 +530,17 @@ static void run_case(figures *seen, const generation *run, uint64_t index)
     uint32_t which;
     case_now = index;
     build_case(run, index, &ask);
-    run_calls(seen, &from, &ask);
+    run_calls(seen, &from, &ask, 0);
     checksum_each_way(seen, &ask.files[0], ask.files[0].length);
-    if (once_in(&from, 4))
-        run_with_nothing(seen, &from, &ask);
+    if (once_in(&from, 4)) {
+        run_calls(seen, &from, &ask, 1);
+        checksum_each_way(seen, &ask.files[0], 0);
+    }
     which = ask.question == ASK_PAIR ? draw(&from, FILES) : 0;
     flip_bits(&from, &ask.files[which]);
     if (!once_in(&from, 4))
         seal(&ask.files[which]);
-    run_calls(seen, &from, &ask);
+    run_calls(seen, &from, &ask, 0);
 }
 
 /* Whether a question is asked for, or the other that has the same cases. */

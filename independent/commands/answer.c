@@ -33,7 +33,7 @@ static ind_coordinate ask_coordinate(const posed *ask)
                              ask->numbers[1]);
 }
 
-static ind_degrees ask_degrees(const posed *ask)
+ind_degrees ask_degrees(const posed *ask)
 {
     if (ask->question == ASK_DEGREES)
         return ind_degrees_at(ask->bytes[0], ask->length[0], ask->numbers[0],

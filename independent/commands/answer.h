@@ -13,6 +13,9 @@ const char *kind_name(ind_kind kind);
 /* The answer's number, place and file. */
 ind_answer answer_case(const posed *ask);
 
+/* The answer to a case of degrees or of point-degrees. */
+ind_degrees ask_degrees(const posed *ask);
+
 /* One route, from its count word on: its offsets on one line. */
 void print_route_line(FILE *output, const uint16_t *route);
 

@@ -286,15 +286,6 @@ static int holds_nothing(const ind_degrees *found, ind_answer due)
         && ind_bits_of(found->longitude_degrees) == 0;
 }
 
-static ind_degrees degrees_of(const posed *ask)
-{
-    if (ask->question == ASK_DEGREES)
-        return ind_degrees_at(ask->bytes[0], ask->length[0], ask->numbers[0],
-                              ask->numbers[1]);
-    return ind_point_degrees_at(ask->bytes[0], ask->length[0],
-                                ask->numbers[0], ask->numbers[1]);
-}
-
 enum {
     /* The near flag of the second track's last point, which ends the file
      * without heights; 2 is no such flag. */
@@ -348,7 +339,7 @@ static int refusal_right(size_t which, asked *ask)
         refusals[which].damaged ? D_BAD_NEAR : 0;
     seal(&ask->files[0]);
     given = pose(ask);
-    found = degrees_of(&given);
+    found = ask_degrees(&given);
     snprintf(due, sizeof due, "answer %lu %lu\n",
              (unsigned long)refusals[which].due.number,
              (unsigned long)refusals[which].due.place);
@@ -361,9 +352,9 @@ static void refusal_examples(void)
     static asked ask;
     whole_degree put;
     posed nothing = { ASK_DEGREES, { 1, 0, 0, 0 }, { NULL, NULL }, { 0, 0 } };
-    ind_degrees found = degrees_of(&nothing), of_point;
+    ind_degrees found = ask_degrees(&nothing), of_point;
     nothing.question = ASK_POINT_DEGREES;
-    of_point = degrees_of(&nothing);
+    of_point = ask_degrees(&nothing);
     build_whole_degree(D_CASE, &ask, &put);
     for (size_t i = 0; i < sizeof refusals / sizeof *refusals; i++)
         ensure(refusal_right(i, &ask), refusals[i].sentence);
@@ -393,7 +384,7 @@ static int degrees_agree(const ind_degrees *found, ind_answer answer,
 
 static int as_coordinate(const posed *ask)
 {
-    ind_degrees found = degrees_of(ask);
+    ind_degrees found = ask_degrees(ask);
     ind_coordinate due = ind_coordinate_at(
         ask->bytes[0], ask->length[0], ask->numbers[0], ask->numbers[1]);
     return degrees_agree(&found, due.answer, due.latitude, due.longitude);
@@ -401,7 +392,7 @@ static int as_coordinate(const posed *ask)
 
 static int as_point(const posed *ask)
 {
-    ind_degrees found = degrees_of(ask);
+    ind_degrees found = ask_degrees(ask);
     ind_point due = ind_point_at(ask->bytes[0], ask->length[0],
                                  ask->numbers[0], ask->numbers[1]);
     ind_track track =

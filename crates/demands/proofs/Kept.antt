@@ -8,8 +8,6 @@ use Rattle.promises.proofs.Engines.{calls-agree}
 use Rattle.c_values.specs.Shown.{leaves}
 use Rattle.export_theorems.proofs.Fit.{track-back, point-back, coordinate-back, degrees-back, point-degrees-back, record-back}
 use Rattle.export_theorems.proofs.Doubles.{degrees-double, point-degrees-double}
-use Rattle.degrees_theorems.proofs.Whole.{whole-degrees-exact}
-use Rattle.degrees_theorems.proofs.Apart.{degrees-strict}
 use Rattle.x1_obeys.specs.Obeys.{entryPlace}
 use Rattle.x1_theorems.proofs.Numbers as x1
 use Rattle.x1_lookup.specs.Lookup.{numberAt}
@@ -18,7 +16,7 @@ use Rattle.x1_theorems.proofs.Asked as survey
 use Rattle.x1_theorems.proofs.Heights.{height-read}
 use Rattle.x1_theorems.proofs.Base.{as-ever, new-refused, others-alike}
 use Rattle.x1_theorems.proofs.Coordinates.{coordinate-nearest, coordinate-only-one}
-use Rattle.x1_theorems.proofs.Degrees.{degrees-asked, point-degrees-asked, degrees-values, degrees-record, point-degrees-record, degrees-beside, point-degrees-beside, degrees-same}
+use Rattle.x1_theorems.proofs.Degrees.{degrees-asked, point-degrees-asked, degrees-values, degrees-record, point-degrees-record, degrees-beside, point-degrees-beside, whole-exact, degrees-same, degrees-rise}
 use Rattle.x2_theorems.proofs.Numbers as x2
 use Rattle.x2_theorems.proofs.Asked as application
 use Rattle.x2_theorems.proofs.Values.{enums-kept, names-read}
@@ -96,9 +94,9 @@ accepts = record {
   point-degrees-record = point-degrees-record;
   degrees-beside = degrees-beside;
   point-degrees-beside = point-degrees-beside;
-  whole-degrees = whole-degrees-exact;
+  whole-degrees = whole-exact;
   degrees-same = degrees-same;
-  degrees-order = degrees-strict;
+  degrees-order = degrees-rise;
   degrees-back = λ f out number x. (degrees-back out f number x, degrees-double out f number x);
   point-degrees-back = λ f out i j. (point-degrees-back out f i j, point-degrees-double out f i j);
 }

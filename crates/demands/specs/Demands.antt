@@ -34,7 +34,7 @@ use Rattle.x1_questions.specs.Questions.{headerOf, trackOf, pointOf, coordinate
 use Rattle.x1_questions.specs.Stretch.{endPositionOf}
 use Rattle.x1_questions.specs.Coordinate.{CoordinateAt}
 use Rattle.x1_questions.specs.declared.answers.CoordinateAnswer.the-variants as coordinate
-use Rattle.degrees.specs.Degrees.{degree, degreesOf}
+use Rattle.degrees.specs.Degrees.{degree}
 use Rattle.degrees_theorems.specs.Wholes.{IsWhole, toldApart}
 use Rattle.x1_degrees.specs.declared.Surveyed.{Surveyed}
 use Rattle.x1_degrees.specs.declared.DegreesAnswer.{DegreesAnswer}
@@ -211,19 +211,19 @@ pub record Accepts : Type 0 where
       → coordinateAsked f number x ≡ coordinate.Coordinate (s .coordinate)
   -- 02: Ticket14.3
   pub point-degrees-record : (f : List ℕ) (i j : ℕ) (s : Surveyed) → pointDegreesOf f i j ≡ in-degrees.Surveyed s → StandsAt f i j (s .coordinate)
-  -- the two numbers beside them are each their exact quotient by 3,600,000, rounded once, and finite
+  -- the two numbers beside them are each one division of them by 3,600,000, and so their exact quotient, rounded once; and finite
   -- 02: Ticket14.2
   pub degrees-beside : (f : List ℕ) (number x : ℕ) (s : Surveyed) → degreesAsked f number x ≡ in-degrees.Surveyed s → InDegrees s
   -- 02: Ticket14.2
   pub point-degrees-beside : (f : List ℕ) (i j : ℕ) (s : Surveyed) → pointDegreesOf f i j ≡ in-degrees.Surveyed s → InDegrees s
   -- every whole degree is exact
   -- 02: Ticket14.2
-  pub whole-degrees : (k : ℤ) → natAbs k ≤ 180 → IsWhole (degreesOf (k *ℤ pos degree)) k
+  pub whole-degrees : (k : ℤ) (x : Float) → natAbs k ≤ 180 → DegreesOf (k *ℤ pos degree) x → IsWhole x k
   -- equal milliarcseconds have equal degrees, and more have more
   -- 02: Ticket14.3
   pub degrees-same : (z w : ℤ) (x y : Float) → DegreesOf z x → DegreesOf w y → natAbs z ≤ toldApart → natAbs w ≤ toldApart → (z ≡ w) ↔ (x ≡ y)
   -- 02: Ticket14.2
-  pub degrees-order : (z w : ℤ) → natAbs z ≤ toldApart → natAbs w ≤ toldApart → z <ℤ w → T (lt (degreesOf z) (degreesOf w))
+  pub degrees-order : (z w : ℤ) (x y : Float) → DegreesOf z x → DegreesOf w y → natAbs z ≤ toldApart → natAbs w ≤ toldApart → z <ℤ w → T (lt x y)
   -- in a C caller's output each value comes back from its four bytes, and each number of degrees from its eight
   -- 02: Ticket14.1
   pub degrees-back : (f out : List ℕ) (number x : ℕ) → AnswerBack degreesSigned (degreesLaid (degreesAsked f number x)) out

@@ -1,12 +1,14 @@
 -- THEOREM: what each question in degrees answers, for every input: refusals are those of the coordinate and of the point; else the milliarcseconds
 -- are those of the coordinate, or the track's start plus the point's increment, and the degrees beside them are each one division of them.
 use Prim.Native.Nat.{ℕ, _^_, _≤_}
-use mathlib.Core.Path.{_≡_, refl, sym, ap, subst, _∙_}
+use mathlib.Core.Path.{_≡_, refl, sym, ap, subst, subst⁻¹, _∙_}
 use mathlib.Core.Logic.{_↔_}
 use mathlib.Core.List.{List, [], _∷_}
 use native.Mathlib.Omega.{arith}
-use lib.IntN.{ℤ, pos, natAbs}
-use lib.Ieee.{Float, binary64, round, toBits}
+use lib.Dec.{T}
+use lib.IntN.{ℤ, pos, natAbs, _*ℤ_}
+use lib.Signed.{_<ℤ_}
+use lib.Ieee.{Float, binary64, toBits, lt}
 use Rattle.verdict.specs.declared.Fault.{Fault}
 use Rattle.verdict.specs.Answers.{answerNumber, answerPlace, answerValues}
 use Rattle.verdict.specs.Order.{Asked}
@@ -19,10 +21,11 @@ use Rattle.x1_obeys.specs.Obeys.{structureOf, sizeOf, entryPlace, pointPlace}
 use Rattle.x1_lookup.specs.Lookup.{numberAt}
 use Rattle.x1_lookup.proofs.Lookup.{verdict-obeys, found-iff}
 use Rattle.degrees.specs.Degrees.{degree, degreesOf}
-use Rattle.degrees_theorems.specs.Wholes.{negative, toldApart}
+use Rattle.degrees_theorems.specs.Wholes.{IsWhole, toldApart}
 use Rattle.degrees_theorems.proofs.Once.{conversion-exact, one-rounding}
 use Rattle.degrees_theorems.proofs.Numbers.{degrees-finite}
-use Rattle.degrees_theorems.proofs.Apart.{degrees-say}
+use Rattle.degrees_theorems.proofs.Whole.{whole-degrees-exact}
+use Rattle.degrees_theorems.proofs.Apart.{degrees-strict, degrees-say}
 use Rattle.x1_questions.specs.declared.answers.TrackAnswer.{TrackAnswer}
 use Rattle.x1_questions.specs.declared.answers.TrackAnswer.the-variants as track
 use Rattle.x1_questions.specs.declared.answers.PointAnswer.{PointAnswer}
@@ -87,7 +90,7 @@ its-own (coordinate.Refused t) s e = absurd (some-number (t .reason) (ap answerN
 
 -- one number, of milliarcseconds in the range of a longitude
 one : (z : ℤ) → natAbs z ≤ 648000000 → DegreesOf z (degreesOf z)
-one z h = let l : natAbs z ≤ 2 ^ 53 = omega arith in record { converted = conversion-exact z l; divided = one-rounding z l; number = degrees-finite z l }
+one z h = let l : natAbs z ≤ 2 ^ 53 = omega arith in record { divided = refl; converted = conversion-exact z l; rounded = one-rounding z l; number = degrees-finite z l }
 
 both : (c : Coordinate) → CoordinateRange c → InDegrees (surveyedAt c)
 both c r = let h = r .latitude in record { latitude = one (c .latitude) (omega arith); longitude = one (c .longitude) (r .longitude) }
@@ -124,12 +127,20 @@ point-degrees-beside f i j s e =
     let w = its-own (pointCoordinateOf f i j) s e in
     subst InDegrees (sym (w .1)) (both (s .coordinate) (point-coordinate-range f i j (s .coordinate) (w .0)))
 
--- THEOREM: of any two answers, equal milliarcseconds have equal degrees, and no others have.
-pub degrees-same : (z w : ℤ) (x y : Float) → DegreesOf z x → DegreesOf w y → natAbs z ≤ toldApart → natAbs w ≤ toldApart → (z ≡ w) ↔ (x ≡ y)
-degrees-same z w x y p q h k = (
-  λ e. p .divided ∙ ap (λ (v : ℤ). round binary64 (negative v) (natAbs v) degree) e ∙ sym (q .divided),
-  λ e. degrees-say z w h k (one-rounding z (omega arith) ∙ sym (p .divided) ∙ e ∙ q .divided ∙ sym (one-rounding w (omega arith))),
-)
+-- ---- degrees of milliarcseconds, whatever question answers them
+
+-- THEOREM: every whole degree is exact.
+pub whole-exact : (k : ℤ) (x : Float) → natAbs k ≤ 180 → DegreesOf (k *ℤ pos degree) x → IsWhole x k
+whole-exact k x h p = subst⁻¹ (λ (y : Float). IsWhole y k) (p .divided) (whole-degrees-exact k h)
+
+module _ (z w : ℤ) (x y : Float) (p : DegreesOf z x) (q : DegreesOf w y) (h : natAbs z ≤ toldApart) (k : natAbs w ≤ toldApart) where
+  -- THEOREM: equal milliarcseconds have equal degrees, and no others have.
+  pub degrees-same : (z ≡ w) ↔ (x ≡ y)
+  degrees-same = (λ e. p .divided ∙ ap degreesOf e ∙ sym (q .divided), λ e. degrees-say z w h k (sym (p .divided) ∙ e ∙ q .divided))
+
+  -- THEOREM: more milliarcseconds have more degrees.
+  pub degrees-rise : z <ℤ w → T (lt x y)
+  degrees-rise l = rw (p .divided, q .divided) (degrees-strict z w h k l)
 
 -- ---- the two questions
 

@@ -6,7 +6,7 @@ use lib.Dec.{T}
 use lib.IntN.{ℤ, natAbs}
 use lib.Ieee.{Float, binary64, ofInt, round}
 use lib.Ieee.Scale.{finite}
-use Rattle.degrees.specs.Degrees.{degree}
+use Rattle.degrees.specs.Degrees.{degree, degreesOf}
 use Rattle.degrees_theorems.specs.Wholes.{negative, IsWhole}
 use Rattle.x1_records.specs.declared.Track.{Track}
 use Rattle.x1_records.specs.declared.Point.{Point}
@@ -16,12 +16,13 @@ use Rattle.x1_questions.specs.declared.answers.Coordinate.{Coordinate}
 use Rattle.x1_questions.specs.Questions.{trackOf, pointOf, startPlus}
 use Rattle.x1_degrees.specs.declared.Surveyed.{Surveyed}
 
--- x is z milliarcseconds in degrees: z is converted exactly, and x is the exact quotient, rounded once (`round`: to the nearest, of two equally near
--- ones to the even one). It is finite
+-- x is z milliarcseconds in degrees: one division of z, which is converted exactly; and so the exact quotient, rounded once (`round`: to the nearest,
+-- of two equally near ones to the even one). It is finite
 -- 02: Ticket14.2
 pub record DegreesOf (z : ℤ) (x : Float) : Type 0 where
+  pub divided : x ≡ degreesOf z
   pub converted : IsWhole (ofInt binary64 z) z
-  pub divided : x ≡ round binary64 (negative z) (natAbs z) degree
+  pub rounded : x ≡ round binary64 (negative z) (natAbs z) degree
   pub number : T (finite x)
 
 -- both numbers of an answer, of the milliarcseconds beside them
