@@ -1,5 +1,5 @@
 /* The station files of T/VSTR 021-2024, for C and for whatever can call C: track geography (X.1) and fixed application data (X.2). Verdicts
- * of a file and of a pair, and the questions on them: header, track, point, coordinate, these two in degrees, record, routes. The library is
+ * of a file and of a pair, and the questions on them: header, track, point, coordinate, these two in degrees, record, routes, what lies ahead. The library is
  * libyard.a; tools/library makes it, for x86-64 Linux, and lays it out beside this header in target/libyard. Nothing else is linked with it.
  *
  * An X.1 has structure version 1 or 2. In version 2 each point has a height at its end, and so 15 bytes for 13; all else is alike. Every
@@ -40,7 +40,8 @@ extern "C" {
 /* Why, or YARD_ANSWERED: one of enum yard_number. */
 #define YARD_NUMBER(answer) ((unsigned)((answer) & 0xFF))
 
-/* Which file of a pair is at fault: 1 the X.1, 2 the X.2; 0 where the pair is accepted. It is 0 in the answer of every other function. */
+/* Which file of a pair is at fault: 1 the X.1, 2 the X.2; 0 where the pair is accepted. So it is of yard_pair and of yard_ahead; in the answer of
+ * every other function it is 0. */
 #define YARD_FILE(answer) ((unsigned)((answer) >> 8 & 0xFF))
 
 /* The place of the fault; 0 where there is none, and where the question itself is refused. */
@@ -96,7 +97,7 @@ static inline double yard_double(const uint8_t *out, size_t index)
     return number;
 }
 
-/* The 16-bit word of an index in the words of a list of routes. */
+/* The 16-bit word of an index in the words of a list of routes, or among the objects ahead. */
 static inline unsigned yard_word(const uint8_t *words, size_t index)
 {
     return words[2 * index] | (unsigned)words[2 * index + 1] << 8;
@@ -342,6 +343,48 @@ enum yard_routes_value {
  * yard: for a host with a small stack, and to compare one engine's list with the other's. */
 uint64_t yard_routes_flat(const uint8_t *file, size_t file_length, size_t start, size_t limit, size_t budget, uint8_t *counts,
                           size_t counts_length, uint8_t *words, size_t words_length);
+
+/* ---- on a pair: what lies ahead, for a cab unit */
+
+/* The objects ahead, in order. A train has last passed the object that starts at `offset` of the X.2 and leaves it by the link of an index, from 0
+ * in the order of the record's fields: a boundary has link 0 alone; a turnout has front 0, normal 1 and reverse 2; a balise, a signal and a joint
+ * have previous 0 and next 1. `lies` has 256 bytes, one for each turnout number: YARD_NORMAL, YARD_REVERSE or YARD_UNKNOWN. Equal turnout numbers
+ * share one lie; byte 0 belongs to no turnout, and is one of the three all the same.
+ *
+ * The pair is judged first, as by yard_pair, and its fault is answered with its file. Then YARD_QUESTION: no object starts at `offset`, or a
+ * siding or a balise of place above 1 does; the object has no such link; `lies` has not 256 bytes, or one of them is no lie. Then YARD_ROOM: `out`
+ * has fewer than YARD_AHEAD_SIZE bytes. Both are at place 0 and of file 0.
+ *
+ * An answer says why the list stops, YARD_STOP, and how many objects it has, YARD_OBJECTS: at most 64. Their places are put at the start of
+ * `out`, two bytes each and low byte first, nearest first: read them by yard_word. The bytes after them are left as they were. A refusal has 0 in
+ * both, and leaves every byte. */
+uint64_t yard_ahead(const uint8_t *first, size_t first_length, const uint8_t *second, size_t second_length, size_t offset, size_t link,
+                    const uint8_t *lies, size_t lies_length, uint8_t *out, size_t out_length);
+
+/* How many bytes the lies have, and how many the output has at least: two for each of 64 objects. */
+#define YARD_LIES_SIZE 256
+#define YARD_AHEAD_SIZE 128
+
+enum yard_lie {
+    YARD_NORMAL = 0,
+    YARD_REVERSE = 1,
+    YARD_UNKNOWN = 2
+};
+
+/* Why the list stops: one of enum yard_stop; 0 in a refusal. */
+#define YARD_STOP(answer) ((unsigned)((answer) >> 48 & 0xFF))
+
+/* How many objects it has; 0 in a refusal. */
+#define YARD_OBJECTS(answer) ((unsigned)((answer) >> 56))
+
+enum yard_stop {
+    YARD_STOP_BOUNDARY = 1,    /* at a boundary, the last object of the list */
+    YARD_STOP_NO_LINK = 2,     /* no link leads on from the last object, or from the one last passed */
+    YARD_STOP_UNKNOWN_LIE = 3, /* at a turnout, entered at the front, whose lie is unknown: the last object of the list */
+    YARD_STOP_REPEATED = 4,    /* what would follow stands in the list already, or was last passed */
+    YARD_STOP_AGAINST_LIE = 5, /* at a turnout, entered at a leg, that is known to lie for the other leg: the last object of the list */
+    YARD_STOP_FULL = 6         /* 64 objects are listed, and another would follow */
+};
 
 #ifdef __cplusplus
 }

@@ -5,11 +5,13 @@ use mathlib.Core.Bool.{Bool, true, false, _&&_}
 use mathlib.Core.List.{List, [], _∷_}
 use lib.Dec.{eqb, leb, ltb}
 use Rattle.octets.specs.Octets.{numAt}
+use Rattle.tables.specs.Table.{fieldPlace}
 use Rattle.x2_records.specs.declared.Kind.{Kind}
 use Rattle.x2_records.specs.declared.Links.{Links}
 use Rattle.x2_records.specs.declared.Links.the-variants as links
 use Rattle.x2_records.specs.Records.{linkFields}
 use Rattle.x2_records.specs.Places as place
+use Rattle.x2_records.specs.Rows as row
 use Rattle.x2_layout.specs.declared.Layout.{Layout}
 use Rattle.x2_layout.specs.Records.{kindAt}
 use Rattle.route_graph.specs.declared.Object.{Object}
@@ -19,17 +21,22 @@ use Rattle.route_graph.specs.declared.Object.the-variants.{Boundary, Pla
 abbrev pub linkAt : List ℕ → ℕ → ℕ
 linkAt f p = numAt 2 f p
 
--- the object whose links stand at some places
+-- the object at a place whose links stand at some places, and of a turnout its number too
 -- 01: X2.links.1
-abbrev pub viewOf : List ℕ → Links → Object
-viewOf f links.Nothing = Nothing
-viewOf f (links.One p) = Boundary (linkAt f p)
-viewOf f (links.Two p q) = Plain (record { previous = linkAt f p; next = linkAt f q })
-viewOf f (links.Three p q r) = Turnout (record { front = linkAt f p; normal = linkAt f q; reverse = linkAt f r })
+abbrev pub viewOf : List ℕ → ℕ → Links → Object
+viewOf f at links.Nothing = Nothing
+viewOf f at (links.One p) = Boundary (linkAt f p)
+viewOf f at (links.Two p q) = Plain (record { previous = linkAt f p; next = linkAt f q })
+viewOf f at (links.Three p q r) = Turnout (record {
+  number = numAt 1 f (fieldPlace at row.turnoutNumber);
+  front = linkAt f p;
+  normal = linkAt f q;
+  reverse = linkAt f r;
+})
 
 -- the record of a kind that starts at a place
 unfoldable pub viewAt : List ℕ → Kind → ℕ → Object
-viewAt f k at = viewOf f (linkFields k at)
+viewAt f k at = viewOf f at (linkFields k at)
 
 -- the object that starts at a place
 unfoldable pub objectAt : List ℕ → Layout → ℕ → Object

@@ -8,7 +8,7 @@ use Rattle.route_graph.specs.declared.Object.the-variants.{Boundary, Pla
 abbrev pub objectOf : Record → Object
 objectOf (record-of.StartBoundary b) = Boundary (b .link)
 objectOf (record-of.EndBoundary b) = Boundary (b .link)
-objectOf (record-of.Turnout t) = Turnout (record { front = t .front; normal = t .normal; reverse = t .reverse })
+objectOf (record-of.Turnout t) = Turnout (record { number = t .number; front = t .front; normal = t .normal; reverse = t .reverse })
 objectOf (record-of.Balise b) = Plain (record { previous = b .previous; next = b .next })
 objectOf (record-of.Signal s) = Plain (record { previous = s .previous; next = s .next })
 objectOf (record-of.Joint j) = Plain (record { previous = j .previous; next = j .next })

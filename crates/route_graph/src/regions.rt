@@ -53,5 +53,5 @@ pub fn object_in(f: &[u8], e: Ends, at: u16) -> Object
     ensures { λ r. ⌜ r ≡ objectIn (now (f .entry)) e at ⌝ }
 {
     let k = kind_in(e, at as usize);
-    view(f, k.links(at as u32))
+    view(f, at as u32, k.links(at as u32))
 }

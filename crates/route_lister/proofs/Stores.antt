@@ -11,17 +11,7 @@ use lib.Seq.{take-suc, length-take-le, take-suc-set, take-take}
 use lib.Dec.{eqb}
 use Rattle.route_walks.specs.Walks.{has}
 use Rattle.route_walks.specs.Lent.{roomOf, lay, lays}
-use Rattle.route_walks.proofs.Paths.{has-more}
-use Rattle.route_walks.proofs.Lent.{length-lays, lays-append, lays-out}
-
--- one turn of the loop of `passed`
-pub looked-more : (path : List ℕ) (i x : ℕ) (found : Bool) → i < length path → found ≡ has (take i path) x → (found || eqb (getD path i 0) x) ≡ has (take (i + 1) path) x
-looked-more path i x found h e = ap (λ (b : Bool). b || eqb (getD path i 0) x) e ∙ sym (rw (add-one i, take-suc path i 0 h) (has-more (take i path) (getD path i 0) x))
-
--- one word more
-lays-snoc : (out : List ℕ) (k : ℕ) (ws : List ℕ) (w : ℕ) → lays out k (ws ++ (w ∷ [])) ≡ lay (lays out k ws) (k + length ws) w
-unfolding lays
-lays-snoc out k ws w = lays-append out k ws (w ∷ [])
+use Rattle.route_walks.proofs.Lent.{length-lays, lays-append, lays-snoc, lays-out}
 
 -- one turn of the loop of `put`
 pub put-more : (out : List ℕ) (at i : ℕ) (path q q′ : List ℕ) → i < length path → q ≡ lays out (suc at) (take i path) → q′ ≡ lay q (at + 1 + i) (getD path i 0) → q′ ≡ lays out (suc at) (take (i + 1) path)

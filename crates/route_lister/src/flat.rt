@@ -43,7 +43,7 @@ fn object_of(f: &[u8], e: Ends, at: u16) -> Object
     ensures { λ r. ⌜ r ≡ objectIn (now (f .entry)) e at ⌝ }
 {
     let k = kind_in(e, at as usize);
-    view(f, k.links(at as u32))
+    view(f, at as u32, k.links(at as u32))
 }
 
 // Whether the walk of the first n of a path goes on by a link: it names an object, the limit allows one more, and the object does not stand

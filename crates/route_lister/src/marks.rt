@@ -7,6 +7,7 @@ ghost use lib.ListN.{length, take, set};
 ghost use Rattle.route_walks.specs.Walks.{has};
 ghost use Rattle.route_walks.specs.Range.{limitMost};
 ghost use Rattle.route_lister.specs.inner.Marks.{cells, cellOf, markOf, told, markFor, Marked};
+use route_walks::stands_in;
 
 // How many cells there are.
 pub const CELLS: usize = 2048;
@@ -38,28 +39,13 @@ fn is_told(path: &[u16], marks: &[u16; CELLS], n: usize, x: u16) -> bool
     cell_of(path[i]) == cell_of(x)
 }
 
-// Whether x stands among the first n of a path, by a search. Every one of them is looked at: without an early way out the loop takes several
-// at a time.
-fn passed(path: &[u16], n: usize, x: u16) -> bool
-    requires { ⌜ n ≤ length (now path) ⌝ }
-    ensures { λ r. ⌜ r ≡ has (take n (now (path .entry))) x ⌝ }
-{
-    let mut found = false;
-    let mut i = 0;
-    while i < n {
-        found = found | (path[i] == x);
-        i += 1;
-    }
-    found
-}
-
 // Whether x stands among the first n of a path. Where the mark of its cell says none of them, no search is needed.
 pub fn stands(path: &[u16], marks: &[u16; CELLS], n: usize, x: u16) -> bool
     requires { ⌜ (n ≤ length (now path)) × Marked (now marks) (now path) n ⌝ }
     ensures { λ r. ⌜ r ≡ has (take n (now (path .entry))) x ⌝ }
 {
     if is_told(path, marks, n, x) {
-        return passed(path, n, x);
+        return stands_in(&path[..n], x);
     }
     false
 }

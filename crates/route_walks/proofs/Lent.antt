@@ -45,6 +45,11 @@ unfolding lays
 lays-append out k [] vs = rw add-zero refl
 lays-append out k (w ∷ ws) vs = lays-append (lay out k w) (suc k) ws vs ∙ ap (λ (j : ℕ). lays (lays (lay out k w) (suc k) ws) j vs) (suc-add k (length ws) ∙ sym (add-suc k (length ws)))
 
+-- one word more
+pub lays-snoc : (out : List ℕ) (k : ℕ) (ws : List ℕ) (w : ℕ) → lays out k (ws ++ (w ∷ [])) ≡ lay (lays out k ws) (k + length ws) w
+unfolding lays
+lays-snoc out k ws w = lays-append out k ws (w ∷ [])
+
 pub octets-length : (ws : List ℕ) → length (octetsOf ws) ≡ wordSize * length ws
 unfolding octetsOf
 octets-length [] = refl

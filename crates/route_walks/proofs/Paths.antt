@@ -1,9 +1,12 @@
 -- Membership in a path, tested and stated.
-use Prim.Native.Nat.{ℕ}
+use Prim.Native.Nat.{ℕ, _+_, _<_}
+use native.Mathlib.Numerals.{add-one}
 use mathlib.Core.Path.{_≡_, refl, sym, ap, subst, _∙_}
 use mathlib.Core.Bool.{Bool, true, false, _||_}
 use mathlib.Core.Logic.{⊎-elim}
 use mathlib.Core.List.{List, [], _∷_, _++_, List·Memᴰ, List·Memᴰ·head, List·Memᴰ·tail, List·Memᴰ·not-nil, List·Memᴰ·cases-cons, Memᴰ·cast}
+use lib.ListN.{length, getD, take}
+use lib.Seq.{take-suc}
 use lib.Dec.{eqb}
 use borrow.Author.Tests.{ne-eqb, eqb-false}
 use Rattle.verdict.proofs.Orders.{neither}
@@ -23,6 +26,10 @@ has-more (a ∷ l) y x = ap (λ (b : Bool). eqb a x || b) (has-more l y x) ∙ o
     or-both : (b : Bool) → (b || (has l x || eqb y x)) ≡ ((b || has l x) || eqb y x)
     or-both true = refl
     or-both false = refl
+
+-- one turn of the loop of `stands_in`
+pub looked-more : (path : List ℕ) (i x : ℕ) (found : Bool) → i < length path → found ≡ has (take i path) x → (found || eqb (getD path i 0) x) ≡ has (take (i + 1) path) x
+looked-more path i x found h e = ap (λ (b : Bool). b || eqb (getD path i 0) x) e ∙ sym (rw (add-one i, take-suc path i 0 h) (has-more (take i path) (getD path i 0) x))
 
 -- x stands not in a list with one element more
 pub has-snoc : (l : List ℕ) (y x : ℕ) → has l x ≡ false → (y ≡ x → ⊥) → has (l ++ (y ∷ [])) x ≡ false

@@ -20,6 +20,7 @@ use Rattle.x2_layout.specs.Records.{kindAt, sizeAt}
 use Rattle.x2_layout.proofs.Records.{sizeAt-least, sizeAt-pos}
 use Rattle.x2_links.specs.Links.{linkable, named, isTarget}
 use Rattle.x2_links.specs.inner.Marks.{cell, cells, markOf, markIf, markAt, Blank, Targets, Marking}
+use Rattle.x2_links.proofs.Seeking.{other}
 
 -- ---- marks: of the place itself, and of another place of its cell
 
@@ -30,10 +31,6 @@ own-mark false x = ne-eqb 0 (markOf x) (λ e. omega arith)
 other-mark : (b : Bool) (at x : ℕ) → x / cell ≡ at / cell → (x ≡ at → ⊥) → eqb (markIf b at) (markOf x) ≡ false
 other-mark true at x e n = ne-eqb (markOf at) (markOf x) (λ q. n (omega arith))
 other-mark false at x e n = ne-eqb 0 (markOf x) (λ q. omega arith)
-
--- no other record is the one that x names
-other : (f : List ℕ) (l : Layout) (x y : ℕ) → (y ≡ x → ⊥) → test (named f l x y) ≡ false
-other f l x y h = rw (ne-eqb y x h)
 
 module _ (f : List ℕ) (l : Layout) where
   pub marking-none : (marks : List ℕ) → length marks ≡ cells → Blank marks → Marking f l marks (l .starts)

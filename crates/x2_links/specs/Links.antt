@@ -3,12 +3,12 @@
 -- of one record name the same target. The links of a balise of place above 1 (02, ticket 2) are those of the record directly before it,
 -- and no return is due for them.
 use Prim.Native.Nat.{ℕ}
-use mathlib.Core.Bool.{Bool, false, not, cond}
+use mathlib.Core.Bool.{Bool, false, not, cond, _&&_}
 use mathlib.Core.List.{List, [], _∷_, _++_}
-use lib.Dec.{eqb}
+use lib.Dec.{eqb, leb}
 use Rattle.octets.specs.Octets.{numAt}
 use Rattle.octets.specs.declared.Width.the-variants.{Two}
-use Rattle.verdict.specs.Facts.{Claim, always, same, both, either, denied, some, Fact, fact}
+use Rattle.verdict.specs.Facts.{Claim, always, same, both, either, denied, some, test, Fact, fact}
 use Rattle.verdict.specs.declared.Reason.the-variants as reason
 use Rattle.verdict.specs.declared.Mark.{Mark}
 use Rattle.verdict.specs.declared.Rule.{Rule}
@@ -50,6 +50,11 @@ named f l x s = both (same s x) (linkable f (kindAt l s) s)
 -- x names the start of a record that may be linked to
 unfoldable pub isTarget : List ℕ → Layout → ℕ → Claim
 isTarget f l x = some (starts f l) (named f l x)
+
+-- the same, tested: a link may name x, which is an offset in a file
+-- 02: Ticket9.10
+unfoldable pub mayName : List ℕ → Layout → ℕ → Bool
+mayName f l x = leb x numberMost && test (isTarget f l x)
 
 -- the link at p of the record at `at` is 0, or names such a record, and not its own
 abbrev pub target : List ℕ → Layout → ℕ → ℕ → Fact

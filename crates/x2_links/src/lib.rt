@@ -2,6 +2,7 @@
 // verdict so far and goes on with its facts, in byte order. A record is tested as a whole, and goes fact by fact only where that fails.
 // Where a record's links stand comes from its table, as one value (`Kind::links`).
 mod marks;
+mod named;
 mod targets;
 
 pub use marks::CELL;
@@ -9,4 +10,5 @@ pub use marks::CELLS;
 pub use marks::is_target;
 pub use marks::mark_if;
 pub use marks::may_link;
+pub use named::may_name;
 pub use targets::check_targets;

@@ -1,0 +1,34 @@
+-- Lies, tested one after the other.
+use Prim.Native.Nat.{ℕ, zero, suc, _+_, _<_}
+use native.Mathlib.Numerals.{add-one}
+use native.Mathlib.Omega.{arith}
+use mathlib.Core.Path.{_≡_, refl, sym, ap, _∙_}
+use mathlib.Core.Bool.{Bool, true, false, _&&_}
+use mathlib.Core.List.{List, [], _∷_}
+use lib.ListN.{length, take, getD}
+use lib.Dec.{leb}
+use Rattle.ahead.specs.Lies.{unknown, allLies}
+
+and-both : (a b c : Bool) → (a && (b && c)) ≡ ((a && b) && c)
+and-both true b c = refl
+and-both false b c = refl
+
+and-true-last : (b : Bool) → (b && true) ≡ b
+and-true-last true = refl
+and-true-last false = refl
+
+-- one more
+all-more : (lies : List ℕ) (i : ℕ) → i < length lies → allLies (take (suc i) lies) ≡ (allLies (take i lies) && leb (getD lies i 0) unknown)
+unfolding allLies
+all-more [] i h = absurd (omega arith)
+all-more (b ∷ lies) zero h = and-true-last (leb b unknown)
+all-more (b ∷ lies) (suc i) h = ap (λ (x : Bool). leb b unknown && x) (all-more lies i (omega arith)) ∙ and-both (leb b unknown) (allLies (take i lies)) (leb (getD lies i 0) unknown)
+
+pub looked-at : (lies : List ℕ) (i : ℕ) (right : Bool) → i < length lies → right ≡ allLies (take i lies) → (right && leb (getD lies i 0) unknown) ≡ allLies (take (i + 1) lies)
+looked-at lies i right h e = rw (add-one, e) (sym (all-more lies i h))
+
+-- inside the list it does not matter what stands past its end
+pub inside : (lies : List ℕ) (i a b : ℕ) → i < length lies → getD lies i a ≡ getD lies i b
+inside [] i a b h = absurd (omega arith)
+inside (x ∷ lies) zero a b h = refl
+inside (x ∷ lies) (suc i) a b h = inside lies i a b (omega arith)
