@@ -138,6 +138,15 @@ static uint64_t library_routes_flat(const stored *file)
                             words_of_routes, sizeof words_of_routes);
 }
 
+static uint64_t library_ahead(const stored *of)
+{
+    uint8_t out[YARD_AHEAD_SIZE];
+    return YARD_NUMBER(yard_ahead(of[0].bytes, of[0].length, of[1].bytes,
+                                  of[1].length, asked_boundary(&of[1]),
+                                  ASKED_LINK, asked_lies, sizeof asked_lies,
+                                  out, sizeof out));
+}
+
 /* ---- the core: one function for each compiler and question */
 
 #define BY_OWN(question)                                                     \
@@ -170,6 +179,7 @@ OF_CORE(header1)
 OF_CORE(header2)
 OF_CORE(routes)
 OF_CORE(routes_flat)
+OF_CORE(ahead)
 
 /* ---- the plain reader: 0 is accepted, as with the others */
 
@@ -254,6 +264,11 @@ static const row rows[] = {
     ROW("routes, 40957 walks", diamonds, DIAMONDS, routes, NULL),
     ROW("routes, 40957 walks, second engine", diamonds, DIAMONDS,
         routes_flat, NULL),
+    ROW("ahead, 12 objects", realistic_station, ABOUT_1_KB, ahead, NULL),
+    ROW("ahead, 12 objects", realistic_station, ABOUT_8_KB, ahead, NULL),
+    ROW("ahead, 12 objects, 255 tracks", largest_station, LARGEST, ahead,
+        NULL),
+    ROW("ahead, 64 objects", far_station, ABOUT_8_KB, ahead, NULL),
     ROW("checksum, plain C by eight tables", worst_application, LARGEST,
         checksum, eight_tables),
     { "checksum, plain C by one table", worst_application, LARGEST,

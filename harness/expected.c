@@ -235,6 +235,30 @@ static void expect_routes(const posed *ask, expected *due)
     due->words_size = 2 * got.words;
 }
 
+/* Why a list of what lies ahead stops, as the library says it. */
+static const uint64_t stops[IND_STOPS] = {
+    [IND_STOP_BOUNDARY] = YARD_STOP_BOUNDARY,
+    [IND_STOP_NO_LINK] = YARD_STOP_NO_LINK,
+    [IND_STOP_UNKNOWN_LIE] = YARD_STOP_UNKNOWN_LIE,
+    [IND_STOP_REPEATED] = YARD_STOP_REPEATED,
+    [IND_STOP_AGAINST_LIE] = YARD_STOP_AGAINST_LIE,
+    [IND_STOP_FULL] = YARD_STOP_FULL
+};
+
+/* The stop and the number of objects are part of the number returned; both are
+ * 0 in a refusal. */
+static void expect_ahead(const posed *ask, expected *due)
+{
+    const uint32_t *n = ask->numbers;
+    ind_ahead got = ind_ahead_of(
+        ask->bytes[0], ask->length[0], ask->bytes[1], ask->length[1],
+        n[AHEAD_OFFSET], n[AHEAD_LINK], ask->lies, n[AHEAD_LIES], due->words,
+        n[AHEAD_BYTES]);
+    answer(due, got.answer);
+    due->answer |= stops[got.stop] << 48 | (uint64_t)got.objects << 56;
+    due->words_size = IND_OFFSET_SIZE * got.objects;
+}
+
 static void header_values(const ind_header *got, expected *due)
 {
     answer(due, got->answer);
@@ -270,6 +294,7 @@ void expect(const posed *ask, expected *due)
     case ASK_RECORD: expect_record(ask, due); break;
     case ASK_ROUTES:
     case ASK_ROUTES2: expect_routes(ask, due); break;
+    case ASK_AHEAD: expect_ahead(ask, due); break;
     case ASK_HEADER1: expect_header1(ask, due); break;
     case ASK_HEADER2: expect_header2(ask, due); break;
     default: answer(due, answer_case(ask)); break;

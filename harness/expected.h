@@ -11,7 +11,8 @@ enum {
 };
 
 /* The answer as the library returns it, the bytes of its values and, of
- * routes, those of its words. A refused answer has neither. */
+ * routes and of what lies ahead, those of its words. A refused answer has
+ * neither. */
 typedef struct {
     uint64_t answer;
     uint32_t values_size;
@@ -24,7 +25,7 @@ typedef struct {
 uint32_t values_size_of(uint32_t asked_for);
 
 /* The answer to a case whose outputs are as long as they need to be; the room
- * for routes is the case's own. */
+ * for words is the case's own. */
 void expect(const posed *ask, expected *due);
 
 #endif

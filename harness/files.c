@@ -248,14 +248,16 @@ void largest_station(uint32_t bytes, stored *files)
     fitting_lines(bytes, &files[0], &files[1]);
 }
 
+/* An X.2 of two boundaries and nothing between them. */
+enum {
+    LINE_BARE = IND_START_ENTRIES_PLACE + IND_COUNT_SIZE + IND_GROUPS_SIZE
+        + 2 * (IND_ENTRY_SIZE + IND_BOUNDARY_SIZE) + IND_CHECKSUM_SIZE
+};
+
 void worst_application(uint32_t bytes, stored *file)
 {
-    enum {
-        BARE = IND_START_ENTRIES_PLACE + IND_COUNT_SIZE + IND_GROUPS_SIZE
-            + 2 * (IND_ENTRY_SIZE + IND_BOUNDARY_SIZE) + IND_CHECKSUM_SIZE
-    };
     static yard made;
-    uint32_t balises = (bytes - BARE) / IND_BALISE_PLAIN_SIZE;
+    uint32_t balises = (bytes - LINE_BARE) / IND_BALISE_PLAIN_SIZE;
     uint32_t at, port = 0, end;
     empty_yard(&made);
     at = add(&made, IND_START_BOUNDARY, IND_BOUNDARY_SIZE);
@@ -288,7 +290,8 @@ void diamonds(uint32_t count, stored *file)
     lay_out(&made, NULL, file);
 }
 
-void forks(uint32_t count, stored *file)
+/* One line of so many turnouts, on the tracks of an X.1 where one is given. */
+static void forks_on(uint32_t count, const stored *given, stored *file)
 {
     static yard made;
     uint32_t at, port = 0, end;
@@ -302,5 +305,16 @@ void forks(uint32_t count, stored *file)
     }
     end = add(&made, IND_END_BOUNDARY, IND_BOUNDARY_SIZE);
     join(&made, at, port, end, 0);
-    lay_out(&made, NULL, file);
+    lay_out(&made, given, file);
+}
+
+void forks(uint32_t count, stored *file)
+{
+    forks_on(count, NULL, file);
+}
+
+void far_station(uint32_t bytes, stored *files)
+{
+    realistic_geography(bytes, &files[0]);
+    forks_on((bytes - LINE_BARE) / IND_TURNOUT_SIZE, &files[0], &files[1]);
 }

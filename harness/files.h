@@ -39,4 +39,7 @@ void realistic_station(uint32_t bytes, stored *files);
 /* The same with an X.1 of 255 tracks, which the records name in no order. */
 void largest_station(uint32_t bytes, stored *files);
 
+/* A station whose X.2 is one line of turnouts as above, as many as fit. */
+void far_station(uint32_t bytes, stored *files);
+
 #endif

@@ -6,7 +6,8 @@
  * old bytes; on a refusal it keeps all of them. Routes are always asked of
  * both functions that list them, and the two have to leave the same bytes; a
  * coordinate and a point are always asked in degrees too, and first at every
- * whole degree. */
+ * whole degree. What lies ahead is asked with four lent buffers: two files,
+ * the lies, which have to keep their bytes too, and the objects. */
 #define _XOPEN_SOURCE 700
 #include <signal.h>
 #include <stdio.h>
@@ -38,8 +39,9 @@ enum {
 /* What stands in an output before a call. */
 #define OLD_BYTE(place) ((uint8_t)(0xA5 ^ (place)*7))
 
-/* A call: the case, the length of its outputs, and a number that is too
- * large for 32 bits, if it has one. */
+/* A call: the case, the length of its outputs, of which the objects ahead have
+ * the place of words, and a number that is too large for 32 bits, if it has
+ * one. */
 typedef struct {
     posed ask;
     uint32_t out_length;
@@ -57,7 +59,7 @@ typedef struct {
     uint64_t changed;
 } figures;
 
-static room files[FILES], out_room, words_room;
+static room files[FILES], lies_room, out_room, words_room;
 
 /* ---- signals: a signal is a defect; say in which call, and stop */
 
@@ -208,9 +210,15 @@ static uint64_t changed_in(const uint8_t *bytes, uint32_t length,
     return changed;
 }
 
+/* How many lies a call lends. */
+static uint32_t lies_of(const call *of)
+{
+    return of->ask.question == ASK_AHEAD ? of->ask.numbers[AHEAD_LIES] : 0;
+}
+
 /* The question, asked of the library. */
 static uint64_t ask_library(const call *of, const uint8_t *const file[FILES],
-                            uint8_t *out, uint8_t *words)
+                            const uint8_t *lies, uint8_t *out, uint8_t *words)
 {
     const uint32_t *length = of->ask.length;
     const uint64_t *n = of->above;
@@ -242,6 +250,10 @@ static uint64_t ask_library(const call *of, const uint8_t *const file[FILES],
     case ASK_ROUTES2:
         return yard_routes_flat(file[0], length[0], n[0], n[1], n[2], out,
                                 of->out_length, words, of->words_length);
+    case ASK_AHEAD:
+        return yard_ahead(file[0], length[0], file[1], length[1],
+                          n[AHEAD_OFFSET], n[AHEAD_LINK], lies, lies_of(of),
+                          words, of->words_length);
     case ASK_HEADER1:
         return yard_header1(file[0], length[0], out, of->out_length);
     default:
@@ -264,26 +276,38 @@ static int is_first_defect(void)
     return first;
 }
 
+/* All of an answer, one side's; only what lies ahead has a stop. */
+static void tell_answer(const char *side, uint64_t answer)
+{
+    printf("%-11s %u at %lu, file %u, stop %u, %u objects\n", side,
+           YARD_NUMBER(answer), (unsigned long)YARD_PLACE(answer),
+           YARD_FILE(answer), YARD_STOP(answer), YARD_OBJECTS(answer));
+}
+
 static void tell_difference(const call *of, uint64_t got, const expected *due)
 {
     if (!is_first_defect())
         return;
-    printf("first defect: %s %llu, question %s, output of %lu bytes, with "
-           "%s\n",
+    printf("first defect: %s %llu, question %s, output of %lu bytes, words of "
+           "%lu, with %s\n",
            cases_now, (unsigned long long)case_now,
-           question_name(of->ask.question),
-           (unsigned long)of->out_length, way_name((int)way_now));
-    printf("library     %u at %lu, file %u\n", YARD_NUMBER(got),
-           (unsigned long)YARD_PLACE(got), YARD_FILE(got));
-    printf("independent %u at %lu, file %u\n", YARD_NUMBER(due->answer),
-           (unsigned long)YARD_PLACE(due->answer), YARD_FILE(due->answer));
+           question_name(of->ask.question), (unsigned long)of->out_length,
+           (unsigned long)of->words_length, way_name((int)way_now));
+    tell_answer("library", got);
+    tell_answer("independent", due->answer);
     fflush(stdout);
 }
 
 /* The files that a question is about. */
 static int files_of(uint32_t asked_for)
 {
-    return asked_for == ASK_PAIR ? 2 : 1;
+    return asks_pair(asked_for) ? 2 : 1;
+}
+
+/* Whether a question has words for an output. */
+static int has_words(uint32_t asked_for)
+{
+    return asks_routes(asked_for) || asked_for == ASK_AHEAD;
 }
 
 /* Some buffer that the call lends has no bytes. */
@@ -294,7 +318,8 @@ static int lends_nothing(const call *of)
         if (of->ask.length[i] == 0)
             return 1;
     return (values_size_of(question) > 0 && of->out_length == 0)
-        || (asks_routes(question) && of->words_length == 0);
+        || (has_words(question) && of->words_length == 0)
+        || (question == ASK_AHEAD && lies_of(of) == 0);
 }
 
 /* One call with every buffer lent in one way; what is returned. */
@@ -304,22 +329,25 @@ static uint64_t one_call(figures *seen, const call *of, const expected *due,
     const uint8_t *file[FILES];
     uint8_t *out = lend(out_room, of->out_length, lent);
     uint8_t *words = lend(words_room, of->words_length, lent);
+    uint8_t *lies = lend(lies_room, lies_of(of), lent);
     uint64_t got, changed;
     for (int i = 0; i < FILES; i++) {
         uint8_t *bytes = lend(files[i], of->ask.length[i], lent);
         copy(bytes, of->ask.bytes[i], of->ask.length[i]);
         file[i] = bytes;
     }
+    copy(lies, of->ask.lies, lies_of(of));
     fill(out, of->out_length);
     fill(words, of->words_length);
     question_now = (sig_atomic_t)of->ask.question;
     way_now = (sig_atomic_t)lent;
-    got = ask_library(of, file, out, words);
+    got = ask_library(of, file, lies, out, words);
     question_now = NO_CALL;
     count_answer(seen, of->ask.question, got);
     seen->with_null += lent == NULL_FOR_NOTHING;
     changed = changed_in(out, of->out_length, due->values, due->values_size)
-        + changed_in(words, of->words_length, due->words, due->words_size);
+        + changed_in(words, of->words_length, due->words, due->words_size)
+        + !alike(lies, of->ask.lies, lies_of(of));
     for (int i = 0; i < FILES; i++)
         changed += !alike(file[i], of->ask.bytes[i], of->ask.length[i]);
     seen->differ += got != due->answer;
@@ -439,6 +467,8 @@ static call call_of(source *from, const asked *ask, uint32_t question)
     of.words_length = 0;
     if (asks_routes(question))
         of.words_length = 2 * ask->numbers[3] + draw(from, 2);
+    if (question == ASK_AHEAD)
+        of.words_length = ask->numbers[AHEAD_BYTES];
     for (int i = 0; i < NUMBERS; i++)
         of.above[i] = ask->numbers[i];
     raise_a_number(from, &of);
@@ -455,10 +485,12 @@ static void lend_nothing(source *from, call *of)
                 of->ask.length[i] = 0;
         if (once_in(from, 2))
             of->out_length = 0;
-        if (asks_routes(question) && once_in(from, 2)) {
+        if (has_words(question) && once_in(from, 2)) {
             of->words_length = 0;
             of->ask.numbers[3] = 0;
         }
+        if (question == ASK_AHEAD && once_in(from, 2))
+            of->ask.numbers[AHEAD_LIES] = 0;
     } while (!lends_nothing(of));
 }
 
@@ -536,7 +568,7 @@ static void run_case(figures *seen, const generation *run, uint64_t index)
         run_calls(seen, &from, &ask, 1);
         checksum_each_way(seen, &ask.files[0], 0);
     }
-    which = ask.question == ASK_PAIR ? draw(&from, FILES) : 0;
+    which = asks_pair(ask.question) ? draw(&from, FILES) : 0;
     flip_bits(&from, &ask.files[which]);
     if (!once_in(&from, 4))
         seal(&ask.files[which]);
@@ -612,6 +644,7 @@ int main(int count, char **words)
         return RUN_MISUSED;
     for (int i = 0; i < FILES; i++)
         files[i] = make_room(FILE_ROOM);
+    lies_room = make_room(LIES_ROOM);
     out_room = make_room(OUT_ROOM);
     words_room = make_room(LENT_WORDS_ROOM);
     catch_signals();

@@ -82,6 +82,16 @@ static uint64_t routes_flat(const stored *file)
         .answer.number;
 }
 
+static uint64_t ahead(const stored *files)
+{
+    uint8_t out[IND_AHEAD_ROOM];
+    return ind_ahead_of(files[0].bytes, files[0].length, files[1].bytes,
+                        files[1].length, asked_boundary(&files[1]),
+                        ASKED_LINK, asked_lies, sizeof asked_lies, out,
+                        sizeof out)
+        .answer.number;
+}
+
 const core_sides SIDES = {
 #ifdef __clang__
     "clang",
@@ -89,5 +99,5 @@ const core_sides SIDES = {
     "gcc",
 #endif
     checksum, x1, x2, pair, track, point, coordinate, record, header1,
-    header2, routes, routes_flat
+    header2, routes, routes_flat, ahead
 };

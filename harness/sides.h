@@ -15,8 +15,13 @@ enum {
     ASKED_POSITION = 1000,
     ASKED_LIMIT = 512,
     ASKED_BUDGET = 65535,
-    ROUTE_WORDS = 300000
+    ROUTE_WORDS = 300000,
+    /* A boundary's only link. */
+    ASKED_LINK = 0
 };
+
+/* All turnouts lie normal. */
+static const uint8_t asked_lies[IND_LIES] = { IND_LIE_NORMAL };
 
 /* The last track, its last point, the last record (a siding) and the first
  * boundary. */
@@ -55,6 +60,7 @@ typedef struct {
     side header2;
     side routes;
     side routes_flat;
+    side ahead;
 } core_sides;
 
 /* By this program's own compiler, and by clang where the program is built

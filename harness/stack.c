@@ -11,13 +11,16 @@
 
 enum { STACK = 1 << 20, FILLED = 0xA5, LARGEST = 65535, FIRST_START = 41, FORKS = 600, WORDS = 8192, OUTPUT = 128 };
 
+/* Where the header of an X.2 says where its first boundary starts. */
+enum { FIRST_ENTRY_OFFSET = 25 };
+
 /* What yard.h allows, in bytes. */
 enum { ON_X1 = 14 << 10, ON_X2 = 22 << 10, ON_PAIR = 25 << 10, ON_ROUTES = 250 << 10 };
 
 static unsigned char stack[STACK];
 static ucontext_t caller, called;
-static stored geography, heights, application, forked, station[2];
-static uint8_t out[OUTPUT], words[WORDS];
+static stored geography, heights, application, forked, station[2], far[2];
+static uint8_t out[OUTPUT], words[WORDS], lies[YARD_LIES_SIZE];
 static uint64_t answered;
 
 static void verdict1(void) { answered = yard_x1(geography.bytes, geography.length); }
@@ -54,6 +57,16 @@ static void routes_flat(size_t limit)
 static void flat_of_160(void) { routes_flat(160); }
 static void flat_of_512(void) { routes_flat(512); }
 
+/* What lies ahead of the first boundary of a pair, all turnouts normal. */
+static void ahead_in(const stored *of)
+{
+    size_t first = yard_word(of[1].bytes + FIRST_ENTRY_OFFSET, 0);
+    answered = yard_ahead(of[0].bytes, of[0].length, of[1].bytes, of[1].length, first, 0, lies, sizeof lies, out, OUTPUT);
+}
+
+static void ahead(void) { ahead_in(station); }
+static void ahead_far(void) { ahead_in(far); }
+
 typedef struct {
     const char *name;
     void (*call)(void);
@@ -82,6 +95,8 @@ static const measured calls[] = {
     { "routes, limit 512", routes_of_512, ON_ROUTES },
     { "routes, limit 160, flat", flat_of_160, ON_X2 },
     { "routes, limit 512, flat", flat_of_512, ON_X2 },
+    { "ahead", ahead, ON_PAIR },
+    { "ahead, 64 objects", ahead_far, ON_PAIR },
 };
 
 /* The bytes of the stack that a call changes. */
@@ -108,6 +123,7 @@ int main(void)
     worst_application(LARGEST, &application);
     forks(FORKS, &forked);
     largest_station(LARGEST, station);
+    far_station(LARGEST, far);
     for (size_t i = 0; i < sizeof calls / sizeof calls[0]; i++) {
         unsigned bytes = taken(calls[i].call);
         printf("%-23s %6u bytes of stack, at most %6u; number %u\n", calls[i].name, bytes, calls[i].allowed, YARD_NUMBER(answered));

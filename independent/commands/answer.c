@@ -1,5 +1,6 @@
 /* The answers, as yardask prints them: the first line has number and place
- * (and file for the pair), then one name and value per line. */
+ * (and file for the pair and for what lies ahead), then one name and value per
+ * line. */
 #include "answer.h"
 
 #include "batch.h"
@@ -60,6 +61,16 @@ static ind_routes ask_routes(const posed *ask)
                            room, &walks);
 }
 
+ind_ahead ask_ahead(const posed *ask, uint8_t out[IND_AHEAD_ROOM])
+{
+    const uint32_t *n = ask->numbers;
+    uint32_t room =
+        n[AHEAD_BYTES] < IND_AHEAD_ROOM ? n[AHEAD_BYTES] : IND_AHEAD_ROOM;
+    return ind_ahead_of(ask->bytes[0], ask->length[0], ask->bytes[1],
+                        ask->length[1], n[AHEAD_OFFSET], n[AHEAD_LINK],
+                        ask->lies, n[AHEAD_LIES], out, room);
+}
+
 static ind_header ask_header(const posed *ask)
 {
     if (ask->question == ASK_HEADER1)
@@ -69,6 +80,7 @@ static ind_header ask_header(const posed *ask)
 
 ind_answer answer_case(const posed *ask)
 {
+    uint8_t out[IND_AHEAD_ROOM];
     switch (ask->question) {
     case ASK_X1: return ind_x1(ask->bytes[0], ask->length[0]);
     case ASK_X1_VERSION_1:
@@ -83,6 +95,7 @@ ind_answer answer_case(const posed *ask)
     case ASK_RECORD: return ask_record(ask).answer;
     case ASK_ROUTES:
     case ASK_ROUTES2: return ask_routes(ask).answer;
+    case ASK_AHEAD: return ask_ahead(ask, out).answer;
     default: return ask_header(ask).answer;
     }
 }
@@ -94,6 +107,15 @@ const char *kind_name(ind_kind kind)
         "joint", "siding"
     };
     return kind < IND_KINDS ? names[kind] : "";
+}
+
+const char *stop_name(ind_stop stop)
+{
+    static const char *const names[IND_STOPS] = {
+        "", "boundary", "no-link", "unknown-lie", "repeated", "against-lie",
+        "full"
+    };
+    return stop < IND_STOPS ? names[stop] : "";
 }
 
 static void line(FILE *output, const char *name, int64_t value)
@@ -351,6 +373,22 @@ static void print_routes(FILE *output, const posed *ask)
     print_listing(output, &routes, route_words);
 }
 
+/* The offsets of the objects stand on one line, each after a blank. */
+static void print_ahead(FILE *output, const posed *ask)
+{
+    uint8_t out[IND_AHEAD_ROOM];
+    ind_ahead ahead = ask_ahead(ask, out);
+    pair_line(output, ahead.answer);
+    if (ahead.answer.number != IND_ACCEPTED)
+        return;
+    word_line(output, "stop", stop_name(ahead.stop));
+    fputs("objects", output);
+    for (uint32_t i = 0; i < ahead.objects; i++)
+        fprintf(output, " %lu",
+                (unsigned long)ind_two(out, IND_OFFSET_SIZE * i));
+    putc('\n', output);
+}
+
 /* The station's name stands in an X.2's header alone. */
 static void print_header(FILE *output, const posed *ask)
 {
@@ -382,6 +420,7 @@ void print_answer(FILE *output, const posed *ask)
     case ASK_RECORD: print_record(output, ask); break;
     case ASK_ROUTES:
     case ASK_ROUTES2: print_routes(output, ask); break;
+    case ASK_AHEAD: print_ahead(output, ask); break;
     default: print_header(output, ask); break;
     }
 }
@@ -393,6 +432,7 @@ static const char *reading_fault(reading got)
         return "standard input cannot be read";
     switch (got) {
     case READ_CUT_OFF: return "the input ends inside a case";
+    case READ_TOO_MANY_LIES: return "a case has more lies than bytes";
     default: return "a case asks an unknown question";
     }
 }

@@ -10,11 +10,19 @@
 /* The word that names a kind in an answer. */
 const char *kind_name(ind_kind kind);
 
+/* The word that names why a list of what lies ahead stops. */
+const char *stop_name(ind_stop stop);
+
 /* The answer's number, place and file. */
 ind_answer answer_case(const posed *ask);
 
 /* The answer to a case of degrees or of point-degrees. */
 ind_degrees ask_degrees(const posed *ask);
+
+/* The answer to a case of ahead; the objects go to the lent bytes, of which
+ * there are as many as the core needs. A larger room than that changes
+ * nothing. */
+ind_ahead ask_ahead(const posed *ask, uint8_t out[IND_AHEAD_ROOM]);
 
 /* One route, from its count word on: its offsets on one line. */
 void print_route_line(FILE *output, const uint16_t *route);

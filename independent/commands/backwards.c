@@ -516,6 +516,8 @@ static int go_through(check *of, FILE *cases, FILE *answers)
         return unjudged(of, "the cases cannot be read");
     if (got == READ_CUT_OFF)
         return unjudged(of, "the cases end inside it");
+    if (got == READ_TOO_MANY_LIES)
+        return unjudged(of, "it has more lies than bytes");
     if (got == READ_UNKNOWN_QUESTION)
         return unjudged(of, "it asks an unknown question");
     if (of->cases == 0)

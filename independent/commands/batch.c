@@ -21,11 +21,27 @@ static int pass_over(FILE *input, uint32_t length)
     return 1;
 }
 
-static int read_file(FILE *input, stored *file)
+static int read_bytes(FILE *input, uint8_t *bytes, uint32_t length,
+                      uint32_t most)
 {
-    if (file->length > IND_LARGEST_FILE)
-        return pass_over(input, file->length);
-    return fread(file->bytes, 1, file->length, input) == file->length;
+    if (length > most)
+        return pass_over(input, length);
+    return fread(bytes, 1, length, input) == length;
+}
+
+/* How many lies stand behind the second file. */
+static uint32_t lies_of(const asked *ask)
+{
+    return ask->question == ASK_AHEAD ? ask->numbers[AHEAD_LIES] : 0;
+}
+
+/* The numbers, and the lengths of the two byte strings. */
+static void take_head(const uint8_t *head, asked *ask)
+{
+    for (uint32_t i = 0; i < NUMBERS; i++)
+        ask->numbers[i] = ind_four(head, NUMBER_SIZE * i);
+    for (uint32_t i = 0; i < FILES; i++)
+        ask->files[i].length = ind_four(head, NUMBERS_SIZE + NUMBER_SIZE * i);
 }
 
 reading read_case(FILE *input, asked *ask)
@@ -39,14 +55,17 @@ reading read_case(FILE *input, asked *ask)
     ask->question = (uint32_t)first;
     if (fread(head, 1, sizeof head, input) != sizeof head)
         return READ_CUT_OFF;
-    for (uint32_t i = 0; i < NUMBERS; i++)
-        ask->numbers[i] = ind_four(head, NUMBER_SIZE * i);
+    take_head(head, ask);
+    if (lies_of(ask) > ask->files[1].length)
+        return READ_TOO_MANY_LIES;
+    ask->files[1].length -= lies_of(ask);
     for (uint32_t i = 0; i < FILES; i++)
-        ask->files[i].length = ind_four(head, NUMBERS_SIZE + NUMBER_SIZE * i);
-    for (uint32_t i = 0; i < FILES; i++)
-        if (!read_file(input, &ask->files[i]))
+        if (!read_bytes(input, ask->files[i].bytes, ask->files[i].length,
+                        IND_LARGEST_FILE))
             return READ_CUT_OFF;
-    return READ_WHOLE;
+    return read_bytes(input, ask->lies, lies_of(ask), LIES_ROOM)
+        ? READ_WHOLE
+        : READ_CUT_OFF;
 }
 
 static void write_number(FILE *output, uint32_t number)
@@ -60,8 +79,9 @@ void write_case(FILE *output, const asked *ask)
     putc((int)ask->question, output);
     for (int i = 0; i < NUMBERS; i++)
         write_number(output, ask->numbers[i]);
-    for (int i = 0; i < FILES; i++)
-        write_number(output, ask->files[i].length);
+    write_number(output, ask->files[0].length);
+    write_number(output, ask->files[1].length + lies_of(ask));
     for (int i = 0; i < FILES; i++)
         fwrite(ask->files[i].bytes, 1, ask->files[i].length, output);
+    fwrite(ask->lies, 1, lies_of(ask), output);
 }

@@ -11,7 +11,8 @@
 #include "plan.h"
 
 enum {
-    UNTOUCHED = 0xA55A
+    UNTOUCHED = 0xA55A,
+    UNTOUCHED_BYTE = 0xA5
 };
 
 static int alike(ind_answer one, ind_answer other)
@@ -85,21 +86,71 @@ static int listing_right(const posed *ask)
     return right;
 }
 
+/* A refusal touches no byte, an answer none after its objects. */
+static int bytes_kept(const ind_ahead *found, const uint8_t *bytes,
+                      uint32_t room)
+{
+    uint32_t kept = IND_OFFSET_SIZE * found->objects;
+    while (kept < room && bytes[kept] == UNTOUCHED_BYTE)
+        kept++;
+    return kept == room;
+}
+
+/* The objects ahead into exactly the room lent: the same as elsewhere, and the
+ * other bytes are kept. */
+static int ahead_right(const posed *ask)
+{
+    const uint32_t *n = ask->numbers;
+    uint32_t room = n[AHEAD_BYTES];
+    uint8_t *bytes = block(room), due[IND_AHEAD_ROOM];
+    ind_ahead elsewhere = ask_ahead(ask, due), found;
+    int right;
+    memset(bytes, UNTOUCHED_BYTE, room);
+    found = ind_ahead_of(ask->bytes[0], ask->length[0], ask->bytes[1],
+                         ask->length[1], n[AHEAD_OFFSET], n[AHEAD_LINK],
+                         ask->lies, n[AHEAD_LIES], bytes, room);
+    right = alike(found.answer, elsewhere.answer)
+        && found.stop == elsewhere.stop && found.objects == elsewhere.objects
+        && bytes_kept(&found, bytes, room)
+        && memcmp(bytes, due, IND_OFFSET_SIZE * found.objects) == 0;
+    free(bytes);
+    return right;
+}
+
+/* Lies of a case of ahead, in a block of their own; of another case none. */
+static uint8_t *block_of_lies(const asked *ask)
+{
+    uint32_t count =
+        ask->question == ASK_AHEAD ? ask->numbers[AHEAD_LIES] : 0;
+    uint8_t *lies = block(count);
+    memcpy(lies, ask->lies, count);
+    return lies;
+}
+
+/* What was left beside the answer, of the questions that leave something. */
+static int left_right(const posed *ask)
+{
+    if (asks_routes(ask->question))
+        return listing_right(ask);
+    return ask->question != ASK_AHEAD || ahead_right(ask);
+}
+
 static int case_right(const asked *ask)
 {
     posed roomy = pose(ask);
     posed exact = roomy;
-    uint8_t *blocks[FILES];
+    uint8_t *blocks[FILES], *lies = block_of_lies(ask);
     int right;
     for (int i = 0; i < FILES; i++) {
         blocks[i] = block_of(&ask->files[i]);
         exact.bytes[i] = blocks[i];
     }
-    right = alike(answer_case(&roomy), answer_case(&exact));
-    if (asks_routes(ask->question))
-        right = right && listing_right(&exact);
+    exact.lies = lies;
+    right = alike(answer_case(&roomy), answer_case(&exact))
+        && left_right(&exact);
     for (int i = 0; i < FILES; i++)
         free(blocks[i]);
+    free(lies);
     return right;
 }
 

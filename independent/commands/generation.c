@@ -52,6 +52,6 @@ int read_generation(int count, char **words, generation *run)
         named += strcmp(words[i], "small") != 0;
     }
     for (uint32_t i = ASK_X1; named == 0 && i < QUESTIONS; i++)
-        run->kinds.asked_for[i] = is_question(i) && i == first_of(i);
+        run->kinds.asked_for[i] = is_asked_unnamed(i);
     return 1;
 }

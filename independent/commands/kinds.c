@@ -397,13 +397,104 @@ static void name_refused_listing(const asked *ask, uint32_t number,
              largest ? "_largest" : "", once ? "_not_64" : "");
 }
 
+/* An answered list of what lies ahead: why it stops, and how many objects it
+ * has. */
+static void name_stop(const ind_ahead *found, char *name)
+{
+    const char *many = found->objects == 0 ? "0"
+        : found->objects == 1              ? "1"
+        : found->objects < IND_AHEAD_MOST  ? "up_to_63"
+                                           : "64";
+    snprintf(name, PLACE_ROOM, "%s_%s", stop_name(found->stop), many);
+}
+
+/* Where an offset stands at which no object starts that can be passed. */
+static const char *offset_name(const ind_layout *layout, ind_kind kind,
+                               uint32_t offset)
+{
+    if (kind == IND_SIDING)
+        return "siding";
+    if (kind == IND_BALISE)
+        return "member";
+    if (offset > IND_LARGEST_OF_TWO)
+        return "offset_above_65535";
+    if (offset < layout->header)
+        return "offset_in_header";
+    return offset < layout->end ? "offset_inside" : "offset_beyond";
+}
+
+/* Whether a turnout of an X.2 has this number. */
+static int is_turnout_number(const uint8_t *bytes, const ind_layout *layout,
+                             uint32_t number)
+{
+    uint32_t turnout = layout->from[IND_TURNOUT];
+    while (turnout < layout->to[IND_TURNOUT]
+           && bytes[turnout + IND_TURNOUT_NUMBER] != number)
+        turnout += IND_TURNOUT_SIZE;
+    return turnout < layout->to[IND_TURNOUT];
+}
+
+/* How many lies there are, where that is wrong, and else where the first byte
+ * that is none of the three stands. */
+static void name_lies(const asked *ask, const ind_layout *layout, char *name)
+{
+    uint32_t count = ask->numbers[AHEAD_LIES], wrong = 0;
+    while (wrong < count && count == IND_LIES
+           && ask->lies[wrong] <= IND_LIE_UNKNOWN)
+        wrong++;
+    if (count != IND_LIES)
+        snprintf(name, PLACE_ROOM, "lies_%lu", (unsigned long)count);
+    else if (wrong == 0)
+        strcpy(name, "lie_at_0");
+    else if (is_turnout_number(ask->files[1].bytes, layout, wrong))
+        strcpy(name, "lie_of_turnout");
+    else
+        strcpy(name, "lie_of_none");
+}
+
+/* Why what lies ahead is refused by 13; of several causes the first that the
+ * paper says. */
+static void name_cause(const asked *ask, char *name)
+{
+    const uint8_t *bytes = ask->files[1].bytes;
+    uint32_t offset = ask->numbers[AHEAD_OFFSET];
+    ind_layout layout;
+    ind_kind kind;
+    ind_application_layout(bytes, ind_end(ask->files[1].length), &layout);
+    kind = ind_starting_at(bytes, &layout, offset);
+    if (kind == IND_NO_KIND || kind == IND_SIDING
+        || is_member(bytes, (ind_object){ kind, offset }))
+        strcpy(name, offset_name(&layout, kind, offset));
+    else if (ask->numbers[AHEAD_LINK] >= ind_links(kind))
+        snprintf(name, PLACE_ROOM, "link_of_%s", kind_name(kind));
+    else
+        name_lies(ask, &layout, name);
+}
+
+/* What lies ahead, where the pair is accepted. */
+static void name_ahead(const asked *ask, uint32_t number, char *name)
+{
+    uint8_t out[IND_AHEAD_ROOM];
+    posed given = pose(ask);
+    ind_ahead found = ask_ahead(&given, out);
+    if (number == IND_ACCEPTED)
+        name_stop(&found, name);
+    else if (number == IND_OUT_OF_RANGE)
+        name_cause(ask, name);
+    else
+        snprintf(name, PLACE_ROOM, "room_%lu",
+                 (unsigned long)ask->numbers[AHEAD_BYTES]);
+}
+
 /* An answer that is about no place: what was answered, or of an X.1 which
  * version it has. */
 static void name_without_place(const asked *ask, uint32_t number, char *name)
 {
     int application = of_application(ask->question);
     strcpy(name, "0");
-    if (ask->question == ASK_RECORD && number == IND_ACCEPTED)
+    if (ask->question == ASK_AHEAD)
+        name_ahead(ask, number, name);
+    else if (ask->question == ASK_RECORD && number == IND_ACCEPTED)
         name_named_record(ask, name);
     else if (asks_routes(ask->question) && number == IND_ACCEPTED)
         name_listing(ask, name);
@@ -501,7 +592,7 @@ static void name_lookup(const asked *ask, ind_answer answer, char *name)
 
 static void name_place(const asked *ask, ind_answer answer, char *name)
 {
-    uint32_t which = ask->question == ASK_PAIR && answer.file == IND_FILE_X2;
+    uint32_t which = asks_pair(ask->question) && answer.file == IND_FILE_X2;
     int application = which == 1 || of_application(ask->question);
     const stored *file = &ask->files[which];
     if (answer.number == IND_LENGTH)

@@ -7,67 +7,10 @@
 #include "answer.h"
 #include "batch.h"
 #include "core/core.h"
-#include "generator/make.h"
+#include "drawn.h"
 #include "self.h"
 
 /* ---- yards */
-
-/* The two links of a plain object, in field order. */
-enum {
-    PREVIOUS = 0,
-    NEXT = 1,
-    /* A boundary's only one. */
-    LINK = 0
-};
-
-static uint32_t size_of(ind_kind kind)
-{
-    switch (kind) {
-    case IND_TURNOUT: return IND_TURNOUT_SIZE;
-    case IND_SIGNAL: return IND_SIGNAL_SIZE;
-    case IND_JOINT: return IND_JOINT_SIZE;
-    default: return IND_BOUNDARY_SIZE;
-    }
-}
-
-/* One object more, without links, after those of its kind. */
-static uint32_t put(yard *made, ind_kind kind)
-{
-    object *added = &made->objects[++made->count];
-    memset(added, 0, sizeof *added);
-    added->kind = kind;
-    added->size = size_of(kind);
-    added->order = made->count;
-    added->seed = made->count;
-    return made->count;
-}
-
-/* The first of so many objects of a kind, which stand one after another. */
-static uint32_t put_several(yard *made, ind_kind kind, uint32_t several)
-{
-    uint32_t first = made->count + 1;
-    while (several-- > 0)
-        put(made, kind);
-    return first;
-}
-
-static void join(yard *made, uint32_t one, uint32_t port, uint32_t other,
-                 uint32_t other_port)
-{
-    made->objects[one].links[port] = other;
-    made->objects[other].links[other_port] = one;
-}
-
-/* A yard with so many start boundaries, from object 1 on, and after them so
- * many end boundaries. */
-static void begin(yard *made, uint32_t starts, uint32_t ends)
-{
-    memset(made, 0, sizeof *made);
-    made->data_version = 1;
-    made->station = 1;
-    put_several(made, IND_START_BOUNDARY, starts);
-    put_several(made, IND_END_BOUNDARY, ends);
-}
 
 static yard drawn;
 

@@ -56,7 +56,8 @@ static int usage(void)
         fprintf(stderr, "  %s\n", commands[i].usage);
     fputs("after SEED COUNT may stand kinds: x1 x2 pair track point "
           "coordinate record\nroutes header1 header2 routes2 degrees "
-          "point-degrees x1-version-1; and small,\nfor small files alone\n",
+          "point-degrees ahead x1-version-1; and\nsmall, for small files "
+          "alone\n",
           stderr);
     return RUN_MISUSED;
 }

@@ -3,7 +3,8 @@
  * the lookup of tracks by its ticket 7, long lines by its ticket 8, names by
  * its ticket 10, heights by its ticket 11 and fixed listings by both listers
  * of its ticket 12, each asserted of the core; the check of its ticket 13,
- * routes read backwards; and degrees by its ticket 14. */
+ * routes read backwards; degrees by its ticket 14; and what lies ahead by its
+ * ticket 9. */
 #include "self.h"
 
 #include <string.h>
@@ -241,8 +242,7 @@ static void make_n(stored *file)
     seal(file);
 }
 
-/* One track from (0, 0) to a position and a latitude, all else least. */
-static void make_one_track(stored *file, uint32_t position, int32_t latitude)
+void make_one_track(stored *file, uint32_t position, int32_t latitude)
 {
     uint8_t *bytes = file->bytes, *track = bytes + ONE_TRACK;
     memset(file, 0, sizeof *file);
@@ -770,6 +770,15 @@ static int list_prints(const stored *y, const char *due)
     return printed(kept, due);
 }
 
+int prints(const posed *ask, const char *due)
+{
+    FILE *kept = tmpfile();
+    if (kept == NULL)
+        return 0;
+    print_answer(kept, ask);
+    return printed(kept, due);
+}
+
 /* A question about one file, its first number given and all others 0. */
 static int asked_prints(uint32_t question, uint32_t number,
                         const stored *file, const char *due)
@@ -777,12 +786,9 @@ static int asked_prints(uint32_t question, uint32_t number,
     posed ask = { question,
                   { number },
                   { file->bytes, NULL },
-                  { file->length, 0 } };
-    FILE *kept = tmpfile();
-    if (kept == NULL)
-        return 0;
-    print_answer(kept, &ask);
-    return printed(kept, due);
+                  { file->length, 0 },
+                  NULL };
+    return prints(&ask, due);
 }
 
 static int answer_prints(uint32_t question, const stored *file,
@@ -1430,6 +1436,7 @@ int command_self(int count, char **words)
     plan_examples();
     backwards_examples();
     degrees_examples();
+    ahead_examples();
     if (count == 1)
         depot_examples(words[0]);
     printf("%lu passed, %lu failed\n", passed, failed);

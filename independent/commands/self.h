@@ -4,7 +4,7 @@
 
 #include <stdio.h>
 
-#include "generator/stored.h"
+#include "generator/asked.h"
 
 /* Yard Y: where its records start. */
 enum {
@@ -39,8 +39,15 @@ void make_y(stored *file, uint32_t reverse);
  * have its links. */
 void make_g(stored *file);
 
+/* An X.1 of station 1 with one track, number 1, from (0, 0) to a position and a
+ * latitude, all else least. */
+void make_one_track(stored *file, uint32_t position, int32_t latitude);
+
 /* Whether this text and nothing else was printed; closes what was kept. */
 int printed(FILE *kept, const char *due);
+
+/* Whether this text and nothing else is printed as the answer to a case. */
+int prints(const posed *ask, const char *due);
 
 /* Plans, beside yard Y. */
 void plan_examples(void);
@@ -51,6 +58,10 @@ void backwards_examples(void);
 /* Degrees: the division, every whole degree, refusals, and what the cases of
  * whole degrees notice. */
 void degrees_examples(void);
+
+/* What lies ahead: each stop, the order of judging, refusals, and the form of
+ * its cases. */
+void ahead_examples(void);
 
 /* The first depot beside its plan, from the folder of the examples. */
 void depot_examples(const char *folder);

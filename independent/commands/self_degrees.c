@@ -26,16 +26,6 @@ static int same_bits(double one, double other)
     return ind_bits_of(one) == ind_bits_of(other);
 }
 
-/* Whether a case prints this and nothing else. */
-static int prints(const posed *ask, const char *due)
-{
-    FILE *kept = tmpfile();
-    if (kept == NULL)
-        return 0;
-    print_answer(kept, ask);
-    return printed(kept, due);
-}
-
 /* ---- degrees of milliarcseconds */
 
 static const struct {
@@ -351,7 +341,9 @@ static void refusal_examples(void)
     static const ind_answer too_short = { 1, 0, 0 };
     static asked ask;
     whole_degree put;
-    posed nothing = { ASK_DEGREES, { 1, 0, 0, 0 }, { NULL, NULL }, { 0, 0 } };
+    posed nothing = {
+        ASK_DEGREES, { 1, 0, 0, 0 }, { NULL, NULL }, { 0, 0 }, NULL
+    };
     ind_degrees found = ask_degrees(&nothing), of_point;
     nothing.question = ASK_POINT_DEGREES;
     of_point = ask_degrees(&nothing);

@@ -9,7 +9,7 @@
  * whose length is outside 01's limits, and none outside the bytes given; where
  * a length is 0 the pointer may be null.
  * A refused answer holds the number and the place (and for the pair the file);
- * all else in it is 0, and lent words keep their contents. */
+ * all else in it is 0, and lent words and bytes keep their contents. */
 #ifndef IND_CORE_H
 #define IND_CORE_H
 
@@ -29,6 +29,7 @@
 #include "station.h"
 #include "routes.h"
 #include "choices.h"
+#include "ahead.h"
 #include "plan.h"
 
 #endif

@@ -102,9 +102,8 @@ static ind_siding read_siding(const uint8_t *file, uint32_t start)
     return siding;
 }
 
-/* The kind of the record that starts at an offset, IND_NO_KIND if none. */
-static ind_kind starting_at(const uint8_t *file, const ind_layout *layout,
-                            uint32_t offset)
+ind_kind ind_starting_at(const uint8_t *file, const ind_layout *layout,
+                         uint32_t offset)
 {
     ind_object record = { ind_kind_at(layout, offset), 0 };
     if (record.kind == IND_NO_KIND)
@@ -144,7 +143,7 @@ ind_record ind_record_at(const uint8_t *file, size_t length, uint32_t offset)
     record.answer = ind_application(file, length, &layout);
     if (record.answer.number != IND_ACCEPTED)
         return record;
-    record.kind = starting_at(file, &layout, offset);
+    record.kind = ind_starting_at(file, &layout, offset);
     if (record.kind == IND_NO_KIND)
         record.answer = ind_says(IND_OUT_OF_RANGE, 0);
     else

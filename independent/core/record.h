@@ -3,7 +3,7 @@
 #define IND_RECORD_H
 
 #include "answer.h"
-#include "tables.h"
+#include "layout.h"
 
 /* Fields in the order of tables 6 to 12. Names and messages are given as
  * their places in the file and how many bytes they have; an empty name has 0,
@@ -106,6 +106,11 @@ typedef struct {
     ind_joint joint;
     ind_siding siding;
 } ind_record;
+
+/* In a file whose layout is right: the kind of the record that starts at an
+ * offset, IND_NO_KIND if none. */
+ind_kind ind_starting_at(const uint8_t *file, const ind_layout *layout,
+                         uint32_t offset);
 
 /* Record at an offset. */
 ind_record ind_record_at(const uint8_t *file, size_t length, uint32_t offset);

@@ -13,6 +13,7 @@ posed pose(const asked *ask)
         given.bytes[i] = ask->files[i].bytes;
         given.length[i] = ask->files[i].length;
     }
+    given.lies = ask->lies;
     return given;
 }
 
@@ -32,6 +33,7 @@ const char *question_name(uint32_t asked_for)
         [ASK_ROUTES2] = "routes2",
         [ASK_DEGREES] = "degrees",
         [ASK_POINT_DEGREES] = "point-degrees",
+        [ASK_AHEAD] = "ahead",
         [ASK_X1_VERSION_1] = "x1-version-1"
     };
     return asked_for < QUESTIONS ? names[asked_for] : NULL;
@@ -60,6 +62,17 @@ uint32_t first_of(uint32_t asked_for)
     case ASK_ROUTES2: return ASK_ROUTES;
     default: return asked_for;
     }
+}
+
+int is_asked_unnamed(uint32_t asked_for)
+{
+    return is_question(asked_for) && asked_for == first_of(asked_for)
+        && asked_for != ASK_AHEAD;
+}
+
+int asks_pair(uint32_t asked_for)
+{
+    return asked_for == ASK_PAIR || asked_for == ASK_AHEAD;
 }
 
 int asks_routes(uint32_t asked_for)

@@ -2,6 +2,7 @@
 #ifndef ASKED_H
 #define ASKED_H
 
+#include "core/ahead.h"
 #include "stored.h"
 
 /* The questions, by the number that asks each. */
@@ -22,30 +23,49 @@ enum {
     /* Coordinate and point in degrees, by its ticket 14. */
     ASK_DEGREES,
     ASK_POINT_DEGREES,
-    /* The numbers between are kept for questions that are still to come. */
-    ASK_X1_VERSION_1 = 16,
+    /* The number between is kept for a question that is still to come. What
+     * lies ahead, by its ticket 9. */
+    ASK_AHEAD = 15,
+    ASK_X1_VERSION_1,
     QUESTIONS
 };
 
 enum {
     NUMBERS = 4,
     FILES = 2,
-    /* The most words that a generated case lends for routes. */
-    ROOM_LARGEST = 65535
+    /* The most words that a generated case lends for routes, and the most
+     * bytes for what lies ahead. */
+    ROOM_LARGEST = 65535,
+    /* The most lies that a generated case has. */
+    LIES_ROOM = 2 * IND_LIES
 };
 
+/* The numbers of a case of ahead. */
+enum {
+    AHEAD_OFFSET,
+    AHEAD_LINK,
+    AHEAD_LIES,
+    AHEAD_BYTES
+};
+
+/* A case of ahead has as many lies as one of its numbers says, and their bytes
+ * where those are at most LIES_ROOM: of a longer list, as of an over-long
+ * file, it counts that it is too long. */
 typedef struct {
     uint32_t question;
     uint32_t numbers[NUMBERS];
     stored files[FILES];
+    uint8_t lies[LIES_ROOM];
 } asked;
 
-/* A case as the core is to see it: the files' bytes wherever they stand. */
+/* A case as the core is to see it: the bytes of files and lies wherever they
+ * stand. */
 typedef struct {
     uint32_t question;
     uint32_t numbers[NUMBERS];
     const uint8_t *bytes[FILES];
     uint32_t length[FILES];
+    const uint8_t *lies;
 } posed;
 
 posed pose(const asked *ask);
@@ -60,6 +80,13 @@ uint32_t first_of(uint32_t asked_for);
 
 /* The second of the two of which this is the first, or else ASK_NOTHING. */
 uint32_t second_of(uint32_t asked_for);
+
+/* Whether it is asked where no question is named: not the second of two, nor
+ * ahead. */
+int is_asked_unnamed(uint32_t asked_for);
+
+/* Whether it is about both files of a station. */
+int asks_pair(uint32_t asked_for);
 
 /* Whether it asks for routes, by either lister. */
 int asks_routes(uint32_t asked_for);

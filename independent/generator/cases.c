@@ -4,6 +4,7 @@
 
 #include <string.h>
 
+#include "ahead.h"
 #include "core/core.h"
 #include "damage.h"
 #include "make.h"
@@ -190,6 +191,58 @@ static void ask_pair(source *from, const wanted *kinds, asked *ask)
         spoil(from, 1, &ask->files[1]);
 }
 
+/* Every shape, but among small yards few as long as the limits of routes. */
+static yard_shape some_ahead_shape(source *from, size_wanted size)
+{
+    yard_shape shape = (yard_shape)draw(from, YARD_AHEAD);
+    int long_ways = shape == YARD_LONG_LINE || shape == YARD_LONG_WAYS;
+    if (once_in(from, 4)
+        || (long_ways && size == SIZE_SMALL && !once_in(from, 8)))
+        return YARD_AHEAD;
+    return shape;
+}
+
+/* A yard in which something lies ahead, and where its first object starts: 0
+ * where that is no matter. */
+static uint32_t ahead_yard(source *from, size_wanted size, uint32_t station,
+                           const stored *geography, stored *file)
+{
+    static yard made;
+    yard_shape shape = some_ahead_shape(from, size);
+    int any = size == SIZE_LARGE || once_in(from, 8);
+    if (any)
+        make_yard(from, size, station, &made);
+    else
+        make_route_yard(from, shape, size, station, &made);
+    lay_out(&made, geography, file);
+    return shape == YARD_AHEAD && !any ? made.objects[1].start : 0;
+}
+
+/* A station: two right files that agree, what is asked of them, and then now
+ * and then damage. */
+static void ask_ahead(source *from, const wanted *kinds, asked *ask)
+{
+    stored *geography = &ask->files[0], *file = &ask->files[1];
+    uint32_t station = some_station(from), first;
+    size_wanted size = some_size(from, kinds);
+    size_wanted other_size = some_size(from, kinds);
+    if (once_in(from, 8))
+        make_edge_geography(from, size, station, geography);
+    else
+        make_geography(from, size, station, geography);
+    first = ahead_yard(from, other_size, station, geography, file);
+    share_numbers(from, file);
+    some_way_ahead(from, first, ask);
+    if (once_in(from, 24)) {
+        damage_pair(from, geography, file);
+        seal(file);
+    }
+    if (once_in(from, 36))
+        spoil(from, 0, geography);
+    if (once_in(from, 24))
+        spoil(from, 1, file);
+}
+
 static void ask_of_geography(source *from, const wanted *kinds, asked *ask)
 {
     stored *file = &ask->files[0];
@@ -308,6 +361,7 @@ void build_case(const generation *run, uint64_t index, asked *ask)
     case ASK_COORDINATE: ask_coordinate(&from, &run->kinds, ask); break;
     case ASK_RECORD: ask_record(&from, &run->kinds, ask); break;
     case ASK_ROUTES: ask_routes(&from, &run->kinds, ask); break;
+    case ASK_AHEAD: ask_ahead(&from, &run->kinds, ask); break;
     case ASK_HEADER1:
     case ASK_HEADER2: ask_header(&from, &run->kinds, ask); break;
     default: ask_of_geography(&from, &run->kinds, ask); break;

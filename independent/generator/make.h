@@ -84,7 +84,9 @@ typedef enum {
     YARD_SHAPES,
     /* Only where every boundary is asked for its routes: not among the shapes
      * that are drawn from elsewhere. */
-    YARD_PARALLEL = YARD_SHAPES
+    YARD_PARALLEL = YARD_SHAPES,
+    /* Only for what lies ahead of its first object. */
+    YARD_AHEAD
 } yard_shape;
 
 /* A right yard; which groups it has is drawn too. */

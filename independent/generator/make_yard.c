@@ -1,6 +1,7 @@
 /* Right yards as objects and their links: lines, tangles, ladders,
  * crossovers, wyes, balloon loops, diamonds, long lines, long ways that
- * branch, lines beside each other, dead ends, rings, and groups of balises. */
+ * branch, lines beside each other, ways about as long as a list of what lies
+ * ahead, dead ends, rings, and groups of balises. */
 #include "make.h"
 
 #include "core/core.h"
@@ -482,6 +483,114 @@ static void shape_parallel(source *from, yard *made)
     }
 }
 
+/* Plain objects linked in a circle that leads nowhere. */
+static void add_ring(source *from, yard *made, uint32_t objects)
+{
+    uint32_t first = add_plain(from, made);
+    uint32_t port = 1;
+    uint32_t last = chain(from, made, first, &port, objects - 1);
+    made->objects[last].links[port] = first;
+    made->objects[first].links[0] = last;
+}
+
+/* Two links of a turnout, and the third. */
+typedef struct {
+    uint32_t one;
+    uint32_t other;
+    uint32_t third;
+} turnout_ports;
+
+static turnout_ports some_ports(source *from)
+{
+    uint32_t one = draw(from, PORTS);
+    uint32_t step = 1 + draw(from, 2);
+    return (turnout_ports){ one, (one + step) % PORTS,
+                            (one + 2 * step) % PORTS };
+}
+
+/* From a boundary so many objects to a turnout, entered by any of its links;
+ * behind it may be nothing. */
+static void ahead_to_turnout(source *from, yard *made, uint32_t objects)
+{
+    uint32_t at = add_boundary(from, made);
+    uint32_t turnout = add(from, made, IND_TURNOUT);
+    turnout_ports ports = some_ports(from);
+    join_by(from, made, at, 0, turnout, ports.one, objects - 1);
+    finish_port(from, made, turnout, ports.other);
+    finish_port(from, made, turnout, ports.third);
+}
+
+/* From a boundary so many objects into a loop and around it, up to the turnout
+ * where it began. The last of them, or the first the other way around, may be
+ * a turnout too. */
+static void ahead_into_loop(source *from, yard *made, uint32_t objects)
+{
+    enum { AROUND_LEAST = 4 };
+    uint32_t at = add_boundary(from, made);
+    uint32_t loop = add(from, made, IND_TURNOUT);
+    uint32_t before = draw(from, objects - AROUND_LEAST);
+    uint32_t around = objects - before - 1;
+    join_by(from, made, at, 0, loop, FRONT, before);
+    if (once_in(from, 2)) {
+        join_by(from, made, loop, NORMAL, loop, REVERSE, around);
+    } else {
+        uint32_t last = add(from, made, IND_TURNOUT);
+        uint32_t off = once_in(from, 2) ? REVERSE : NORMAL;
+        turnout_ports ports = some_ports(from);
+        join_by(from, made, loop, off, last, ports.one, around - 1);
+        join_by(from, made, last, ports.other, loop,
+                off == REVERSE ? NORMAL : REVERSE, 0);
+        finish_port(from, made, last, ports.third);
+    }
+}
+
+/* So many objects around to where the way begins: at a plain object or at a
+ * turnout. */
+static void ahead_around(source *from, yard *made, uint32_t objects)
+{
+    turnout_ports ports = some_ports(from);
+    if (once_in(from, 2)) {
+        add_ring(from, made, objects + 1);
+    } else {
+        uint32_t turnout = add(from, made, IND_TURNOUT);
+        join_by(from, made, turnout, ports.one, turnout, ports.other,
+                objects);
+        finish_port(from, made, turnout, ports.third);
+    }
+}
+
+/* From a boundary so many objects, the last of which is a boundary or has no
+ * link. */
+static void ahead_to_end(source *from, yard *made, uint32_t objects)
+{
+    uint32_t at = add_boundary(from, made), port = 0;
+    if (once_in(from, 2)) {
+        chain(from, made, at, &port, objects);
+    } else {
+        uint32_t end = add_boundary(from, made);
+        join_by(from, made, at, port, end, 0, objects - 1);
+    }
+}
+
+/* A way ahead of the first object, of about as many objects as are listed: to
+ * a boundary, to nothing, to a turnout, or to an object that it has met. Most
+ * such yards have no balises, so that they are small. */
+static void shape_ahead(source *from, yard *made)
+{
+    static const uint32_t edges[] = { 63, 64, 64, 64, 65, 66 };
+    uint32_t objects = ONE_OF(from, edges);
+    if ((made->allowed[IND_SIGNAL] || made->allowed[IND_JOINT])
+        && !once_in(from, 8))
+        made->allowed[IND_BALISE] = 0;
+    switch (draw(from, 6)) {
+    case 0: ahead_to_end(from, made, objects); break;
+    case 1: ahead_around(from, made, objects); break;
+    case 2:
+    case 3: ahead_into_loop(from, made, objects); break;
+    default: ahead_to_turnout(from, made, objects); break;
+    }
+}
+
 static void build_shape(source *from, yard_shape shape, yard *made)
 {
     switch (shape) {
@@ -494,18 +603,9 @@ static void build_shape(source *from, yard_shape shape, yard *made)
     case YARD_LONG_LINE: shape_long_line(from, made); break;
     case YARD_LONG_WAYS: shape_long_ways(from, made); break;
     case YARD_PARALLEL: shape_parallel(from, made); break;
+    case YARD_AHEAD: shape_ahead(from, made); break;
     default: shape_lines(from, made); break;
     }
-}
-
-/* Plain objects linked in a circle that leads nowhere. */
-static void add_ring(source *from, yard *made, uint32_t objects)
-{
-    uint32_t first = add_plain(from, made);
-    uint32_t port = 1;
-    uint32_t last = chain(from, made, first, &port, objects - 1);
-    made->objects[last].links[port] = first;
-    made->objects[first].links[0] = last;
 }
 
 uint32_t count_kind(const yard *made, ind_kind kind)
