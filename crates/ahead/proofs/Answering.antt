@@ -93,7 +93,7 @@ module _ (g : List ℕ) (l : Layout) (offset link : ℕ) (lies out : List ℕ) w
   unfolding answerIn leftIn judged
   short e h = record { answered = rw (e, lt-ltb (length out) seenBytes h) refl; left = rw (e, lt-ltb (length out) seenBytes h) refl }
 
-  list-few : length (seenIn g l offset link lies .objects) ≤ objectsMost
+  pub list-few : length (seenIn g l offset link lies .objects) ≤ objectsMost
   unfolding seenIn
   list-few = seen-few (objectAt g l) lies offset objectsMost [] offset (getD (linksOf (objectAt g l offset)) link 0)
 
