@@ -8,32 +8,10 @@
 #include <stdio.h>
 #include <string.h>
 
+#include "station_file.h"
 #include "yard.h"
 
-/* One byte more than a file may have, so that a longer one is seen to be too long. */
-enum { ROOM = 65536 };
-
-typedef struct {
-    uint8_t bytes[ROOM];
-    size_t length;
-} station_file;
-
 static station_file first, second;
-
-static int read_file(const char *name, station_file *file)
-{
-    FILE *in = fopen(name, "rb");
-    if (!in) {
-        perror(name);
-        return 0;
-    }
-    file->length = fread(file->bytes, 1, sizeof file->bytes, in);
-    int whole = !ferror(in);
-    fclose(in);
-    if (!whole)
-        fprintf(stderr, "%s cannot be read\n", name);
-    return whole;
-}
 
 /* Says why a question was refused, and whether it was. */
 static int refused(const char *question, uint64_t answer)

@@ -1,4 +1,4 @@
--- What each way through `leg` and `way_of` shows, over plain variables.
+-- What each way through a turnout, and through `way_of`, shows, over plain variables.
 use Prim.Native.Nat.{ℕ}
 use mathlib.Core.Path.{_≡_, refl, sym, ap, _∙_}
 use mathlib.Core.List.{List}
@@ -13,38 +13,50 @@ use Rattle.ahead.specs.declared.Stop.the-variants as stop
 use Rattle.ahead.specs.declared.ways.Way.{Way}
 use Rattle.ahead.specs.declared.ways.Way.the-variants.{On, Stops}
 use Rattle.ahead.specs.Lies.{lieOf}
-use Rattle.ahead.specs.Ways.{legOf, wayOf}
+use Rattle.ahead.specs.Ways.{frontOf, trailOf, legOf, wayOf}
 
 module _ (t : TurnoutLinks) (from lie : ℕ) where
   module _ (f : t .front ≡ from) where
-    pub leg-normal : lie ≡ 0 → On (t .normal) ≡ legOf t from lie
+    pub by-front : (w : Way) → w ≡ frontOf t lie → w ≡ legOf t from lie
     unfolding legOf
-    leg-normal e = rw (legOf, eq-eqb (t .front) from f, eq-eqb lie 0 e) refl
+    by-front w e = rw (eq-eqb (t .front) from f) e
+
+    pub leg-normal : lie ≡ 0 → On (t .normal) ≡ legOf t from lie
+    unfolding frontOf
+    leg-normal e = by-front (On (t .normal)) (rw (frontOf, eq-eqb lie 0 e) refl)
 
     pub leg-reverse : (lie ≡ 0 → ⊥) → lie ≡ 1 → On (t .reverse) ≡ legOf t from lie
-    unfolding legOf
-    leg-reverse n e = rw (legOf, eq-eqb (t .front) from f, ne-eqb lie 0 n, eq-eqb lie 1 e) refl
+    unfolding frontOf
+    leg-reverse n e = by-front (On (t .reverse)) (rw (frontOf, ne-eqb lie 0 n, eq-eqb lie 1 e) refl)
 
     pub leg-unknown : (lie ≡ 0 → ⊥) → (lie ≡ 1 → ⊥) → Stops stop.UnknownLie ≡ legOf t from lie
-    unfolding legOf
-    leg-unknown n e = rw (legOf, eq-eqb (t .front) from f, ne-eqb lie 0 n, ne-eqb lie 1 e) refl
+    unfolding frontOf
+    leg-unknown n e = by-front (Stops stop.UnknownLie) (rw (frontOf, ne-eqb lie 0 n, ne-eqb lie 1 e) refl)
 
   module _ (f : t .front ≡ from → ⊥) where
-    pub normal-against : t .normal ≡ from → lie ≡ 1 → Stops stop.AgainstLie ≡ legOf t from lie
+    pub by-normal : t .normal ≡ from → (w : Way) → w ≡ trailOf t lie 1 → w ≡ legOf t from lie
     unfolding legOf
-    normal-against m e = rw (legOf, ne-eqb (t .front) from f, eq-eqb (t .normal) from m, eq-eqb lie 1 e) refl
+    by-normal m w e = rw (ne-eqb (t .front) from f, eq-eqb (t .normal) from m) e
+
+    pub by-reverse : (t .normal ≡ from → ⊥) → (w : Way) → w ≡ trailOf t lie 0 → w ≡ legOf t from lie
+    unfolding legOf
+    by-reverse m w e = rw (ne-eqb (t .front) from f, ne-eqb (t .normal) from m) e
+
+    pub normal-against : t .normal ≡ from → lie ≡ 1 → Stops stop.AgainstLie ≡ legOf t from lie
+    unfolding trailOf
+    normal-against m e = by-normal m (Stops stop.AgainstLie) (rw (trailOf, eq-eqb lie 1 e) refl)
 
     pub normal-through : t .normal ≡ from → (lie ≡ 1 → ⊥) → On (t .front) ≡ legOf t from lie
-    unfolding legOf
-    normal-through m e = rw (legOf, ne-eqb (t .front) from f, eq-eqb (t .normal) from m, ne-eqb lie 1 e) refl
+    unfolding trailOf
+    normal-through m e = by-normal m (On (t .front)) (rw (trailOf, ne-eqb lie 1 e) refl)
 
     pub reverse-against : (t .normal ≡ from → ⊥) → lie ≡ 0 → Stops stop.AgainstLie ≡ legOf t from lie
-    unfolding legOf
-    reverse-against m e = rw (legOf, ne-eqb (t .front) from f, ne-eqb (t .normal) from m, eq-eqb lie 0 e) refl
+    unfolding trailOf
+    reverse-against m e = by-reverse m (Stops stop.AgainstLie) (rw (trailOf, eq-eqb lie 0 e) refl)
 
     pub reverse-through : (t .normal ≡ from → ⊥) → (lie ≡ 0 → ⊥) → On (t .front) ≡ legOf t from lie
-    unfolding legOf
-    reverse-through m e = rw (legOf, ne-eqb (t .front) from f, ne-eqb (t .normal) from m, ne-eqb lie 0 e) refl
+    unfolding trailOf
+    reverse-through m e = by-reverse m (On (t .front)) (rw (trailOf, ne-eqb lie 0 e) refl)
 
 module _ (o : Object) (from : ℕ) (lies : List ℕ) where
   pub way-boundary : (link : ℕ) → o ≡ Boundary link → Stops stop.Boundary ≡ wayOf o from lies

@@ -48,14 +48,15 @@ StopsAt Nothing from lies s = ⊥
 
 -- ---- computed
 
--- through a turnout of a lie
+-- through a turnout of a lie: entered at the front, and at a leg that is trailed against one of the lies
+unfoldable pub frontOf : TurnoutLinks → ℕ → Way
+frontOf t lie = cond (eqb lie normal) (On (t .normal)) (cond (eqb lie reverse) (On (t .reverse)) (Stops stop.UnknownLie))
+
+unfoldable pub trailOf : TurnoutLinks → ℕ → ℕ → Way
+trailOf t lie against = cond (eqb lie against) (Stops stop.AgainstLie) (On (t .front))
+
 unfoldable pub legOf : TurnoutLinks → ℕ → ℕ → Way
-legOf t from lie =
-    cond (eqb (t .front) from)
-    (cond (eqb lie normal) (On (t .normal)) (cond (eqb lie reverse) (On (t .reverse)) (Stops stop.UnknownLie)))
-    (cond (eqb (t .normal) from)
-    (cond (eqb lie reverse) (Stops stop.AgainstLie) (On (t .front)))
-    (cond (eqb lie normal) (Stops stop.AgainstLie) (On (t .front))))
+legOf t from lie = cond (eqb (t .front) from) (frontOf t lie) (cond (eqb (t .normal) from) (trailOf t lie reverse) (trailOf t lie normal))
 
 unfoldable pub wayOf : Object → ℕ → List ℕ → Way
 wayOf (Boundary link) from lies = Stops stop.Boundary

@@ -1,7 +1,7 @@
 // How the list goes on from an object that it has reached, by the lies of the turnouts.
 ghost use mathlib.Core.Path.{_≡_};
 ghost use Rattle.ahead.specs.Lies.{lieOf, allLies, areLies};
-ghost use Rattle.ahead.specs.Ways.{legOf, wayOf};
+ghost use Rattle.ahead.specs.Ways.{frontOf, trailOf, legOf, wayOf};
 use crate::LIES;
 use crate::NORMAL;
 use crate::REVERSE;
@@ -44,32 +44,42 @@ fn lie_of(lies: &[u8], number: u8) -> u8
     if i < lies.len() { lies[i] } else { UNKNOWN }
 }
 
-// Through a turnout that was entered from `from`: at the front by its lie, at a leg unless it is known to lie for the other.
-fn leg(t: TurnoutLinks, from: u16, lie: u8) -> Way
+// Through a turnout that was entered at the front, by its lie.
+fn at_front(t: TurnoutLinks, lie: u8) -> Way
+    ensures { λ r. ⌜ r ≡ frontOf t lie ⌝ }
+{
+    if lie == NORMAL {
+        return Way::On(t.normal);
+    }
+    if lie == REVERSE {
+        return Way::On(t.reverse);
+    }
+    Way::Stops(Stop::UnknownLie)
+}
+
+// Through a turnout that was entered at a leg: by the front, unless it is known to lie against that leg.
+fn at_leg(t: TurnoutLinks, lie: u8, against: u8) -> Way
+    ensures { λ r. ⌜ r ≡ trailOf t lie against ⌝ }
+{
+    if lie == against {
+        return Way::Stops(Stop::AgainstLie);
+    }
+    Way::On(t.front)
+}
+
+// Through a turnout that was entered from `from`.
+fn through(t: TurnoutLinks, from: u16, lie: u8) -> Way
     ensures { λ r. ⌜ r ≡ legOf t from lie ⌝ }
 {
     let front = t.front;
-    let normal = t.normal;
-    let reverse = t.reverse;
     if front == from {
-        if lie == NORMAL {
-            return Way::On(normal);
-        }
-        if lie == REVERSE {
-            return Way::On(reverse);
-        }
-        return Way::Stops(Stop::UnknownLie);
+        return at_front(t, lie);
     }
+    let normal = t.normal;
     if normal == from {
-        if lie == REVERSE {
-            return Way::Stops(Stop::AgainstLie);
-        }
-        return Way::On(front);
+        return at_leg(t, lie, REVERSE);
     }
-    if lie == NORMAL {
-        return Way::Stops(Stop::AgainstLie);
-    }
-    Way::On(front)
+    at_leg(t, lie, NORMAL)
 }
 
 // How the list goes on from an object that was entered from `from`.
@@ -79,7 +89,7 @@ pub fn way_of(o: Object, from: u16, lies: &[u8]) -> Way
     match o {
         Object::Boundary(_) => Way::Stops(Stop::Boundary),
         Object::Plain(p) => Way::On(p.onward(from)),
-        Object::Turnout(t) => leg(t, from, lie_of(lies, t.number)),
+        Object::Turnout(t) => through(t, from, lie_of(lies, t.number)),
         Object::Nothing => Way::On(0),
     }
 }

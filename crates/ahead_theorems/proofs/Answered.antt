@@ -32,6 +32,7 @@ use Rattle.pair_theorems.specs.Faults.{PairAnswered, accepted, of-first, of-sec
 use Rattle.pair_theorems.proofs.Obeys.{pair-accepted}
 use Rattle.pair_theorems.proofs.Whole.{pair-is}
 use Rattle.route_graph.specs.Objects.{objectAt, linksOf}
+use Rattle.route_walks.specs.Legal.{lastObject}
 use Rattle.route_walks.specs.Lent.{wordSize, octetsOf}
 use Rattle.route_walks.proofs.Lent.{octets-length, read-back}
 use Rattle.route_theorems.proofs.Listed.{linked}
@@ -44,8 +45,10 @@ use Rattle.ahead.specs.Seen.{objectsMost, seenBytes, Seen, aheadFrom, sightOf}
 use Rattle.ahead.specs.Asked.{inRange, seenIn, judged, answerIn, leaves, afterPair, aheadAsked, leftAsked, aheadAnswer, aheadFile}
 use Rattle.ahead.proofs.Answering.{list-few}
 use Rattle.ahead_theorems.specs.Asked as asked
-use Rattle.ahead_theorems.specs.Asked.{InRange, aheadChecks, AheadAnswered, LiesAhead, linkOf, Listed}
+use Rattle.ahead_theorems.specs.Asked.{InRange, aheadChecks, AheadAnswered, objectsOf, linkOf, LiesAhead, Listed}
+use Rattle.ahead_theorems.specs.Stops.{EndsFor}
 use Rattle.ahead_theorems.proofs.Exactly.{ahead-there, ahead-one}
+use Rattle.ahead_theorems.proofs.Ends.{ahead-stops}
 use Rattle.ahead_theorems.proofs.Range.{lies-iff, in-links, range-iff}
 
 -- ---- the question's own checks
@@ -172,6 +175,13 @@ module _ (f g : List ℕ) (offset link : ℕ) (lies : List ℕ) where
       → LiesAhead g offset link lies objects s → LiesAhead g offset link lies objects′ s′ → (objects ≡ objects′) × (s ≡ s′)
   one-list o r =
       ahead-one (objectAt g (layoutOf g)) (Target g (layoutOf g)) (linked g (second-accepted f g o)) lies ((lies-iff lies) .1 (r .count, r .each)) offset
+      (linkOf g offset link) (r .object) (in-links (linksOf (objectAt g (layoutOf g) offset)) link (r .has-link))
+
+  -- THEOREM: why it stops, where objects are listed and x is the last of them
+  pub stops : PairObeys f g → InRange g offset link lies → (w : List ℕ) (x : ℕ) (s : Stop) → LiesAhead g offset link lies (w ++ (x ∷ [])) s
+      → (s′ : Stop) → (s ≡ s′) ↔ EndsFor (objectsOf g x) (lastObject (offset ∷ w)) lies offset (w ++ (x ∷ [])) s′
+  stops o r =
+      ahead-stops (objectAt g (layoutOf g)) (Target g (layoutOf g)) (linked g (second-accepted f g o)) lies ((lies-iff lies) .1 (r .count, r .each)) offset
       (linkOf g offset link) (r .object) (in-links (linksOf (objectAt g (layoutOf g) offset)) link (r .has-link))
 
   module _ (out : List ℕ) where

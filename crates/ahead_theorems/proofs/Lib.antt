@@ -4,3 +4,4 @@ pub mod Legal
 pub mod Ends
 pub mod Range
 pub mod Answered
+pub mod Ways

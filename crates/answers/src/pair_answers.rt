@@ -12,7 +12,7 @@ fn write_with(text: &[u8], n: usize) {
 }
 
 // The first line of an answer about a pair.
-fn pair_head(number: usize, place: usize, file: usize) {
+pub fn pair_head(number: usize, place: usize, file: usize) {
     write_with(b"answer ", number);
     write_with(b" ", place);
     write_with(b" ", file);

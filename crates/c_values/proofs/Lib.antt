@@ -1,3 +1,4 @@
 pub mod Numbers
+pub mod Ahead
 pub mod Laid
 pub mod Ways

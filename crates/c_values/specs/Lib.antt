@@ -1,3 +1,4 @@
 pub mod Words
 pub mod Degrees
+pub mod Ahead
 pub mod Shown

@@ -12,7 +12,7 @@ use verdict::Fault;
 use verdict::Reason;
 
 // How many values a byte, two bytes, three and four have.
-const OVER_BYTE: usize = 0x100;
+pub const OVER_BYTE: usize = 0x100;
 
 const OVER_TWO: usize = 0x1_0000;
 

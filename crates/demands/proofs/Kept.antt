@@ -3,7 +3,7 @@ use mathlib.Core.Path.{_≡_, refl}
 use mathlib.Core.List.{List}
 use Prim.Native.Nat.{ℕ}
 use Rattle.verdict.specs.Answers.{Answer, answered, refused, answerNumber}
-use Rattle.promises.proofs.OfExports.{yard-checksum-determined, yard-x1-determined, yard-x1-version-1-determined, yard-x2-determined, yard-pair-determined, yard-header1-determined, yard-header2-determined, yard-track-determined, yard-point-determined, yard-coordinate-determined, yard-degrees-determined, yard-point-degrees-determined, yard-record-determined, yard-routes-determined, yard-routes-flat-determined}
+use Rattle.promises.proofs.OfExports.{yard-checksum-determined, yard-x1-determined, yard-x1-version-1-determined, yard-x2-determined, yard-pair-determined, yard-header1-determined, yard-header2-determined, yard-track-determined, yard-point-determined, yard-coordinate-determined, yard-degrees-determined, yard-point-degrees-determined, yard-record-determined, yard-routes-determined, yard-routes-flat-determined, yard-ahead-determined}
 use Rattle.promises.proofs.Engines.{calls-agree}
 use Rattle.c_values.specs.Shown.{leaves}
 use Rattle.export_theorems.proofs.Fit.{track-back, point-back, coordinate-back, degrees-back, point-degrees-back, record-back}
@@ -31,7 +31,13 @@ use Rattle.route_theorems.proofs.Base.{stated-is, stated-left, default-is}
 use Rattle.route_backwards.proofs.Reading.{one-reading}
 use Rattle.route_backwards.proofs.Backwards.{routes-back, listed-iff, lists-back}
 use Rattle.route_backwards.proofs.Engines.{calls-back}
-use Rattle.demands.specs.Demands.{Returns, Accepts, Lists}
+use Rattle.ahead_theorems.specs.Asked.{objectsOf, linkOf}
+use Rattle.ahead_theorems.proofs.Answered as ahead
+use Rattle.ahead_theorems.proofs.Legal.{ahead-few, ahead-once, walk-goes-on}
+use Rattle.ahead_theorems.proofs.Ends.{none-ahead}
+use Rattle.ahead_theorems.proofs.Ways.{from-boundary, route-ahead}
+use Rattle.export_theorems.proofs.Ahead.{ahead-back}
+use Rattle.demands.specs.Demands.{Returns, Accepts, Lists, LooksAhead}
 
 -- a refusal leaves every byte of an output
 output-kept : (a : Answer) (out : List ℕ) → (answerNumber a ≡ 0 → ⊥) → leaves a out ≡ out
@@ -58,6 +64,8 @@ returns = record {
   list-flat = yard-routes-flat-determined;
   output-kept = output-kept;
   words-kept = yard.refused-keeps;
+  look-ahead = yard-ahead-determined;
+  objects-kept = λ f g offset link lies out n. ahead.refused-keeps f g offset link lies out n;
 }
 
 -- PROMISE 2
@@ -118,4 +126,20 @@ lists = record {
   in-memory = listed-iff;
   backwards = lists-back;
   calls-backwards = calls-back;
+}
+
+-- WHAT LIES AHEAD
+pub looks-ahead : LooksAhead
+looks-ahead = record {
+  which = λ f g offset link lies room d n p. ahead.which f g offset link lies room d n p;
+  listed = λ f g offset link lies out s e. ahead.listed f g offset link lies out s e;
+  one-list = λ f g o offset link lies r a b s u p q. ahead.one-list f g offset link lies o r a b s u p q;
+  stops = λ f g o offset link lies r w x s h u. ahead.stops f g offset link lies o r w x s h u;
+  stops-at-once = λ g offset link lies s. none-ahead (objectsOf g) lies offset (linkOf g offset link) s;
+  few = λ g offset link lies objects s h. ahead-few (objectsOf g) lies offset (linkOf g offset link) objects s h;
+  once = λ g offset link lies objects s h. ahead-once (objectsOf g) lies offset (linkOf g offset link) objects s h;
+  legal = λ g offset link lies start limit w b objects s h k d l. walk-goes-on (objectsOf g) lies offset (linkOf g offset link) start limit w b objects s h k d l;
+  from-boundary = from-boundary;
+  route-ahead = route-ahead;
+  returned = λ f g offset link lies room. ahead-back f g offset link lies room;
 }

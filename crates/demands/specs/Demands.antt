@@ -1,15 +1,16 @@
--- The three promises, each in its own words and then as what it needs. f is the bytes of an X.1 or X.2, and g those of the X.2 of a pair:
+-- The three promises, each in its own words and then as what it needs, and what is promised above the reader. f is the bytes of an X.1 or X.2, and g those of the X.2 of a pair:
 -- any bytes, since no caller vets input. `Answered checks n p` reads: in the order of 01's table the first check that is not passed has
 -- the number n, and p is the place where 01 has it reported; 0 and 0 where all are passed. `Reported` says the same where a number stands
 -- twice in the table, as 1 does in X.1's. `Asked` puts a file's own fault before the question's own checks.
 use Prim.Native.Nat.{ℕ, _≤_, _<_}
 use mathlib.Core.Path.{_≡_}
 use mathlib.Core.Logic.{_↔_}
-use mathlib.Core.List.{List, [], _∷_, reverse, List·Memᴰ}
+use mathlib.Core.Logic.{_⊎_}
+use mathlib.Core.List.{List, [], _∷_, _++_, reverse, List·Memᴰ}
 use lib.Dec.{T}
 use lib.IntN.{ℤ, pos, natAbs, _*ℤ_}
 use lib.Signed.{_<ℤ_}
-use lib.ListN.{getD}
+use lib.ListN.{length, getD}
 use lib.Ieee.{Float, binary64, toBits, lt}
 use Rattle.verdict.specs.declared.Fault.{Fault}
 use Rattle.verdict.specs.declared.Verdict.the-variants as verdict
@@ -54,13 +55,14 @@ use Rattle.x2_verdict.specs.Answers.{namedHeaderAnswer, recordAnswer}
 use Rattle.x2_theorems.specs.Asked as application
 use Rattle.x2_theorems.specs.Values.{EnumsKept, NamesRead}
 use Rattle.pair.specs.Pair.{pairOf}
+use Rattle.pair_theorems.specs.Obeys.{PairObeys}
 use Rattle.pair_theorems.specs.Faults.{PairAnswered}
 use Rattle.pair_theorems.specs.Base.{pairWas}
 use Rattle.route_graph.specs.Objects.{objectAt}
 use Rattle.route_graph.specs.Read.{objectOf}
 use Rattle.route_walks.specs.declared.Tally.{Tally}
 use Rattle.route_walks.specs.Lent.{roomOf}
-use Rattle.route_walks.specs.Legal.{Walk, Route}
+use Rattle.route_walks.specs.Legal.{NoneTwice, lastObject, Walk, Route}
 use Rattle.route_walks.specs.All.{AllRoutes}
 use Rattle.route_lister.specs.declared.RoutesAnswer.the-variants as routes
 use Rattle.route_lister.specs.Answered.{limitOf, routesAnswer}
@@ -71,8 +73,18 @@ use Rattle.route_theorems.specs.Base.{routesWas, leftWas}
 use Rattle.route_question.specs.declared.Engine.{Engine}
 use Rattle.route_backwards.specs.Backwards.{RouteTo, Holds, ListedIn, Backwards, NotRefused, seenOf}
 use Rattle.route_backwards.specs.Calls.{CalledBy, seenCalling}
+use Rattle.ahead.specs.declared.Stop.{Stop}
+use Rattle.ahead.specs.declared.Stop.the-variants as stop
+use Rattle.ahead.specs.declared.Sight.{Sight}
+use Rattle.ahead.specs.declared.AheadAnswer.the-variants as ahead
+use Rattle.ahead.specs.Asked.{aheadAnswer, aheadFile, aheadAsked}
+use Rattle.ahead.specs.Asked.{leftAsked as leftAhead}
+use Rattle.ahead_theorems.specs.Stops.{EndsFor}
+use Rattle.ahead_theorems.specs.Asked.{InRange, AheadAnswered, objectsOf, linkOf, LiesAhead, Listed}
 use Rattle.c_values.specs.Shown.{leaves}
 use Rattle.c_values.specs.Degrees.{degreesLaid}
+use Rattle.c_values.specs.Ahead.{aheadShown}
+use Rattle.export_theorems.specs.Ahead.{AheadBack}
 use Rattle.export_theorems.specs.Fit.{trackSigned, pointSigned, coordinateSigned, degreesSigned, recordSigned, AnswerBack, DegreesBack}
 use Rattle.exports.proofs.yard_checksum.Kinds as checksum-kinds
 use Rattle.exports.proofs.yard_checksum.Reads as checksum-reads
@@ -100,6 +112,8 @@ use Rattle.exports.proofs.yard_point_degrees.Kinds as point-degrees-kinds
 use Rattle.exports.proofs.yard_point_degrees.Reads as point-degrees-reads
 use Rattle.exports.proofs.yard_record.Kinds as record-kinds
 use Rattle.exports.proofs.yard_record.Reads as record-reads
+use Rattle.exports.proofs.yard_ahead.Kinds as ahead-kinds
+use Rattle.exports.proofs.yard_ahead.Reads as ahead-reads
 use Rattle.exports.proofs.yard_routes.Kinds as routes-kinds
 use Rattle.exports.proofs.yard_routes.Reads as routes-reads
 use Rattle.exports.proofs.yard_routes_flat.Kinds as routes-flat-kinds
@@ -133,12 +147,17 @@ pub record Returns : Type 0 where
   pub record-asked : Determined 2 record-kinds.ps record-kinds.r record-reads.Pre record-reads.Post
   pub list : Determined 3 routes-kinds.ps routes-kinds.r routes-reads.Pre routes-reads.Post
   pub list-flat : Determined 3 routes-flat-kinds.ps routes-flat-kinds.r routes-flat-reads.Pre routes-flat-reads.Post
-  -- an output after a refusal, and the words lent to a listing after one
+  -- 02: Ticket9.7
+  pub look-ahead : Determined 4 ahead-kinds.ps ahead-kinds.r ahead-reads.Pre ahead-reads.Post
+  -- an output after a refusal, the words lent to a listing after one, and the bytes lent for the objects ahead
   -- 01: Ask.6
   pub output-kept : (a : Answer) (out : List ℕ) → (answerNumber a ≡ 0 → ⊥) → leaves a out ≡ out
   -- 01: Ask.6
   pub words-kept : (f : List ℕ) (start limit budget : ℕ) (out : List ℕ) (t : Fault)
       → routesAsked f start limit budget (roomOf out) ≡ routes.Refused t → leftAsked f start limit budget out ≡ out
+  -- 02: Ticket9.9
+  pub objects-kept : (f g : List ℕ) (offset link : ℕ) (lies out : List ℕ)
+      → (answerNumber (aheadAnswer (aheadAsked f g offset link lies (length out))) ≡ 0 → ⊥) → leftAhead f g offset link lies out ≡ out
 
 -- ---- 2. 'A file is accepted exactly when it obeys the standard as document 01 reads it. Every record handed out has the value that its
 -- bytes mean; a coordinate is the exact interpolated value to the nearest milliarcsecond.'
@@ -280,3 +299,54 @@ pub record Lists : Type 0 where
   -- the same of two calls from C whose number is 0, by either engine each: as far as their contracts allow
   -- 02: Ticket13.2
   pub calls-backwards : (e e′ : Engine) (p : CalledBy e) (q : CalledBy e′) → Backwards (seenCalling e p) (seenCalling e′ q)
+
+-- ---- Above the reader: what lies ahead, for a cab unit (02, ticket 9). 'Given an accepted pair, the object last passed, the link it leaves by, and
+-- for each turnout number a lie, list the objects ahead in order.' The object last passed starts at `offset` of the X.2, and leaves by its link of
+-- the index `link`; `LiesAhead g offset link lies objects s` reads: these objects lie ahead, by the ticket's words, and the list stops for s.
+pub record LooksAhead : Type 0 where
+  -- which file, number and place it is, for every input: the pair's own fault, 13, 15, or a list
+  -- 02: Ticket9.9
+  pub which : (f g : List ℕ) (offset link : ℕ) (lies : List ℕ) (room d n p : ℕ)
+      → ((aheadFile (aheadAsked f g offset link lies room) ≡ d) × Shows (aheadAnswer (aheadAsked f g offset link lies room)) n p)
+      ↔ AheadAnswered f g offset link lies room d n p
+  -- what an answer is: the list that lies ahead, with its stop, in the memory lent, and nothing else changed
+  -- 02: Ticket9.2
+  pub listed : (f g : List ℕ) (offset link : ℕ) (lies out : List ℕ) (s : Sight) → aheadAsked f g offset link lies (length out) ≡ ahead.Seen s
+      → Listed g offset link lies s out (leftAhead f g offset link lies out)
+  -- there is no second such list
+  -- 02: Ticket9.2
+  pub one-list : (f g : List ℕ) → PairObeys f g → (offset link : ℕ) (lies : List ℕ) → InRange g offset link lies → (a b : List ℕ) (s u : Stop)
+      → LiesAhead g offset link lies a s → LiesAhead g offset link lies b u → (a ≡ b) × (s ≡ u)
+  -- why it stops, and exactly when: of a list whose last object is x, and of one of no objects
+  -- 02: Ticket9.3
+  pub stops : (f g : List ℕ) → PairObeys f g → (offset link : ℕ) (lies : List ℕ) → InRange g offset link lies → (w : List ℕ) (x : ℕ) (s : Stop)
+      → LiesAhead g offset link lies (w ++ (x ∷ [])) s
+      → (u : Stop) → (s ≡ u) ↔ EndsFor (objectsOf g x) (lastObject (offset ∷ w)) lies offset (w ++ (x ∷ [])) u
+  -- 02: Ticket9.3
+  pub stops-at-once : (g : List ℕ) (offset link : ℕ) (lies : List ℕ) (s : Stop) → LiesAhead g offset link lies [] s
+      ↔ (((linkOf g offset link ≡ 0) × (s ≡ stop.NoLink))
+      ⊎ ((linkOf g offset link ≡ 0 → ⊥) × (linkOf g offset link ≡ offset) × (s ≡ stop.Repeated)))
+  -- at most 64 objects are listed
+  -- 02: Ticket9.6
+  pub few : (g : List ℕ) (offset link : ℕ) (lies objects : List ℕ) (s : Stop) → LiesAhead g offset link lies objects s → length objects ≤ 64
+  -- no object is listed twice, and the one last passed is not listed
+  -- 02: Ticket9.5
+  pub once : (g : List ℕ) (offset link : ℕ) (lies objects : List ℕ) (s : Stop) → LiesAhead g offset link lies objects s → NoneTwice (offset ∷ objects)
+  -- it is a legal way, as 01 has it for routes: a partial walk that goes from the object last passed to the first one listed goes on over all of
+  -- them, up to its limit and while none stands twice
+  -- 02: Ticket9.2
+  pub legal : (g : List ℕ) (offset link : ℕ) (lies : List ℕ) (start limit : ℕ) (w : List ℕ) (b : ℕ) (objects : List ℕ) (s : Stop)
+      → LiesAhead g offset link lies (b ∷ objects) s → Walk (objectsOf g) start limit (w ++ (offset ∷ b ∷ []))
+      → NoneTwice (w ++ (offset ∷ b ∷ objects)) → length (w ++ (offset ∷ b ∷ objects)) ≤ limit
+      → Walk (objectsOf g) start limit (w ++ (offset ∷ b ∷ objects))
+  -- from a boundary, left by its link, the list is a partial walk; and a route, where it stops at a boundary
+  -- 02: Ticket9.2
+  pub from-boundary : (g : List ℕ) (offset : ℕ) (lies : List ℕ) (objects : List ℕ) (s : Stop) → BoundaryHere g offset
+      → LiesAhead g offset 0 lies objects s → Walk (objectsOf g) offset 65 (offset ∷ objects)
+  -- 02: Ticket9.2
+  pub route-ahead : (g : List ℕ) (offset : ℕ) (lies : List ℕ) (objects : List ℕ) → BoundaryHere g offset
+      → LiesAhead g offset 0 lies objects stop.Boundary → Route (objectsOf g) offset 65 (offset ∷ objects)
+  -- the number that C is returned has the answer's number, its file and its place in it, why the list stops, and how many objects it has
+  -- 02: Ticket9.7
+  pub returned : (f g : List ℕ) (offset link : ℕ) (lies : List ℕ) (room : ℕ)
+      → AheadBack (aheadAsked f g offset link lies room) (aheadShown (aheadAsked f g offset link lies room))

@@ -4,3 +4,4 @@ pub mod Counts
 pub mod Fitting
 pub mod Fit
 pub mod Doubles
+pub mod Ahead

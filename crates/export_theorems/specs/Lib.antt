@@ -1,2 +1,3 @@
 pub mod TakenApart
 pub mod Fit
+pub mod Ahead

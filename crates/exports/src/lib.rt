@@ -1,6 +1,7 @@
 // The reader for other languages: verdicts, pair and questions as C functions with numbers and byte slices only. `include/yard.h` says what
 // each argument and each result means.
 ghost use mathlib.Core.Path.{_≡_};
+ghost use lib.ListN.{length};
 ghost use Rattle.checksum.specs.Checksum.{checksumOf};
 ghost use Rattle.x1_verdict.specs.Facts as geography;
 ghost use Rattle.x2_verdict.specs.Facts as application;
@@ -13,8 +14,11 @@ ghost use Rattle.x1_degrees.specs.Questions.{degreesAsked, pointDegreesOf};
 ghost use Rattle.route_walks.specs.Lent.{roomOf};
 ghost use Rattle.route_lister.specs.Answered.{routesAnswer};
 ghost use Rattle.route_question.specs.Routes.{routesAsked, leftAsked};
+ghost use Rattle.ahead.specs.Asked as ahead;
 ghost use Rattle.c_values.specs.Degrees.{degreesLaid};
+ghost use Rattle.c_values.specs.Ahead.{aheadShown};
 ghost use Rattle.c_values.specs.Shown.{verdictShown, pairShown, shown, leaves, wordsLeft};
+use c_values::seen::ahead_answer;
 use c_values::values::coordinate_words;
 use c_values::values::degrees_words;
 use c_values::values::header_words;
@@ -247,4 +251,20 @@ pub extern "C" fn yard_routes_flat(
     }
     let a = route_question::routes_flat(file, start, limit, budget, words);
     show_counts(a, counts)
+}
+
+// What lies ahead of the object at an offset of the X.2 of a pair, which is left by the link of an index.
+#[no_mangle]
+pub extern "C" fn yard_ahead(
+    first: &[u8],
+    second: &[u8],
+    offset: usize,
+    link: usize,
+    lies: &[u8],
+    out: &mut [u8],
+) -> u64
+    ensures { λ r. ⌜ r ≡ aheadShown (ahead.aheadAsked (now (first .entry)) (now (second .entry)) offset link (now (lies .entry)) (length (now (out .entry)))) ⌝ }
+    ensures { λ _. ⌜ now (out .exit) ≡ ahead.leftAsked (now (first .entry)) (now (second .entry)) offset link (now (lies .entry)) (now (out .entry)) ⌝ }
+{
+    ahead_answer(ahead::ahead(first, second, offset, link, lies, out))
 }

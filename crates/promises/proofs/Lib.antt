@@ -27,12 +27,14 @@ pub mod OfPair
 pub mod OfText
 pub mod OfAnswers
 pub mod OfRouteGraph
+pub mod OfRouteWalks
 pub mod OfRouteLister
 pub mod OfRouteQuestion
 pub mod OfPlanLines
 pub mod OfPlanRoutes
 pub mod OfPlanReading
 pub mod OfPlanQuestion
+pub mod OfAhead
 pub mod OfListings
 pub mod OfCValues
 pub mod OfExports

@@ -26,6 +26,8 @@ use Rattle.answers.proofs.header1.Kinds as header1-kinds
 use Rattle.answers.proofs.header1.Reads as header1-reads
 use Rattle.answers.proofs.header2.Kinds as header2-kinds
 use Rattle.answers.proofs.header2.Reads as header2-reads
+use Rattle.answers.proofs.ahead.Kinds as ahead-kinds
+use Rattle.answers.proofs.ahead.Reads as ahead-reads
 
 pub x1-determined : Determined 1 x1-kinds.ps x1-kinds.r x1-reads.Pre x1-reads.Post
 x1-determined κs a = by-equation (λ v w. refl)
@@ -62,3 +64,6 @@ header1-determined κs a = by-equation (λ v w. refl)
 
 pub header2-determined : Determined 1 header2-kinds.ps header2-kinds.r header2-reads.Pre header2-reads.Post
 header2-determined κs a = by-equation (λ v w. refl)
+
+pub ahead-determined : Determined 3 ahead-kinds.ps ahead-kinds.r ahead-reads.Pre ahead-reads.Post
+ahead-determined κs a = by-equation (λ v w. refl)

@@ -30,6 +30,8 @@ use Rattle.c_values.proofs.words.signed_word.Kinds as signed-word-kinds
 use Rattle.c_values.proofs.words.signed_word.Reads as signed-word-reads
 use Rattle.c_values.proofs.words.show.Kinds as show-kinds
 use Rattle.c_values.proofs.words.show.Reads as show-reads
+use Rattle.c_values.proofs.seen.ahead_answer.Kinds as ahead-answer-kinds
+use Rattle.c_values.proofs.seen.ahead_answer.Reads as ahead-answer-reads
 
 pub header-words-determined : Determined 0 header-words-kinds.ps header-words-kinds.r header-words-reads.Pre header-words-reads.Post
 header-words-determined κs a = by-equation (λ v w. refl)
@@ -69,3 +71,6 @@ signed-word-determined κs a = by-equation (λ v w. refl)
 
 pub show-determined : Determined 2 show-kinds.ps show-kinds.r show-reads.Pre show-reads.Post
 show-determined κs a = (tt, λ x y v w p q. (p .0 ∙ sym (q .0), ap (λ (l : List ℕ). (tt, (l, tt))) (p .1 ∙ sym (q .1))))
+
+pub ahead-answer-determined : Determined 0 ahead-answer-kinds.ps ahead-answer-kinds.r ahead-answer-reads.Pre ahead-answer-reads.Post
+ahead-answer-determined κs a = by-equation (λ v w. refl)

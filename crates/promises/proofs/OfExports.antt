@@ -34,6 +34,8 @@ use Rattle.exports.proofs.yard_header1.Kinds as yard-header1-kinds
 use Rattle.exports.proofs.yard_header1.Reads as yard-header1-reads
 use Rattle.exports.proofs.yard_header2.Kinds as yard-header2-kinds
 use Rattle.exports.proofs.yard_header2.Reads as yard-header2-reads
+use Rattle.exports.proofs.yard_ahead.Kinds as yard-ahead-kinds
+use Rattle.exports.proofs.yard_ahead.Reads as yard-ahead-reads
 
 pub yard-checksum-determined : Determined 1 yard-checksum-kinds.ps yard-checksum-kinds.r yard-checksum-reads.Pre yard-checksum-reads.Post
 yard-checksum-determined κs a = by-equation (λ v w. refl)
@@ -79,3 +81,6 @@ yard-header1-determined κs a = (tt, λ x y v w p q. (p .0 ∙ sym (q .0), ap (�
 
 pub yard-header2-determined : Determined 2 yard-header2-kinds.ps yard-header2-kinds.r yard-header2-reads.Pre yard-header2-reads.Post
 yard-header2-determined κs a = (tt, λ x y v w p q. (p .0 ∙ sym (q .0), ap (λ (l : List ℕ). (tt, (l, tt))) (p .1 ∙ sym (q .1))))
+
+pub yard-ahead-determined : Determined 4 yard-ahead-kinds.ps yard-ahead-kinds.r yard-ahead-reads.Pre yard-ahead-reads.Post
+yard-ahead-determined κs a = (tt, λ x y v w p q. (p .0 ∙ sym (q .0), ap (λ (l : List ℕ). (tt, (tt, (tt, (tt, (tt, (l, tt))))))) (p .1 ∙ sym (q .1))))

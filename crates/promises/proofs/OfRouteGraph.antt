@@ -8,6 +8,10 @@ use Rattle.route_graph.proofs.Object.edge_link.Kinds as object-edge-link-kinds
 use Rattle.route_graph.proofs.Object.edge_link.Reads as object-edge-link-reads
 use Rattle.route_graph.proofs.Object.is_boundary.Kinds as object-is-boundary-kinds
 use Rattle.route_graph.proofs.Object.is_boundary.Reads as object-is-boundary-reads
+use Rattle.route_graph.proofs.Object.link_count.Kinds as object-link-count-kinds
+use Rattle.route_graph.proofs.Object.link_count.Reads as object-link-count-reads
+use Rattle.route_graph.proofs.Object.link.Kinds as object-link-kinds
+use Rattle.route_graph.proofs.Object.link.Reads as object-link-reads
 use Rattle.route_graph.proofs.object_at.Kinds as object-at-kinds
 use Rattle.route_graph.proofs.object_at.Reads as object-at-reads
 use Rattle.route_graph.proofs.ends_of.Kinds as ends-of-kinds
@@ -29,6 +33,12 @@ object-edge-link-determined κs a = by-equation (λ v w. refl)
 
 pub object-is-boundary-determined : Determined 0 object-is-boundary-kinds.ps object-is-boundary-kinds.r object-is-boundary-reads.Pre object-is-boundary-reads.Post
 object-is-boundary-determined κs a = by-equation (λ v w. refl)
+
+pub object-link-count-determined : Determined 0 object-link-count-kinds.ps object-link-count-kinds.r object-link-count-reads.Pre object-link-count-reads.Post
+object-link-count-determined κs a = by-equation (λ v w. refl)
+
+pub object-link-determined : Determined 0 object-link-kinds.ps object-link-kinds.r object-link-reads.Pre object-link-reads.Post
+object-link-determined κs a = by-equation (λ v w. refl)
 
 pub object-at-determined : Determined 1 object-at-kinds.ps object-at-kinds.r object-at-reads.Pre object-at-reads.Post
 object-at-determined κs a = by-equation (λ v w. refl)

@@ -8,6 +8,8 @@ use Rattle.x2_links.proofs.mark_if.Kinds as mark-if-kinds
 use Rattle.x2_links.proofs.mark_if.Reads as mark-if-reads
 use Rattle.x2_links.proofs.may_link.Kinds as may-link-kinds
 use Rattle.x2_links.proofs.may_link.Reads as may-link-reads
+use Rattle.x2_links.proofs.may_name.Kinds as may-name-kinds
+use Rattle.x2_links.proofs.may_name.Reads as may-name-reads
 use Rattle.x2_links.proofs.check_targets.Kinds as check-targets-kinds
 use Rattle.x2_links.proofs.check_targets.Reads as check-targets-reads
 
@@ -22,3 +24,6 @@ mark-if-determined κs a = by-equation (λ v w. refl)
 
 pub may-link-determined : Determined 1 may-link-kinds.ps may-link-kinds.r may-link-reads.Pre may-link-reads.Post
 may-link-determined κs a = by-equation (λ v w. refl)
+
+pub may-name-determined : Determined 1 may-name-kinds.ps may-name-kinds.r may-name-reads.Pre may-name-reads.Post
+may-name-determined κs a = by-equation (λ v w. refl)

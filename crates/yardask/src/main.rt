@@ -2,6 +2,9 @@
 // said in one line on standard error, and then nothing stands on standard output. The answers are those of the library; here words become
 // questions, numbers and files.
 ghost use Prim.Native.Nat.{_≤_};
+use ahead::LIES;
+use ahead::ROOM_LEAST;
+use ahead::UNKNOWN;
 use decimal::number_in;
 use libc::STDERR_FILENO;
 use libc::STDOUT_FILENO;
@@ -14,7 +17,7 @@ use route_question::Engine;
 
 // The questions, a line for each: the words of its command and, after two spaces or more, what it answers. Help is these lines; a question is
 // known by its word, and its number is that of its line.
-const QUESTIONS: [u8; 1368] = *b"\
+const QUESTIONS: [u8; 1518] = *b"\
 yardask x1 FILE                                the verdict of an X.1 file: its number and the place of the fault\n\
 yardask x1-version-1 FILE                      the verdict of an X.1 by a reader that knows structure version 1 alone\n\
 yardask x2 FILE                                the verdict of an X.2 file\n\
@@ -28,7 +31,8 @@ yardask degrees FILE TRACKNUMBER POSITION      the same, and in degrees: a binar
 yardask point-degrees FILE TRACK POINT         the coordinate of a point, and in degrees\n\
 yardask record FILE OFFSET                     the record of an X.2 that starts at an offset\n\
 yardask routes FILE START LIMIT BUDGET ROOM    the routes of an X.2 from a boundary, of at most LIMIT objects (0: 160)\n\
-yardask routes2 FILE START LIMIT BUDGET ROOM   the same, by the second engine\n";
+yardask routes2 FILE START LIMIT BUDGET ROOM   the same, by the second engine\n\
+yardask ahead FILE1 FILE2 OFFSET LINK LIES     the objects ahead of OFFSET by its LINK (from 0) and 256 LIES 0, 1, 2 (characters, or bytes of a file)\n";
 
 const X1: usize = 1;
 
@@ -58,7 +62,9 @@ const ROUTES: usize = 13;
 
 const ROUTES2: usize = 14;
 
-const HELP: usize = 15;
+const AHEAD: usize = 15;
+
+const HELP: usize = 16;
 
 const NO_QUESTION: usize = 0;
 
@@ -84,6 +90,12 @@ const THIRD_NUMBER: usize = 5;
 
 const FOURTH_NUMBER: usize = 6;
 
+const OFFSET: usize = 4;
+
+const LINK: usize = 5;
+
+const LIES_WORD: usize = 6;
+
 // The longest word that may be a question, and that may be a number.
 const QUESTION_ROOM: usize = 16;
 
@@ -97,8 +109,16 @@ const NO_NUMBER: usize = 0x1_0000_0000;
 // A byte more than the longest file: a file that fills the room is too long, whatever follows.
 const ROOM: usize = 65536;
 
-// The length of a file that cannot be read.
-const NO_FILE: usize = 65537;
+// The length of a file that cannot be opened, and of one that cannot be read.
+const NOT_OPENED: usize = 65537;
+
+const NOT_READ: usize = 65538;
+
+// A byte more than there are lies: a file of lies that fills the room is too long.
+const LIES_ROOM: usize = LIES + 1;
+
+// The character of the first lie; those of the others follow it.
+const NORMAL_CHARACTER: u8 = b'0';
 
 // Some text on standard error.
 fn write(text: &[u8]) {
@@ -293,19 +313,64 @@ fn reads_on(file: i32) -> bool {
     0 <= libc::read(file, &mut next)
 }
 
-// Reads the file that a word names, as far as there is room, and says it where it cannot be read.
-fn read_file(i: usize, room: &mut [u8]) -> usize {
+// Reads the file that a word names, as far as there is room.
+fn read_named(i: usize, room: &mut [u8]) -> usize {
     let file = opened(i);
     if file < 0 {
-        wrong(b"cannot open the file", i);
-        return NO_FILE;
+        return NOT_OPENED;
     }
     let n = io::read_full(file, room);
     let is_read = reads_on(file);
     libc::close(file);
     if !is_read {
+        return NOT_READ;
+    }
+    n
+}
+
+// The same, and says it where it cannot be read.
+fn read_file(i: usize, room: &mut [u8]) -> usize {
+    let n = read_named(i, room);
+    if n == NOT_OPENED {
+        wrong(b"cannot open the file", i);
+    }
+    if n == NOT_READ {
         wrong(b"cannot read the file", i);
-        return NO_FILE;
+    }
+    n
+}
+
+// Makes each character of a text the lie that it stands for. It answers whether each stands for one.
+fn become_lies(text: &mut [u8]) -> bool {
+    let mut right = true;
+    for k in 0..text.len() {
+        let lie = std::num::wrapping_sub_u8(text[k], NORMAL_CHARACTER);
+        right = right & (lie <= UNKNOWN);
+        text[k] = lie;
+    }
+    right
+}
+
+// Whether a word is the lies themselves, a character for each. They then stand in the room.
+fn are_in_word(i: usize, room: &mut [u8]) -> bool {
+    let n = os::arg(i, room);
+    if os::errno() != 0 {
+        return false;
+    }
+    n == LIES && become_lies(&mut room[..n])
+}
+
+// Reads the lies, from a word or from the file that it names, as far as there is room, and says it where it is neither.
+fn read_lies(i: usize, room: &mut [u8]) -> usize {
+    if are_in_word(i, room) {
+        return LIES;
+    }
+    let n = read_named(i, room);
+    if NOT_OPENED <= n {
+        wrong(
+            b"neither a file that can be read nor 256 characters 0, 1 and 2:",
+            i,
+        );
     }
     n
 }
@@ -360,8 +425,27 @@ fn ask_with_numbers(question: usize) {
     ask(question, a, b);
 }
 
-// Answers the question about a pair of files.
-fn ask_pair() {
+// Answers the question ahead about a pair of files, by the lies of the command line.
+fn look_ahead(first: &[u8], second: &[u8], offset: usize, link: usize) {
+    let mut lies = [0u8; LIES_ROOM];
+    let n = read_lies(LIES_WORD, &mut lies);
+    if LIES_ROOM < n {
+        return;
+    }
+    answers::ahead(first, second, offset, link, &lies[..n], ROOM_LEAST);
+}
+
+// Answers a question about a pair of files.
+fn answer_pair(question: usize, first: &[u8], second: &[u8], offset: usize, link: usize) {
+    if question == PAIR {
+        answers::pair(first, second);
+    } else {
+        look_ahead(first, second, offset, link);
+    }
+}
+
+// The same, about the files that the command line names.
+fn ask_pair(question: usize, offset: usize, link: usize) {
     let mut first = io::large_buffer();
     let n = read_file(FIRST, &mut first);
     if ROOM < n {
@@ -372,7 +456,20 @@ fn ask_pair() {
     if ROOM < m {
         return;
     }
-    answers::pair(&first[..n], &second[..m]);
+    answer_pair(question, &first[..n], &second[..m], offset, link);
+}
+
+// The same, once its numbers are numbers.
+fn ask_pair_with_numbers(question: usize) {
+    let offset = number(OFFSET);
+    if NO_NUMBER <= offset {
+        return;
+    }
+    let link = number(LINK);
+    if NO_NUMBER <= link {
+        return;
+    }
+    ask_pair(question, offset, link);
 }
 
 // Answers the question routes, by an engine, and says it where the list would fit the words that are asked for and not those that are here.
@@ -430,8 +527,8 @@ fn ask_routes(engine: Engine) {
 
 // Answers a question whose command has the words that it takes.
 fn ask_question(asked: usize) {
-    if asked == PAIR {
-        ask_pair();
+    if asked == PAIR || asked == AHEAD {
+        ask_pair_with_numbers(asked);
     } else if asked == ROUTES {
         ask_routes(Engine::First);
     } else if asked == ROUTES2 {

@@ -1,10 +1,13 @@
 // Many questions in one run. Standard input is a sequence of cases: the question in 1 byte (x1, x2, pair, track, point, coordinate,
-// record, routes, header1, header2, routes2, degrees and point-degrees are 1 to 13; 14 and 15 are kept for questions to come and unknown until
-// then; x1-version-1 is 16), four numbers of 4 bytes each, two lengths of 4 bytes each, and the bytes of the first and of the second file; all numbers are
-// little-endian. Standard output is, for each case, what yardask prints, and an empty line. Input that ends inside a case, an unknown
-// question, or a list of routes that does not fit the 65,535 words that are here where the case lends more, is a line on standard error and
-// ends the run.
+// record, routes, header1, header2, routes2, degrees and point-degrees are 1 to 13; 14 is kept for a question to come and unknown until then;
+// ahead is 15; x1-version-1 is 16), four numbers of 4 bytes each, two lengths of 4 bytes each, and the bytes of the first and of the second file;
+// all numbers are little-endian. The numbers of ahead are the offset, the link, how many lies there are, and the room in bytes; so many bytes at
+// the end of its second byte string are the lies, those before them the X.2, so that the string may be longer than a file. Standard output is, for
+// each case, what yardask prints, and an empty line. Input that ends inside a case, an unknown question, a case of ahead with more lies than its
+// second byte string has bytes, or a list of routes that does not fit the 65,535 words that are here where the case lends more, is a line on
+// standard error and ends the run.
 ghost use Prim.Native.Nat.{_≤_};
+use ahead::LIES;
 use libc::STDERR_FILENO;
 use libc::STDIN_FILENO;
 use libc::STDOUT_FILENO;
@@ -45,6 +48,8 @@ const DEGREES: usize = 12;
 
 const POINT_DEGREES: usize = 13;
 
+const AHEAD: usize = 15;
+
 const X1_VERSION_1: usize = 16;
 
 // Where the four numbers stand, and the bytes of each.
@@ -59,6 +64,9 @@ const SECOND_LENGTH: usize = 21;
 
 // A byte more than the longest file: a file that fills the room is too long, whatever follows.
 const ROOM: usize = 65536;
+
+// A byte more than there are lies: a list that fills the room is too long, whatever follows.
+const LIES_ROOM: usize = LIES + 1;
 
 // As many bytes are passed over at once.
 const PART: usize = 4096;
@@ -189,14 +197,26 @@ fn part_answered(question: usize, head: &[u8], first: &[u8]) -> bool {
     false
 }
 
+// Answers the question ahead.
+fn ahead_answered(head: &[u8], first: &[u8], second: &[u8], lies: &[u8]) {
+    let offset = u32_at(head, NUMBERS);
+    let link = u32_at(head, NUMBERS + NUMBER);
+    let room = u32_at(head, NUMBERS + 3 * NUMBER);
+    answers::ahead(first, second, offset, link, lies, room);
+}
+
 // Answers the question of a case. It answers whether it could.
-fn answered(head: &[u8], first: &[u8], second: &[u8]) -> bool {
+fn answered(head: &[u8], first: &[u8], second: &[u8], lies: &[u8]) -> bool {
     let question = byte_at(head, 0);
     if question == ROUTES {
         return routes_answered(Engine::First, head, first);
     }
     if question == ROUTES2 {
         return routes_answered(Engine::Second, head, first);
+    }
+    if question == AHEAD {
+        ahead_answered(head, first, second, lies);
+        return true;
     }
     if file_answered(question, first, second) {
         return true;
@@ -207,30 +227,68 @@ fn answered(head: &[u8], first: &[u8], second: &[u8]) -> bool {
     stop(b"yardbatch: unknown question\n")
 }
 
-// Reads the files of a case, of n and m bytes, and answers it. It answers whether there may be a next case.
-fn case_in(head: &[u8], first: &mut [u8], n: usize, second: &mut [u8], m: usize) -> bool {
+// Reads the files and the lies of a case, of n, m and k bytes, and answers it. It answers whether there may be a next case.
+fn case_in(
+    head: &[u8],
+    first: &mut [u8],
+    n: usize,
+    second: &mut [u8],
+    m: usize,
+    lies: &mut [u8],
+    k: usize,
+) -> bool {
     if !read_file(first, n) {
         return stop_inside();
     }
     if !read_file(second, m) {
         return stop_inside();
     }
-    if !answered(head, first, second) {
+    if !read_file(lies, k) {
+        return stop_inside();
+    }
+    if !answered(head, first, second, lies) {
         return false;
     }
     io::write_all(STDOUT_FILENO, b"\n");
     true
 }
 
-// The same, with room for the two files.
-fn case_of(head: &[u8]) -> bool {
+// The same, with room for the two files and the lies, where the second file has m bytes and there are k lies.
+fn case_with(head: &[u8], m: usize, k: usize) -> bool {
     let mut first = io::large_buffer();
     let mut second = io::large_buffer();
+    let mut lies = [0u8; LIES_ROOM];
     let n = u32_at(head, FIRST_LENGTH);
-    let m = u32_at(head, SECOND_LENGTH);
     let a = least(n, ROOM);
     let b = least(m, ROOM);
-    case_in(head, &mut first[..a], n, &mut second[..b], m)
+    let c = least(k, LIES_ROOM);
+    case_in(
+        head,
+        &mut first[..a],
+        n,
+        &mut second[..b],
+        m,
+        &mut lies[..c],
+        k,
+    )
+}
+
+// How many lies stand at the end of the second byte string of a case.
+fn lies_of(head: &[u8]) -> usize {
+    if byte_at(head, 0) == AHEAD {
+        return u32_at(head, NUMBERS + 2 * NUMBER);
+    }
+    0
+}
+
+// Answers the case that begins with a head. It answers whether there may be a next case.
+fn case_of(head: &[u8]) -> bool {
+    let bytes = u32_at(head, SECOND_LENGTH);
+    let lies = lies_of(head);
+    if bytes < lies {
+        return stop(b"yardbatch: a case has more lies than bytes\n");
+    }
+    case_with(head, bytes - lies, lies)
 }
 
 // Reads and answers a case. It answers whether there may be a next one.

@@ -6,11 +6,11 @@ use borrow.Author.Needs.{needs}
 use Rattle.yardask.proofs.ask_pair.Statement.{statement}
 use Rattle.yardask.proofs.ask_pair.Tie as tie
 
-slice-aggregate-pair : tie.Need-slice-aggregate-pair
-slice-aggregate-pair c = sym (length-take-le _ _ (omega arith))
+slice-aggregate-answer-pair : tie.Need-slice-aggregate-answer-pair
+slice-aggregate-answer-pair c = sym (length-take-le _ _ (omega arith))
 
-slice-aggregate-pair-2 : tie.Need-slice-aggregate-pair-2
-slice-aggregate-pair-2 c = sym (length-take-le _ _ (omega arith))
+slice-aggregate-answer-pair-2 : tie.Need-slice-aggregate-answer-pair-2
+slice-aggregate-answer-pair-2 c = sym (length-take-le _ _ (omega arith))
 
 pub ask-pair-spec : {M : Type 1} → statement M
 ask-pair-spec =
@@ -25,8 +25,8 @@ ask-pair-spec =
     (λ c κs. search needs)
     (λ c. search needs)
     (λ c. search needs)
-    slice-aggregate-pair
+    slice-aggregate-answer-pair
     (λ c. search needs)
-    slice-aggregate-pair-2
+    slice-aggregate-answer-pair-2
     (λ c κs. search needs)
     (λ c. search needs))

@@ -8,7 +8,7 @@ abbrev Inv-loop : tie.InvT-loop
 Inv-loop table word k₀ k = Unit {0}
 
 abbrev μ-loop : tie.MeasureT-loop
-μ-loop table word k₀ k = 15 - k
+μ-loop table word k₀ k = 16 - k
 
 pub question-in-spec : {M : Type 1} → statement M
 question-in-spec =

@@ -11,7 +11,7 @@ returns-2 : tie.Need-returns-2
 returns-2 c = way-plain _ _ _ _ _ (c .before .before .o .given .1) (c .onward .ensures)
 
 returns-3 : tie.Need-returns-3
-returns-3 c = way-turnout _ _ _ _ _ _ (c .before .before .before .o2 .given .1) (c .before .lie-of .ensures) (c .leg .ensures)
+returns-3 c = way-turnout _ _ _ _ _ _ (c .before .before .before .o2 .given .1) (c .before .lie-of .ensures) (c .through .ensures)
 
 returns-4 : tie.Need-returns-4
 returns-4 c = way-nothing _ _ _ (c .enum-told2 .given .1)
