@@ -1,6 +1,6 @@
 /* An example of the C library: a cab unit that follows a way through a station. It starts at an object of the X.2, which is left by a link, with
- * every lie unknown, and prints what lies ahead. Then turnouts report how they lie, one after the other. At each report the train has come up to
- * the turnout that the list stopped at, and the unit looks ahead from the object before it.
+ * every lie unknown, and prints what lies ahead. Then turnouts report how they lie, one after the other. Where the list stopped at a turnout, the
+ * train has come up to it by the time of the next report, and the unit looks ahead from the object before it.
  *
  *     tools/library && target/libyard/cab examples/1.1 examples/1.2 47 0 1=reverse 3=normal 2=reverse 3=reverse */
 #include <inttypes.h>
@@ -23,12 +23,12 @@ typedef struct {
 } train;
 
 static const char *const stops[] = {
-    [YARD_STOP_BOUNDARY] = "it is a boundary",
-    [YARD_STOP_NO_LINK] = "no link leads on",
-    [YARD_STOP_UNKNOWN_LIE] = "its lie is unknown",
-    [YARD_STOP_REPEATED] = "what follows was met before",
-    [YARD_STOP_AGAINST_LIE] = "it lies against the train",
-    [YARD_STOP_FULL] = "the list is full"
+    [YARD_STOP_BOUNDARY] = "ends at a boundary",
+    [YARD_STOP_NO_LINK] = "ends where no link leads on",
+    [YARD_STOP_UNKNOWN_LIE] = "stops at a turnout of unknown lie",
+    [YARD_STOP_REPEATED] = "ends before an object met already",
+    [YARD_STOP_AGAINST_LIE] = "stops at a turnout that lies against the train",
+    [YARD_STOP_FULL] = "goes on beyond the list"
 };
 
 /* Looks ahead, and prints it. Returns whether the question was answered. */
@@ -43,7 +43,7 @@ static int look(train *t)
     }
     for (unsigned i = 0; i < YARD_OBJECTS(t->answer); i++)
         printf(" %u", yard_word(t->objects, i));
-    printf("; %s\n", stops[YARD_STOP(t->answer)]);
+    printf(YARD_OBJECTS(t->answer) == 0 ? " nothing; the way %s\n" : "; the way %s\n", stops[YARD_STOP(t->answer)]);
     return 1;
 }
 
@@ -70,10 +70,10 @@ static unsigned link_count(uint32_t kind)
     }
 }
 
-/* Which link of an object names another one. */
+/* Which link of an object names another one. The object was listed, so that its record is there. */
 static size_t link_to(size_t offset, uint32_t other)
 {
-    uint8_t record[YARD_RECORD_SIZE];
+    uint8_t record[YARD_RECORD_SIZE] = { 0 };
     unsigned link = 0;
     yard_record(second.bytes, second.length, offset, record, sizeof record);
     uint32_t kind = yard_unsigned(record, YARD_RECORD_KIND);
@@ -82,11 +82,11 @@ static size_t link_to(size_t offset, uint32_t other)
     return link;
 }
 
-/* The train comes up to the last object of the list: it has passed the one before that. */
+/* The train comes up to the turnout that the list stopped at: it has passed the object before that, if one was listed. */
 static void come_up(train *t)
 {
-    unsigned objects = YARD_OBJECTS(t->answer);
-    if (objects < 2)
+    unsigned objects = YARD_OBJECTS(t->answer), stop = YARD_STOP(t->answer);
+    if (objects < 2 || (stop != YARD_STOP_UNKNOWN_LIE && stop != YARD_STOP_AGAINST_LIE))
         return;
     t->offset = yard_word(t->objects, objects - 2);
     t->link = link_to(t->offset, yard_word(t->objects, objects - 1));
@@ -95,17 +95,28 @@ static void come_up(train *t)
 /* A turnout reports how it lies: NUMBER=normal, NUMBER=reverse or NUMBER=unknown. Returns whether the word says so. */
 static int report(train *t, const char *word)
 {
-    static const char *const lies[] = { [YARD_NORMAL] = "normal", [YARD_REVERSE] = "reverse", [YARD_UNKNOWN] = "unknown" };
+    static const char *const lies[] = { [YARD_LIE_NORMAL] = "normal", [YARD_LIE_REVERSE] = "reverse", [YARD_LIE_UNKNOWN] = "unknown" };
     char *end;
     unsigned long number = strtoul(word, &end, 10);
     if (end == word || *end != '=' || number < 1 || number >= YARD_LIES_SIZE)
         return 0;
-    for (uint8_t lie = YARD_NORMAL; lie <= YARD_UNKNOWN; lie++)
+    for (uint8_t lie = YARD_LIE_NORMAL; lie <= YARD_LIE_UNKNOWN; lie++)
         if (strcmp(end + 1, lies[lie]) == 0) {
             t->lies[number] = lie;
             printf("turnout %lu lies %s\n", number, lies[lie]);
             return 1;
         }
+    return 0;
+}
+
+/* The number that a word is. Returns whether it is one. */
+static int number(const char *word, size_t *n)
+{
+    char *end;
+    *n = strtoul(word, &end, 10);
+    if (*word >= '0' && *word <= '9' && *end == '\0')
+        return 1;
+    fprintf(stderr, "cab: no number: '%s'\n", word);
     return 0;
 }
 
@@ -117,11 +128,11 @@ int main(int words, char **word)
         fprintf(stderr, "usage: cab X1FILE X2FILE OFFSET LINK [NUMBER=normal|reverse|unknown]..\n");
         return 2;
     }
+    if (!number(word[OFFSET], &t.offset) || !number(word[LINK], &t.link))
+        return 2;
     if (!read_file(word[1], &first) || !read_file(word[2], &second))
         return 1;
-    memset(t.lies, YARD_UNKNOWN, sizeof t.lies);
-    t.offset = strtoul(word[OFFSET], NULL, 10);
-    t.link = strtoul(word[LINK], NULL, 10);
+    memset(t.lies, YARD_LIE_UNKNOWN, sizeof t.lies);
     if (!look(&t))
         return 1;
     for (int i = REPORTS; i < words; i++) {

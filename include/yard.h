@@ -1,14 +1,15 @@
 /* The station files of T/VSTR 021-2024, for C and for whatever can call C: track geography (X.1) and fixed application data (X.2). Verdicts
- * of a file and of a pair, and the questions on them: header, track, point, coordinate, these two in degrees, record, routes, what lies ahead. The library is
- * libyard.a; tools/library makes it, for x86-64 Linux, and lays it out beside this header in target/libyard. Nothing else is linked with it.
+ * of a file and of a pair, and the questions on them: header, track, point, coordinate, these two in degrees, record, routes, and what lies
+ * ahead. The library is libyard.a; tools/library makes it, for x86-64 Linux, and lays it out beside this header in target/libyard. Nothing else
+ * is linked with it.
  *
  * An X.1 has structure version 1 or 2. In version 2 each point has a height at its end, and so 15 bytes for 13; all else is alike. Every
  * function on an X.1 takes both, but for yard_x1_version_1. An X.2 has structure version 1.
  *
  * What every function has in common
  *
- * - A file, and every output, is a pointer to bytes and after it their number. The pointer needs no alignment. Where the number is 0 the
- *   pointer may be null, and the answer is that of any other pointer. Otherwise it points to so many bytes, which no one changes during the
+ * - A file, a list of lies, and every output, is a pointer to bytes and after it their number. The pointer needs no alignment. Where the number
+ *   is 0 the pointer may be null, and the answer is that of any other pointer. Otherwise it points to so many bytes, which no one changes during the
  *   call; an output overlaps no other argument.
  * - No byte outside these is read or written. Nothing is kept between calls and nothing is shared, so that calls may run at the same time.
  *   There is no heap, and every call returns. A call takes at most 14 KB of stack on an X.1, 22 KB on an X.2 and 25 KB on a pair;
@@ -16,7 +17,8 @@
  *   no more than any other call on an X.2, 22 KB at every limit; once the file is judged the engine itself takes 7.3 KB: the path 1 KB, the
  *   open choices 2 KB, the marks of the test for a repeat 4 KB. tools/stack measures it, and tools/calls bounds it by the code.
  * - A function other than yard_checksum returns one number, made of the answer's number, its file and its place: take it apart by
- *   YARD_NUMBER, YARD_FILE and YARD_PLACE. Number 0 is accepted or answered. Any other is a refusal, with the byte place that it is about.
+ *   YARD_NUMBER, YARD_FILE and YARD_PLACE. Number 0 is accepted or answered. Any other is a refusal, with the byte place that it is about. That
+ *   of yard_ahead has two parts more, YARD_STOP and YARD_OBJECTS; they are 0 in every other function's.
  * - An answer's values are put at the start of the output, four bytes each and low byte first, negative ones in two's complement: read them
  *   by yard_unsigned and yard_signed. A binary64 is two values, the low four bytes of its bits and then the high four, and so eight bytes, low
  *   byte first: read it by yard_double. The bytes of the output after the values are left as they were.
@@ -348,8 +350,8 @@ uint64_t yard_routes_flat(const uint8_t *file, size_t file_length, size_t start,
 
 /* The objects ahead, in order. A train has last passed the object that starts at `offset` of the X.2 and leaves it by the link of an index, from 0
  * in the order of the record's fields: a boundary has link 0 alone; a turnout has front 0, normal 1 and reverse 2; a balise, a signal and a joint
- * have previous 0 and next 1. `lies` has 256 bytes, one for each turnout number: YARD_NORMAL, YARD_REVERSE or YARD_UNKNOWN. Equal turnout numbers
- * share one lie; byte 0 belongs to no turnout, and is one of the three all the same.
+ * have previous 0 and next 1. `lies` has 256 bytes, one for each turnout number: YARD_LIE_NORMAL, YARD_LIE_REVERSE or YARD_LIE_UNKNOWN. Equal
+ * turnout numbers share one lie; byte 0 belongs to no turnout, and is one of the three all the same.
  *
  * The pair is judged first, as by yard_pair, and its fault is answered with its file. Then YARD_QUESTION: no object starts at `offset`, or a
  * siding or a balise of place above 1 does; the object has no such link; `lies` has not 256 bytes, or one of them is no lie. Then YARD_ROOM: `out`
@@ -366,9 +368,9 @@ uint64_t yard_ahead(const uint8_t *first, size_t first_length, const uint8_t *se
 #define YARD_AHEAD_SIZE 128
 
 enum yard_lie {
-    YARD_NORMAL = 0,
-    YARD_REVERSE = 1,
-    YARD_UNKNOWN = 2
+    YARD_LIE_NORMAL = 0,
+    YARD_LIE_REVERSE = 1,
+    YARD_LIE_UNKNOWN = 2
 };
 
 /* Why the list stops: one of enum yard_stop; 0 in a refusal. */

@@ -1,12 +1,12 @@
 -- What each way through `look` and `ahead` shows, over plain variables: what is answered, and what is left in the bytes lent.
-use Prim.Native.Nat.{ℕ, zero, suc, _+_, _*_, _≤_, _<_}
+use Prim.Native.Nat.{ℕ, zero, suc, _+_, _≤_, _<_}
 use native.Mathlib.Omega.{arith}
-use mathlib.Core.Path.{_≡_, refl, sym, ap, subst, _∙_}
+use mathlib.Core.Path.{_≡_, refl, sym, ap, _∙_}
 use mathlib.Core.Bool.{Bool, true, false, cond, not, _&&_}
 use mathlib.Core.List.{List, [], _∷_, _++_}
 use lib.ListN.{length, getD, length-append}
 use lib.Dec.{eqb, ltb}
-use borrow.Author.Tests.{lt-ltb, le-ltb}
+use borrow.Author.Tests.{lt-ltb, le-ltb, not-true, not-false}
 use Rattle.verdict.specs.declared.Reason.the-variants.{Question, Room}
 use Rattle.verdict.specs.declared.File.{File}
 use Rattle.verdict.specs.declared.Fault.{Fault}
@@ -22,7 +22,6 @@ use Rattle.route_graph.specs.Objects.{objectAt, linksOf, offsetMost}
 use Rattle.route_walks.specs.Walks.{has}
 use Rattle.route_walks.specs.Lent.{lays}
 use Rattle.route_walks.proofs.Lent.{lays-front}
-use Rattle.ahead.specs.declared.Stop.{Stop}
 use Rattle.ahead.specs.declared.Stop.the-variants as stop
 use Rattle.ahead.specs.declared.Sight.{Sight}
 use Rattle.ahead.specs.declared.AheadAnswer.{AheadAnswer}
@@ -31,8 +30,9 @@ use Rattle.ahead.specs.declared.ways.Way.{Way}
 use Rattle.ahead.specs.declared.ways.Way.the-variants.{On, Stops}
 use Rattle.ahead.specs.Lies.{areLies}
 use Rattle.ahead.specs.Ways.{wayOf}
-use Rattle.ahead.specs.Seen.{objectsMost, seenBytes, Seen, ends, goesOn, aheadFrom, sightOf}
-use Rattle.ahead.specs.Asked.{inRange, seenIn, refusedFor, judged, answerIn, leaves, leftIn, pairFault, afterPair, aheadAsked, leftAsked}
+use Rattle.ahead.specs.Ahead.{objectsMost, seenBytes}
+use Rattle.ahead.specs.Seen.{Seen, ends, goesOn, aheadFrom, sightOf}
+use Rattle.ahead.specs.Asked.{inRange, seenIn, refusedFor, judged, answerIn, leftIn, pairFault, aheadAsked, leftAsked}
 
 -- ---- no more are listed than may be
 
@@ -98,59 +98,39 @@ module _ (g : List ℕ) (l : Layout) (offset link : ℕ) (lies out : List ℕ) w
   list-few = seen-few (objectAt g l) lies offset objectsMost [] offset (getD (linksOf (objectAt g l offset)) link 0)
 
   inside : (s : Sight) (o : List ℕ) → inRange g l offset link lies ≡ true → seenBytes ≤ length out → s ≡ sightOf (seenIn g l offset link lies)
-      → o ≡ lays out 0 (seenIn g l offset link lies .objects) → Told (answer.Seen s) o
+      → o ≡ lays out 0 (seenIn g l offset link lies .objects) → Told (answer.Listed s) o
   unfolding answerIn leftIn judged
   inside s o e h q r =
       let few = list-few in
       record {
-        answered = rw (e, le-ltb (length out) seenBytes h) (ap answer.Seen q);
+        answered = rw (e, le-ltb (length out) seenBytes h) (ap answer.Listed q);
         left = rw (e, le-ltb (length out) seenBytes h) (r ∙ lays-front (seenIn g l offset link lies .objects) out (omega arith));
       }
 
   module _ (m : Bool) (is : m ≡ mayName g l offset) where
     pub not-named : not m ≡ true → Told (refusedFor Question) out
-    not-named e = outside (go m e is)
-      where
-        go : (b : Bool) → not b ≡ true → b ≡ mayName g l offset → inRange g l offset link lies ≡ false
-        go true q r = absurd (let z : _≡_ {A = ℕ} 0 1 = cc in omega arith)
-        go false q r = range-is false _ r refl
+    not-named e = outside (range-is false _ (sym (not-true m e) ∙ is) refl)
 
     -- what a link may name is an offset in a file
     pub is-offset : not m ≡ false → offset ≤ offsetMost
-    is-offset e = go m e is
-      where
-        go : (b : Bool) → not b ≡ false → b ≡ mayName g l offset → offset ≤ offsetMost
-        go true q r = (may-name g l offset .0 (sym r)) .0
-        go false q r = absurd (let z : _≡_ {A = ℕ} 0 1 = cc in omega arith)
+    is-offset e = (may-name g l offset .0 (sym is ∙ not-false m e)) .0
 
     module _ (named : not m ≡ false) (t : Bool) (so : t ≡ (ltb link (length (linksOf (objectAt g l offset))) && areLies lies)) where
       both : inRange g l offset link lies ≡ t
-      both = go m named is
-        where
-          go : (b : Bool) → not b ≡ false → b ≡ mayName g l offset → inRange g l offset link lies ≡ t
-          go true q r = range-is true t r so
-          go false q r = absurd (let z : _≡_ {A = ℕ} 0 1 = cc in omega arith)
+      both = range-is true t (sym (not-false m named) ∙ is) so
 
       pub not-asked : not t ≡ true → Told (refusedFor Question) out
-      not-asked e = outside (both ∙ go t e)
-        where
-          go : (b : Bool) → not b ≡ true → b ≡ false
-          go true q = absurd (let z : _≡_ {A = ℕ} 0 1 = cc in omega arith)
-          go false q = refl
+      not-asked e = outside (both ∙ not-true t e)
 
       module _ (asked : not t ≡ false) where
         ranged : inRange g l offset link lies ≡ true
-        ranged = both ∙ go t asked
-          where
-            go : (b : Bool) → not b ≡ false → b ≡ true
-            go true q = refl
-            go false q = absurd (let z : _≡_ {A = ℕ} 0 1 = cc in omega arith)
+        ranged = both ∙ not-false t asked
 
         pub no-room : length out < seenBytes → Told (refusedFor Room) out
         no-room h = short ranged h
 
         pub listed : (s : Sight) (o : List ℕ) → seenBytes ≤ length out → s ≡ sightOf (seenIn g l offset link lies) → o ≡ lays out 0 (seenIn g l offset link lies .objects)
-            → Told (answer.Seen s) o
+            → Told (answer.Listed s) o
         listed s o h q r = inside s o ranged h q r
 
 -- ---- of a pair

@@ -1,8 +1,7 @@
 -- What each way through a turnout, and through `way_of`, shows, over plain variables.
 use Prim.Native.Nat.{ℕ}
-use mathlib.Core.Path.{_≡_, refl, sym, ap, _∙_}
+use mathlib.Core.Path.{_≡_, refl, ap}
 use mathlib.Core.List.{List}
-use lib.Dec.{eqb}
 use borrow.Author.Tests.{eq-eqb, ne-eqb}
 use Rattle.route_graph.specs.declared.PlainLinks.{PlainLinks}
 use Rattle.route_graph.specs.declared.TurnoutLinks.{TurnoutLinks}

@@ -3,26 +3,18 @@ use Prim.Native.Nat.{ℕ, zero, suc, _+_, _<_}
 use native.Mathlib.Numerals.{add-one}
 use native.Mathlib.Omega.{arith}
 use mathlib.Core.Path.{_≡_, refl, sym, ap, _∙_}
-use mathlib.Core.Bool.{Bool, true, false, _&&_}
+use mathlib.Core.Bool.{Bool, _&&_, and-true, and-assoc}
 use mathlib.Core.List.{List, [], _∷_}
 use lib.ListN.{length, take, getD}
 use lib.Dec.{leb}
 use Rattle.ahead.specs.Lies.{unknown, allLies}
 
-and-both : (a b c : Bool) → (a && (b && c)) ≡ ((a && b) && c)
-and-both true b c = refl
-and-both false b c = refl
-
-and-true-last : (b : Bool) → (b && true) ≡ b
-and-true-last true = refl
-and-true-last false = refl
-
 -- one more
 all-more : (lies : List ℕ) (i : ℕ) → i < length lies → allLies (take (suc i) lies) ≡ (allLies (take i lies) && leb (getD lies i 0) unknown)
 unfolding allLies
 all-more [] i h = absurd (omega arith)
-all-more (b ∷ lies) zero h = and-true-last (leb b unknown)
-all-more (b ∷ lies) (suc i) h = ap (λ (x : Bool). leb b unknown && x) (all-more lies i (omega arith)) ∙ and-both (leb b unknown) (allLies (take i lies)) (leb (getD lies i 0) unknown)
+all-more (b ∷ lies) zero h = and-true (leb b unknown)
+all-more (b ∷ lies) (suc i) h = ap (λ (x : Bool). leb b unknown && x) (all-more lies i (omega arith)) ∙ sym (and-assoc (leb b unknown) (allLies (take i lies)) (leb (getD lies i 0) unknown))
 
 pub looked-at : (lies : List ℕ) (i : ℕ) (right : Bool) → i < length lies → right ≡ allLies (take i lies) → (right && leb (getD lies i 0) unknown) ≡ allLies (take (i + 1) lies)
 looked-at lies i right h e = rw (add-one, e) (sym (all-more lies i h))

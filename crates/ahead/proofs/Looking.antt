@@ -17,7 +17,8 @@ use Rattle.ahead.specs.declared.Sight.{Sight}
 use Rattle.ahead.specs.declared.ways.Way.{Way}
 use Rattle.ahead.specs.declared.ways.Way.the-variants.{On, Stops}
 use Rattle.ahead.specs.Ways.{wayOf}
-use Rattle.ahead.specs.Seen.{objectsMost, Seen, ends, goesOn, aheadFrom, sightOf}
+use Rattle.ahead.specs.Ahead.{objectsMost}
+use Rattle.ahead.specs.Seen.{Seen, ends, goesOn, aheadFrom, sightOf}
 use Rattle.ahead.specs.inner.Followed.{Followed}
 
 -- ---- one step of the definition
@@ -100,6 +101,10 @@ module _ (v : ℕ → Object) (lies : List ℕ) (passed first : ℕ) (path : Lis
         goes-on x e = record { small = fewer; room = kept; is = sym (further ∙ rw e refl) ∙ g .is }
 
 -- ---- what was followed
+
+-- what is answered is what the list ends with
+pub ended-so : (s : Seen) (path : List ℕ) (q r : Sight) → r ≡ q → Followed s path q → Followed s path r
+ended-so s path q r e f = rw e f
 
 -- how many were listed, and why no more
 pub sight-is : (s : Seen) (path : List ℕ) (r : Sight) → Followed s path r → r ≡ sightOf s

@@ -6,15 +6,33 @@ use mathlib.Core.List.{List, [], _∷_, _++_, List·Memᴰ}
 use lib.ListN.{length}
 use Rattle.route_graph.specs.declared.Object.{Object}
 use Rattle.ahead.specs.declared.Stop.{Stop}
+use Rattle.ahead.specs.declared.Stop.the-variants as stop
 use Rattle.ahead.specs.declared.Stop.the-variants.{NoLink, Repeated, Full}
-use Rattle.ahead.specs.Seen.{objectsMost}
 use Rattle.ahead.specs.Ways.{LeadsOn, StopsAt}
 
+-- how many objects are listed at most, and how many bytes they then have
+-- 02: Ticket9.6
+abbrev pub objectsMost : ℕ
+objectsMost = 64
+
+-- 02: Ticket9.9
+abbrev pub seenBytes : ℕ
+seenBytes = 128
+
+-- the number of a stop, from 1 in the ticket's order
+-- 02: Ticket9.3
+abbrev pub stopNumber : Stop → ℕ
+stopNumber stop.Boundary = 1
+stopNumber stop.NoLink = 2
+stopNumber stop.UnknownLie = 3
+stopNumber stop.Repeated = 4
+stopNumber stop.AgainstLie = 5
+stopNumber stop.Full = 6
+
 -- By the link `to` of the object `from` these objects follow in the list, and then it stops for s; `listed` stand in it before them.
--- 02: Ticket9.1
+-- 02: Ticket9.2
 unfoldable pub Ahead : (ℕ → Object) → List ℕ → ℕ → List ℕ → ℕ → ℕ → List ℕ → Stop → Type 0
 -- None follows: the link is missing; it names an object that is listed already or was last passed; or it names a new one, and 64 are listed.
--- 02: Ticket9.2, Ticket9.5, Ticket9.6, Ticket9.7
 Ahead v lies passed listed from to [] s =
     ((to ≡ 0) × (s ≡ NoLink))
     ⊎ (((to ≡ 0 → ⊥) × List·Memᴰ to (passed ∷ listed) × (s ≡ Repeated))

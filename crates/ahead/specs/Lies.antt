@@ -6,13 +6,15 @@ use lib.ListN.{length, getD}
 use lib.Dec.{eqb, leb}
 
 -- the three lies
--- 02: Ticket9.1
+-- 02: Ticket9.2
 abbrev pub normal : ℕ
 normal = 0
 
+-- 02: Ticket9.2
 abbrev pub reverse : ℕ
 reverse = 1
 
+-- 02: Ticket9.2
 abbrev pub unknown : ℕ
 unknown = 2
 
@@ -21,7 +23,7 @@ abbrev pub lieCount : ℕ
 lieCount = 256
 
 -- the lie of the turnouts of a number: equal numbers share one
--- 02: Ticket9.9
+-- 02: Ticket9.8
 unfoldable pub lieOf : List ℕ → ℕ → ℕ
 lieOf lies number = getD lies number unknown
 
@@ -31,6 +33,6 @@ allLies [] = true
 allLies (b ∷ bs) = leb b unknown && allLies bs
 
 -- lies that may be asked with
--- 02: Ticket9.10
+-- 02: Ticket9.9
 unfoldable pub areLies : List ℕ → Bool
 areLies lies = eqb (length lies) lieCount && allLies lies

@@ -13,15 +13,6 @@ use Rattle.ahead.specs.declared.ways.Way.{Way}
 use Rattle.ahead.specs.declared.ways.Way.the-variants.{On, Stops}
 use Rattle.ahead.specs.Ways.{wayOf}
 
--- how many objects are listed at most, and how many bytes they then have
--- 02: Ticket9.7
-abbrev pub objectsMost : ℕ
-objectsMost = 64
-
--- 02: Ticket9.11
-abbrev pub seenBytes : ℕ
-seenBytes = 128
-
 -- the objects listed, and why no more
 pub record Seen : Type 0 where
   pub objects : List ℕ
@@ -31,11 +22,13 @@ abbrev pub ends : List ℕ → Stop → Seen
 ends listed s = record { objects = listed; stop = s }
 
 -- after an object that was listed last: on by a link, or no further
+-- 02: Ticket9.5
 abbrev pub goesOn : Way → (ℕ → Seen) → List ℕ → Seen
 goesOn (On x) more listed = more x
 goesOn (Stops s) more listed = ends listed s
 
 -- by the link `to` of the object `from`, where some are listed and k more may be
+-- 02: Ticket9.2
 unfoldable pub aheadFrom : (ℕ → Object) → List ℕ → ℕ → ℕ → List ℕ → ℕ → ℕ → Seen
 aheadFrom v lies passed zero listed from to =
     cond (eqb to 0) (ends listed stop.NoLink) (cond (has (passed ∷ listed) to) (ends listed stop.Repeated) (ends listed stop.Full))
@@ -47,12 +40,3 @@ aheadFrom v lies passed (suc k) listed from to =
 -- how many, and why no more
 abbrev pub sightOf : Seen → Sight
 sightOf s = record { objects = length (s .objects); stop = s .stop }
-
--- the number of a stop, from 1 in the ticket's order
-abbrev pub stopNumber : Stop → ℕ
-stopNumber stop.Boundary = 1
-stopNumber stop.NoLink = 2
-stopNumber stop.UnknownLie = 3
-stopNumber stop.Repeated = 4
-stopNumber stop.AgainstLie = 5
-stopNumber stop.Full = 6

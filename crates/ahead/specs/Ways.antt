@@ -19,6 +19,7 @@ use Rattle.ahead.specs.Lies.{normal, reverse, unknown, lieOf}
 -- ---- in the ticket's words
 
 -- the object, entered from `from`, is left by the link x
+-- 02: Ticket9.2
 unfoldable pub LeadsOn : Object → ℕ → List ℕ → ℕ → Type 0
 -- a boundary has nothing after it
 LeadsOn (Boundary link) from lies x = ⊥
@@ -26,7 +27,6 @@ LeadsOn (Boundary link) from lies x = ⊥
 LeadsOn (Plain p) from lies x = ((p .previous ≡ from) × (x ≡ p .next)) ⊎ ((p .next ≡ from) × (x ≡ p .previous))
 -- a turnout entered at the front is left as it lies; entered at a leg it is left by the front, unless it is known to lie for the other: a leg
 -- trailed with the lie unknown is passed
--- 02: Ticket9.3
 LeadsOn (Turnout t) from lies x =
     ((t .front ≡ from) × (((lieOf lies (t .number) ≡ normal) × (x ≡ t .normal)) ⊎ ((lieOf lies (t .number) ≡ reverse) × (x ≡ t .reverse))))
     ⊎ (((t .normal ≡ from) × (lieOf lies (t .number) ≡ reverse → ⊥) × (x ≡ t .front))
@@ -34,7 +34,7 @@ LeadsOn (Turnout t) from lies x =
 LeadsOn Nothing from lies x = ⊥
 
 -- the list stops at the object, entered from `from`, which stands last in it
--- 02: Ticket9.2, Ticket9.4
+-- 02: Ticket9.3
 unfoldable pub StopsAt : Object → ℕ → List ℕ → Stop → Type 0
 -- at a boundary
 StopsAt (Boundary link) from lies s = s ≡ stop.Boundary
@@ -52,12 +52,15 @@ StopsAt Nothing from lies s = ⊥
 unfoldable pub frontOf : TurnoutLinks → ℕ → Way
 frontOf t lie = cond (eqb lie normal) (On (t .normal)) (cond (eqb lie reverse) (On (t .reverse)) (Stops stop.UnknownLie))
 
+-- 02: Ticket9.4
 unfoldable pub trailOf : TurnoutLinks → ℕ → ℕ → Way
 trailOf t lie against = cond (eqb lie against) (Stops stop.AgainstLie) (On (t .front))
 
+-- through a turnout that was entered from `from`
 unfoldable pub legOf : TurnoutLinks → ℕ → ℕ → Way
 legOf t from lie = cond (eqb (t .front) from) (frontOf t lie) (cond (eqb (t .normal) from) (trailOf t lie reverse) (trailOf t lie normal))
 
+-- from an object that was entered from `from`; a place where none stands is never reached in an accepted file
 unfoldable pub wayOf : Object → ℕ → List ℕ → Way
 wayOf (Boundary link) from lies = Stops stop.Boundary
 wayOf (Plain p) from lies = On (onwardOf p from)

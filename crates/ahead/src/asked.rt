@@ -42,5 +42,5 @@ pub fn look(
     if out.len() < ROOM_LEAST {
         return refused(Reason::Room);
     }
-    AheadAnswer::Seen(list(g, l, lies, passed, o.link(link), out))
+    AheadAnswer::Listed(list(g, l, lies, passed, o.link(link), out))
 }

@@ -3,7 +3,7 @@
 ghost use mathlib.Core.Path.{_≡_};
 ghost use lib.ListN.{length};
 ghost use Rattle.verdict.specs.Answers.{answerNumber, answerPlace};
-ghost use Rattle.ahead.specs.Seen.{stopNumber};
+ghost use Rattle.ahead.specs.Ahead.{stopNumber};
 ghost use Rattle.ahead.specs.Asked.{aheadAnswer, aheadFile, pairFault, aheadAsked, leftAsked};
 use crate::asked::look;
 use pair::pair_verdict;
@@ -30,7 +30,7 @@ pub const REVERSE: u8 = 1;
 
 pub const UNKNOWN: u8 = 2;
 
-// How many bytes the objects may take: two each.
+// How many bytes are lent at least: two for each object that may be listed.
 pub const ROOM_LEAST: usize = 128;
 
 // Why a list stops, in the order in which the ticket says it.
@@ -57,7 +57,7 @@ pub struct Sight {
 
 // The answer.
 pub enum AheadAnswer {
-    Seen(Sight),
+    Listed(Sight),
     // the pair's own fault, with its file
     Faulty(File, Fault),
     // the question itself is refused
@@ -86,7 +86,7 @@ impl AheadAnswer {
         ensures { λ r. ⌜ r ≡ answerNumber (aheadAnswer self) ⌝ }
     {
         match self {
-            AheadAnswer::Seen(_) => 0,
+            AheadAnswer::Listed(_) => 0,
             AheadAnswer::Faulty(_, fault) => {
                 let reason = fault.reason;
                 reason.number()
@@ -103,7 +103,7 @@ impl AheadAnswer {
         ensures { λ r. ⌜ r ≡ answerPlace (aheadAnswer self) ⌝ }
     {
         match self {
-            AheadAnswer::Seen(_) => 0,
+            AheadAnswer::Listed(_) => 0,
             AheadAnswer::Faulty(_, fault) => fault.place,
             AheadAnswer::Refused(fault) => fault.place,
         }
@@ -114,7 +114,7 @@ impl AheadAnswer {
         ensures { λ r. ⌜ r ≡ aheadFile self ⌝ }
     {
         match self {
-            AheadAnswer::Seen(_) => 0,
+            AheadAnswer::Listed(_) => 0,
             AheadAnswer::Faulty(file, _) => file.number(),
             AheadAnswer::Refused(_) => 0,
         }

@@ -5,7 +5,8 @@ ghost use mathlib.Core.List.{[]};
 ghost use lib.ListN.{length};
 ghost use Rattle.route_graph.specs.Objects.{objectAt};
 ghost use Rattle.route_walks.specs.Lent.{wordSize, roomOf, lay, lays};
-ghost use Rattle.ahead.specs.Seen.{objectsMost, aheadFrom, seenBytes, sightOf};
+ghost use Rattle.ahead.specs.Ahead.{objectsMost, seenBytes};
+ghost use Rattle.ahead.specs.Seen.{aheadFrom, sightOf};
 ghost use Rattle.ahead.specs.inner.Followed.{Followed};
 use crate::OBJECTS_MOST;
 use crate::Sight;
@@ -13,12 +14,17 @@ use crate::Stop;
 use crate::ways::Way;
 use crate::ways::way_of;
 use route_graph::object_at;
+use route_walks::BYTE_VALUES;
 use route_walks::WORD_SIZE;
 use route_walks::stands_in;
 use x2_layout::Layout;
 
-// How many values a byte has.
-const BYTE_VALUES: u16 = 256;
+// A list of n objects that stops for a reason.
+fn ends(n: usize, stop: Stop) -> Sight
+    ensures { λ r. ⌜ r ≡ record { objects = n; stop = stop } ⌝ }
+{
+    Sight { objects: n, stop }
+}
 
 // Follows the links from the object that was last passed, by the link `first`, and puts each object that it lists in the path.
 fn follow(g: &[u8], l: Layout, lies: &[u8], passed: u16, first: u16, path: &mut [u16]) -> Sight
@@ -30,32 +36,20 @@ fn follow(g: &[u8], l: Layout, lies: &[u8], passed: u16, first: u16, path: &mut 
     let mut to = first;
     loop {
         if to == 0 {
-            return Sight {
-                objects: n,
-                stop: Stop::NoLink,
-            };
+            return ends(n, Stop::NoLink);
         }
         if (passed == to) | stands_in(&path[..n], to) {
-            return Sight {
-                objects: n,
-                stop: Stop::Repeated,
-            };
+            return ends(n, Stop::Repeated);
         }
         if n == OBJECTS_MOST {
-            return Sight {
-                objects: n,
-                stop: Stop::Full,
-            };
+            return ends(n, Stop::Full);
         }
         path[n] = to;
         n += 1;
         let way = way_of(object_at(g, l, to), from, lies);
         match way {
             Way::Stops(stop) => {
-                return Sight {
-                    objects: n,
-                    stop: stop,
-                };
+                return ends(n, stop);
             }
             Way::On(next) => {
                 from = to;

@@ -82,7 +82,7 @@ fn through(t: TurnoutLinks, from: u16, lie: u8) -> Way
     at_leg(t, lie, NORMAL)
 }
 
-// How the list goes on from an object that was entered from `from`.
+// How the list goes on from an object that was entered from `from`. A place where none stands is never reached in an accepted file.
 pub fn way_of(o: Object, from: u16, lies: &[u8]) -> Way
     ensures { λ r. ⌜ r ≡ wayOf o from (now (lies .entry)) ⌝ }
 {

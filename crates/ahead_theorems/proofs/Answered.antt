@@ -1,25 +1,22 @@
 -- THEOREMS: what is answered, for every input: the pair's own fault, or what the question's own checks say; and what an answer is that is not refused.
-use Prim.Native.Nat.{ℕ, _+_, _*_, _≤_, _<_}
+use Prim.Native.Nat.{ℕ, _+_, _*_, _≤_}
 use native.Mathlib.Omega.{arith}
 use mathlib.Core.Path.{_≡_, refl, sym, ap, subst, _∙_}
 use mathlib.Core.Bool.{Bool, true, false, true≢false}
-use mathlib.Core.Logic.{_⊎_, inl, inr, _↔_}
-use mathlib.Core.List.{List, [], _∷_, _++_, List·Memᴰ}
-use lib.IntN.{pos}
-use lib.ListN.{length, getD, drop, length-append, length-drop}
+use mathlib.Core.Logic.{_↔_}
+use mathlib.Core.List.{List, [], _∷_, _++_}
+use lib.ListN.{length, drop, length-append, length-drop}
 use lib.Seq.{drop-at}
 use lib.Dec.{ltb}
 use borrow.Author.Tests.{ltb-true, ltb-false}
-use Rattle.octets.specs.Octets.{numAt}
-use Rattle.verdict.specs.declared.Fault.{Fault}
 use Rattle.verdict.specs.declared.File.{File}
 use Rattle.verdict.specs.declared.File.the-variants.{First, Second}
 use Rattle.verdict.specs.declared.Reason.the-variants as reason
 use Rattle.verdict.specs.declared.Verdict.the-variants as verdict
 use Rattle.verdict.specs.declared.PairVerdict.{PairVerdict}
 use Rattle.verdict.specs.declared.PairVerdict.the-variants as pair
-use Rattle.verdict.specs.Reasons.{shownOf, fileOf, numberOf, pairNumberIn, pairPlaceIn, pairFileIn}
-use Rattle.verdict.specs.Answers.{Answer, answered, refused, answerNumber, answerPlace, refusal}
+use Rattle.verdict.specs.Reasons.{shownOf, fileOf, pairNumberIn, pairPlaceIn, pairFileIn}
+use Rattle.verdict.specs.Answers.{refused, answerNumber, answerPlace, refusal}
 use Rattle.verdict.specs.Order.{Check, check, Answered}
 use Rattle.verdict.proofs.Questions.{AnswerIs, all-passed, passed, failed, some-number}
 use Rattle.x2_layout.specs.Layout.{layoutOf}
@@ -28,7 +25,6 @@ use Rattle.x2_verdict.specs.Facts as application
 use Rattle.x2_verdict.proofs.Obeys.{accepted-obeys}
 use Rattle.pair.specs.Pair.{pairOf}
 use Rattle.pair_theorems.specs.Obeys.{PairObeys}
-use Rattle.pair_theorems.specs.Faults.{PairAnswered, accepted, of-first, of-second, of-pair}
 use Rattle.pair_theorems.proofs.Obeys.{pair-accepted}
 use Rattle.pair_theorems.proofs.Whole.{pair-is}
 use Rattle.route_graph.specs.Objects.{objectAt, linksOf}
@@ -40,8 +36,8 @@ use Rattle.ahead.specs.declared.Sight.{Sight}
 use Rattle.ahead.specs.declared.Stop.{Stop}
 use Rattle.ahead.specs.declared.AheadAnswer.{AheadAnswer}
 use Rattle.ahead.specs.declared.AheadAnswer.the-variants as answer
-use Rattle.ahead.specs.Lies.{areLies}
-use Rattle.ahead.specs.Seen.{objectsMost, seenBytes, Seen, aheadFrom, sightOf}
+use Rattle.ahead.specs.Ahead.{seenBytes}
+use Rattle.ahead.specs.Seen.{Seen, sightOf}
 use Rattle.ahead.specs.Asked.{inRange, seenIn, judged, answerIn, leaves, afterPair, aheadAsked, leftAsked, aheadAnswer, aheadFile}
 use Rattle.ahead.proofs.Answering.{list-few}
 use Rattle.ahead_theorems.specs.Asked as asked
@@ -68,7 +64,7 @@ module _ (g : List ℕ) (e : application.verdictOf g ≡ verdict.Accepted) (offs
       (failed (128 ≤ room) [] reason.Room 2 (λ h. omega arith))
   own true false p q =
       let enough = ltb-false room seenBytes q in
-      let seen = aheadAnswer (answer.Seen (sightOf (seenIn g (layoutOf g) offset link lies))) in
+      let seen = aheadAnswer (answer.Listed (sightOf (seenIn g (layoutOf g) offset link lies))) in
       passed (InRange g offset link lies) last 13 seen ((range-iff g e offset link lies) .0 p) (λ z. omega arith)
       (passed (128 ≤ room) [] 15 seen (omega arith) (λ z. omega arith) (all-passed _))
 
@@ -139,7 +135,7 @@ record Told (v : PairVerdict) (r s : Bool) (x : Seen) (u : Sight) : Type 0 where
   pub enough : s ≡ false
   pub same : sightOf x ≡ u
 
-told-by : (v : PairVerdict) (r s : Bool) (x : Seen) (u : Sight) → afterPair v (judged r s x) ≡ answer.Seen u → Told v r s x u
+told-by : (v : PairVerdict) (r s : Bool) (x : Seen) (u : Sight) → afterPair v (judged r s x) ≡ answer.Listed u → Told v r s x u
 unfolding judged
 told-by (pair.Refused d t) r s x u e = let z = ap aheadFile e in absurd (some-file d z)
 told-by pair.Accepted false s x u e = let z : _≡_ {A = ℕ} 13 0 = ap answerNumber (ap aheadAnswer e) in absurd (omega arith)
@@ -151,7 +147,7 @@ front-whole : (xs out : List ℕ) → wordSize * length xs ≤ length out → le
 front-whole xs out h = omega (arith, length-append (octetsOf xs) (drop (wordSize * length xs) out), length-drop (wordSize * length xs) out, octets-length xs)
 
 module _ (f g : List ℕ) (offset link : ℕ) (lies : List ℕ) where
-  module _ (s : Sight) (room : ℕ) (e : aheadAsked f g offset link lies room ≡ answer.Seen s) where
+  module _ (s : Sight) (room : ℕ) (e : aheadAsked f g offset link lies room ≡ answer.Listed s) where
     told : Told (pairOf f g) (inRange g (layoutOf g) offset link lies) (ltb room seenBytes) (seenIn g (layoutOf g) offset link lies) s
     unfolding aheadAsked answerIn
     told = told-by (pairOf f g) _ _ _ s e
@@ -186,7 +182,7 @@ module _ (f g : List ℕ) (offset link : ℕ) (lies : List ℕ) where
 
   module _ (out : List ℕ) where
     -- THEOREM: what is answered is the list that lies ahead, in the bytes lent, and nothing else is changed
-    pub listed : (s : Sight) → aheadAsked f g offset link lies (length out) ≡ answer.Seen s → Listed g offset link lies s out (leftAsked f g offset link lies out)
+    pub listed : (s : Sight) → aheadAsked f g offset link lies (length out) ≡ answer.Listed s → Listed g offset link lies s out (leftAsked f g offset link lies out)
     unfolding leftAsked
     listed s e =
         let t = told s (length out) e in
@@ -211,6 +207,6 @@ module _ (f g : List ℕ) (offset link : ℕ) (lies : List ℕ) where
     refused-keeps n = keeps (aheadAsked f g offset link lies (length out)) n
       where
         keeps : (a : AheadAnswer) → (answerNumber (aheadAnswer a) ≡ 0 → ⊥) → leaves a (seenIn g (layoutOf g) offset link lies .objects) out ≡ out
-        keeps (answer.Seen s) n = absurd (n refl)
+        keeps (answer.Listed s) n = absurd (n refl)
         keeps (answer.Faulty d t) n = refl
         keeps (answer.Refused t) n = refl

@@ -6,7 +6,6 @@ use mathlib.Core.Path.{_≡_, refl, sym, subst}
 use mathlib.Core.Bool.{true, true≢false}
 use mathlib.Core.Logic.{_⊎_, inl, inr, _↔_}
 use mathlib.Core.List.{List, [], _∷_, _++_, append-assoc, concat-ne-nil, List·Memᴰ, List·Memᴰ·head, List·Memᴰ·eq-of-singleton}
-use lib.ListN.{length}
 use Rattle.route_graph.specs.declared.Object.{Object}
 use Rattle.route_graph.specs.declared.Object.the-variants.{Boundary, Plain, Turnout, Nothing}
 use Rattle.route_graph.specs.Objects.{linksOf, isBoundary}

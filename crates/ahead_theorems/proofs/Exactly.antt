@@ -3,59 +3,30 @@
 use Prim.Native.Nat.{ℕ, zero, suc, _+_}
 use native.Mathlib.Omega.{arith}
 use mathlib.Core.Path.{_≡_, refl, sym, ap, subst₂, _∙_}
-use mathlib.Core.Bool.{Bool, true, false, true≢false, _||_}
-use mathlib.Core.Logic.{inl, inr, ⊎-elim, _↔_}
+use mathlib.Core.Bool.{Bool, true, false}
+use mathlib.Core.Logic.{inl, inr, _↔_}
 use mathlib.Core.List.{List, [], _∷_, _++_, append-nil, append-assoc, append-cancel-left}
-use mathlib.Core.List.{List·Memᴰ, List·Memᴰ·head, List·Memᴰ·tail, List·Memᴰ·not-nil, List·Memᴰ·cases-cons, Memᴰ·cast}
+use mathlib.Core.List.{List·Memᴰ, Memᴰ·cast}
 use lib.ListN.{length, length-append}
 use lib.Dec.{eqb}
-use borrow.Author.Tests.{eqb-true, eqb-false, eq-eqb}
+use borrow.Author.Tests.{eqb-true, eqb-false}
 use Rattle.route_graph.specs.declared.Object.{Object}
 use Rattle.route_graph.specs.Objects.{linksOf}
 use Rattle.route_graph.specs.Links.{Joined}
 use Rattle.route_graph.proofs.Ways.{left-link}
 use Rattle.route_walks.specs.Walks.{has}
 use Rattle.route_walks.proofs.Legal.{enters}
+use Rattle.route_walks.proofs.Paths.{mem-has, has-mem, not-has, has-not}
 use Rattle.ahead.specs.declared.Stop.{Stop}
 use Rattle.ahead.specs.declared.Stop.the-variants as stop
 use Rattle.ahead.specs.declared.ways.Way.{Way}
 use Rattle.ahead.specs.declared.ways.Way.the-variants.{On, Stops}
 use Rattle.ahead.specs.Lies.{areLies}
 use Rattle.ahead.specs.Ways.{LeadsOn, StopsAt, wayOf}
-use Rattle.ahead.specs.Ahead.{Ahead}
-use Rattle.ahead.specs.Seen.{objectsMost, Seen, ends, aheadFrom}
+use Rattle.ahead.specs.Ahead.{objectsMost, Ahead}
+use Rattle.ahead.specs.Seen.{Seen, ends, aheadFrom}
 use Rattle.ahead.proofs.Looking.{from-none, from-again, from-full, from-more}
 use Rattle.ahead_theorems.proofs.Leads.{leads-iff, stops-iff, leads-left}
-
--- ---- standing in a list, tested and stated
-
-pub mem-has : (l : List ℕ) (x : ℕ) → List·Memᴰ x l → has l x ≡ true
-unfolding has
-mem-has [] x m = absurd (List·Memᴰ·not-nil m)
-mem-has (y ∷ ys) x m = ⊎-elim (λ e. rw (eq-eqb y x (sym e)) refl) (λ h. rw (mem-has ys x h) (or-true (eqb y x))) (List·Memᴰ·cases-cons m)
-  where
-    or-true : (b : Bool) → (b || true) ≡ true
-    or-true true = refl
-    or-true false = refl
-
-pub has-mem : (l : List ℕ) (x : ℕ) → has l x ≡ true → List·Memᴰ x l
-unfolding has
-has-mem [] x e = absurd (true≢false (sym e))
-has-mem (y ∷ ys) x e = go (eqb y x) refl e (λ h. has-mem ys x h)
-  where
-    go : (b : Bool) → eqb y x ≡ b → (b || has ys x) ≡ true → (has ys x ≡ true → List·Memᴰ x ys) → List·Memᴰ x (y ∷ ys)
-    go true q h rec = List·Memᴰ·head (sym (eqb-true y x q))
-    go false q h rec = List·Memᴰ·tail (rec h)
-
-pub not-has : (l : List ℕ) (x : ℕ) → (¬ List·Memᴰ x l) → has l x ≡ false
-not-has l x n = go (has l x) refl
-  where
-    go : (b : Bool) → has l x ≡ b → b ≡ false
-    go true e = absurd (n (has-mem l x e))
-    go false e = refl
-
-pub has-not : (l : List ℕ) (x : ℕ) → has l x ≡ false → ¬ List·Memᴰ x l
-has-not l x e m = true≢false (sym (mem-has l x m) ∙ e)
 
 -- ---- the list
 

@@ -32,7 +32,7 @@ lie-small [] n a = omega arith
 lie-small (b ∷ bs) zero a = leb-true b unknown (and-true (leb b unknown) (allLies bs) a .0)
 lie-small (b ∷ bs) (suc n) a = lie-small bs n (and-true (leb b unknown) (allLies bs) a .1)
 
-three : (x : ℕ) → x ≤ unknown → (x ≡ normal) ⊎ ((x ≡ reverse) ⊎ (x ≡ unknown))
+pub three : (x : ℕ) → x ≤ unknown → (x ≡ normal) ⊎ ((x ≡ reverse) ⊎ (x ≡ unknown))
 three zero h = inl refl
 three (suc zero) h = inr (inl refl)
 three (suc (suc n)) h = inr (inr (omega arith))

@@ -12,14 +12,12 @@ use Rattle.route_graph.specs.declared.Object.{Object}
 use Rattle.route_graph.specs.declared.Object.the-variants.{Boundary, Plain, Turnout, Nothing}
 use Rattle.route_graph.specs.Objects.{isBoundary, edgeLink}
 use Rattle.route_walks.specs.Legal.{Follows, FromStart, NoneTwice, lastObject, Walk, Route}
-use Rattle.route_walks.proofs.Paths.{Fresh, fresh-distinct}
+use Rattle.route_walks.proofs.Paths.{not-has, has-not, Fresh, fresh-distinct}
 use Rattle.ahead.specs.declared.Stop.{Stop}
 use Rattle.ahead.specs.declared.Stop.the-variants as stop
 use Rattle.ahead.specs.Ways.{StopsAt}
-use Rattle.ahead.specs.Ahead.{Ahead}
-use Rattle.ahead.specs.Seen.{objectsMost, stopNumber}
+use Rattle.ahead.specs.Ahead.{objectsMost, stopNumber, Ahead}
 use Rattle.ahead_theorems.proofs.Leads.{leads-left}
-use Rattle.ahead_theorems.proofs.Exactly.{not-has, has-not}
 
 -- ---- from any link on
 

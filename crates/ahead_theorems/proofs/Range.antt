@@ -1,21 +1,18 @@
 -- The question's own test is what the ticket's words say: an object that a link may name starts there, it has the link, and the lies are lies.
 use Prim.Native.Nat.{ℕ, zero, suc, _≤_, _<_}
 use native.Mathlib.Omega.{arith}
-use mathlib.Core.Path.{_≡_, refl, sym, _∙_}
-use mathlib.Core.Bool.{Bool, true, false, _&&_}
+use mathlib.Core.Path.{_≡_, refl}
+use mathlib.Core.Bool.{true, _&&_}
 use mathlib.Core.Logic.{_⊎_, inl, inr, _↔_}
 use mathlib.Core.List.{List, [], _∷_, List·Memᴰ, List·Memᴰ·head, List·Memᴰ·tail}
 use lib.ListN.{length, getD}
 use lib.Dec.{eqb, leb, ltb}
 use borrow.Author.Tests.{eqb-true, eq-eqb, leb-true, le-leb, ltb-true, lt-ltb}
-use Rattle.envelope.specs.Seal.{numberMost}
 use Rattle.verdict.specs.declared.Verdict.the-variants.{Accepted}
-use Rattle.verdict.specs.Facts.{Holds}
 use Rattle.verdict.proofs.Orders.{and-true}
-use Rattle.x2_layout.specs.declared.Layout.{Layout}
 use Rattle.x2_layout.specs.Layout.{layoutOf}
 use Rattle.x2_layout.proofs.Starts.{start-below}
-use Rattle.x2_links.specs.Links.{isTarget, mayName}
+use Rattle.x2_links.specs.Links.{mayName}
 use Rattle.x2_links.proofs.Seeking.{may-name}
 use Rattle.x2_obeys.specs.Links.{Target}
 use Rattle.x2_obeys.proofs.Links.{target-iff}
@@ -25,17 +22,13 @@ use Rattle.route_theorems.proofs.Listed.{whole, small}
 use Rattle.ahead.specs.Lies.{unknown, lieCount, allLies, areLies}
 use Rattle.ahead.specs.Asked.{inRange}
 use Rattle.ahead_theorems.specs.Asked.{InRange}
+use Rattle.ahead_theorems.proofs.Leads.{three}
 
 -- ---- the lies
 
 -- one of the three
 abbrev Lie : ℕ → Type 0
 Lie b = (b ≡ 0) ⊎ ((b ≡ 1) ⊎ (b ≡ 2))
-
-lie-of : (b : ℕ) → b ≤ unknown → Lie b
-lie-of zero h = inl refl
-lie-of (suc zero) h = inr (inl refl)
-lie-of (suc (suc b)) h = inr (inr (omega arith))
 
 of-lie : (b : ℕ) → Lie b → b ≤ unknown
 of-lie b (inl e) = omega arith
@@ -45,7 +38,7 @@ of-lie b (inr (inr e)) = omega arith
 all-there : (lies : List ℕ) → allLies lies ≡ true → (i : ℕ) → i < length lies → Lie (getD lies i 0)
 unfolding allLies
 all-there [] e i h = absurd (omega arith)
-all-there (b ∷ bs) e zero h = lie-of b (leb-true b unknown (and-true (leb b unknown) (allLies bs) e .0))
+all-there (b ∷ bs) e zero h = three b (leb-true b unknown (and-true (leb b unknown) (allLies bs) e .0))
 all-there (b ∷ bs) e (suc i) h = all-there bs (and-true (leb b unknown) (allLies bs) e .1) i (omega arith)
 
 all-back : (lies : List ℕ) → ((i : ℕ) → i < length lies → Lie (getD lies i 0)) → allLies lies ≡ true

@@ -3,11 +3,10 @@ use Prim.Native.Nat.{ℕ}
 use mathlib.Core.Path.{_≡_, refl}
 use mathlib.Core.Logic.{⊎-elim}
 use mathlib.Core.List.{List, _∷_}
-use lib.ListN.{getD}
 use Rattle.x2_records.specs.declared.Kind.the-variants.{StartBoundary, EndBoundary}
 use Rattle.x2_layout.specs.Layout.{layoutOf}
 use Rattle.x2_layout.specs.Records.{kindAt}
-use Rattle.route_graph.specs.Objects.{viewAt, objectAt, linksOf, edgeLink}
+use Rattle.route_graph.specs.Objects.{viewAt, objectAt, edgeLink}
 use Rattle.route_walks.specs.Legal.{Walk, Route}
 use Rattle.route_theorems.specs.Asked.{BoundaryHere}
 use Rattle.ahead.specs.declared.Stop.{Stop}

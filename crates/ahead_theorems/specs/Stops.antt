@@ -13,9 +13,9 @@ use Rattle.ahead.specs.declared.Stop.{Stop}
 use Rattle.ahead.specs.declared.Stop.the-variants as stop
 use Rattle.ahead.specs.Lies.{normal, reverse, unknown, lieOf}
 use Rattle.ahead.specs.Ways.{LeadsOn}
-use Rattle.ahead.specs.Seen.{objectsMost}
+use Rattle.ahead.specs.Ahead.{objectsMost}
 
--- 02: Ticket9.2
+-- 02: Ticket9.3
 unfoldable pub EndsFor : Object → ℕ → List ℕ → ℕ → List ℕ → Stop → Type 0
 -- it is a boundary
 EndsFor o from lies passed objects stop.Boundary = isBoundary o ≡ true
@@ -30,6 +30,5 @@ EndsFor o from lies passed objects stop.AgainstLie =
     (t : TurnoutLinks) × (o ≡ Turnout t)
     × (((t .normal ≡ from) × (lieOf lies (t .number) ≡ reverse)) ⊎ ((t .reverse ≡ from) × (lieOf lies (t .number) ≡ normal)))
 -- it is the sixty-fourth, and is left to a new one
--- 02: Ticket9.7
 EndsFor o from lies passed objects stop.Full =
     (y : ℕ) × LeadsOn o from lies y × (y ≡ 0 → ⊥) × (List·Memᴰ y (passed ∷ objects) → ⊥) × (length objects ≡ objectsMost)

@@ -50,7 +50,7 @@ fn sight_lines(s: Sight, lent: &[u8]) {
 fn answer_lines(answer: AheadAnswer, lent: &[u8]) {
     pair_head(answer.number(), answer.place(), answer.file());
     match answer {
-        AheadAnswer::Seen(s) => sight_lines(s, lent),
+        AheadAnswer::Listed(s) => sight_lines(s, lent),
         AheadAnswer::Faulty(_, _) => {}
         AheadAnswer::Refused(_) => {}
     }

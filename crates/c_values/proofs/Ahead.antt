@@ -6,7 +6,7 @@ use Rattle.verdict.specs.Answers.{answerNumber, answerPlace}
 use Rattle.ahead.specs.declared.AheadAnswer.{AheadAnswer}
 use Rattle.ahead.specs.Asked.{aheadAnswer, aheadFile}
 use Rattle.c_values.specs.Words.{overByte, overWord, answerWord, numberPart, filePart, placePart}
-use Rattle.c_values.specs.Ahead.{overSix, overSeven, stopOf, objectsOf, aheadShown, stopPart, objectsPart}
+use Rattle.c_values.specs.Ahead.{overSix, overSeven, stopOf, countOf, aheadShown, stopPart, objectsPart}
 
 -- ---- the sum
 
@@ -18,7 +18,7 @@ six-bytes low number file place e = omega arith
 -- as the code adds it up
 pub shown-sum :
     (a : AheadAnswer) (low number file place stop objects : ℕ) → low ≡ answerWord number file place → number ≡ answerNumber (aheadAnswer a)
-    → file ≡ aheadFile a → place ≡ answerPlace (aheadAnswer a) → stop ≡ stopOf a → objects ≡ objectsOf a
+    → file ≡ aheadFile a → place ≡ answerPlace (aheadAnswer a) → stop ≡ stopOf a → objects ≡ countOf a
     → low + (overSix * (stop % overByte) + overSeven * (objects % overByte)) ≡ aheadShown a
 unfolding aheadShown
 shown-sum a low number file place stop objects l n f p s o = rw (l, n, f, p, s, o) (omega arith)
@@ -27,10 +27,10 @@ shown-sum a low number file place stop objects l n f p s o = rw (l, n, f, p, s, 
 
 module _
     (a : AheadAnswer) (n : answerNumber (aheadAnswer a) < overByte) (f : aheadFile a < overByte) (p : answerPlace (aheadAnswer a) < overWord)
-    (s : stopOf a < overByte) (o : objectsOf a < overByte) where
+    (s : stopOf a < overByte) (o : countOf a < overByte) where
   whole :
       aheadShown a
-      ≡ answerNumber (aheadAnswer a) + 256 * aheadFile a + 65536 * answerPlace (aheadAnswer a) + overSix * stopOf a + overSeven * objectsOf a
+      ≡ answerNumber (aheadAnswer a) + 256 * aheadFile a + 65536 * answerPlace (aheadAnswer a) + overSix * stopOf a + overSeven * countOf a
   unfolding aheadShown answerWord
   whole = omega arith
 
@@ -46,5 +46,5 @@ module _
   pub stop-back : stopPart (aheadShown a) ≡ stopOf a
   stop-back = rw whole (omega arith)
 
-  pub objects-back : objectsPart (aheadShown a) ≡ objectsOf a
+  pub objects-back : objectsPart (aheadShown a) ≡ countOf a
   objects-back = rw whole (omega arith)

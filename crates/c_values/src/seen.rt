@@ -1,7 +1,7 @@
 // What lies ahead, as the one number that is returned: why the list stops and how many objects it has stand above the answer's number, its file and
 // its place.
 ghost use mathlib.Core.Path.{_≡_};
-ghost use Rattle.c_values.specs.Ahead.{stopOf, objectsOf, aheadShown};
+ghost use Rattle.c_values.specs.Ahead.{stopOf, countOf, aheadShown};
 use crate::words::OVER_BYTE;
 use crate::words::answer;
 use ahead::AheadAnswer;
@@ -16,7 +16,7 @@ fn stop_of(a: AheadAnswer) -> usize
     ensures { λ r. ⌜ r ≡ stopOf a ⌝ }
 {
     match a {
-        AheadAnswer::Seen(sight) => {
+        AheadAnswer::Listed(sight) => {
             let stop = sight.stop;
             stop.number()
         }
@@ -26,11 +26,11 @@ fn stop_of(a: AheadAnswer) -> usize
 }
 
 // How many objects are listed: 0 in a refusal.
-fn objects_of(a: AheadAnswer) -> usize
-    ensures { λ r. ⌜ r ≡ objectsOf a ⌝ }
+fn count_of(a: AheadAnswer) -> usize
+    ensures { λ r. ⌜ r ≡ countOf a ⌝ }
 {
     match a {
-        AheadAnswer::Seen(sight) => sight.objects,
+        AheadAnswer::Listed(sight) => sight.objects,
         AheadAnswer::Faulty(_, _) => 0,
         AheadAnswer::Refused(_) => 0,
     }
@@ -42,6 +42,6 @@ pub fn ahead_answer(a: AheadAnswer) -> u64
 {
     let low = answer(a.number(), a.file(), a.place());
     let stop = stop_of(a) % OVER_BYTE;
-    let objects = objects_of(a) % OVER_BYTE;
+    let objects = count_of(a) % OVER_BYTE;
     low + (OVER_SIX * stop + OVER_SEVEN * objects) as u64
 }

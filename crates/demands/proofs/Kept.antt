@@ -33,7 +33,7 @@ use Rattle.route_backwards.proofs.Backwards.{routes-back, listed-iff, lists-bac
 use Rattle.route_backwards.proofs.Engines.{calls-back}
 use Rattle.ahead_theorems.specs.Asked.{objectsOf, linkOf}
 use Rattle.ahead_theorems.proofs.Answered as ahead
-use Rattle.ahead_theorems.proofs.Legal.{ahead-few, ahead-once, walk-goes-on}
+use Rattle.ahead_theorems.proofs.Legal.{ahead-few, ahead-once, ahead-steps, walk-goes-on}
 use Rattle.ahead_theorems.proofs.Ends.{none-ahead}
 use Rattle.ahead_theorems.proofs.Ways.{from-boundary, route-ahead}
 use Rattle.export_theorems.proofs.Ahead.{ahead-back}
@@ -138,7 +138,8 @@ looks-ahead = record {
   stops-at-once = λ g offset link lies s. none-ahead (objectsOf g) lies offset (linkOf g offset link) s;
   few = λ g offset link lies objects s h. ahead-few (objectsOf g) lies offset (linkOf g offset link) objects s h;
   once = λ g offset link lies objects s h. ahead-once (objectsOf g) lies offset (linkOf g offset link) objects s h;
-  legal = λ g offset link lies start limit w b objects s h k d l. walk-goes-on (objectsOf g) lies offset (linkOf g offset link) start limit w b objects s h k d l;
+  steps = λ g offset link lies b objects s h. ahead-steps (objectsOf g) lies offset (linkOf g offset link) b objects s h;
+  walk-goes-on = λ g offset link lies start limit w b objects s h k d l. walk-goes-on (objectsOf g) lies offset (linkOf g offset link) start limit w b objects s h k d l;
   from-boundary = from-boundary;
   route-ahead = route-ahead;
   returned = λ f g offset link lies room. ahead-back f g offset link lies room;

@@ -1,11 +1,10 @@
--- The three promises, each in its own words and then as what it needs, and what is promised above the reader. f is the bytes of an X.1 or X.2, and g those of the X.2 of a pair:
--- any bytes, since no caller vets input. `Answered checks n p` reads: in the order of 01's table the first check that is not passed has
--- the number n, and p is the place where 01 has it reported; 0 and 0 where all are passed. `Reported` says the same where a number stands
--- twice in the table, as 1 does in X.1's. `Asked` puts a file's own fault before the question's own checks.
+-- The three promises, each in its own words and then as what it needs; and what is promised above the reader. f is the bytes of an X.1 or X.2,
+-- and g those of the X.2 of a pair: any bytes, since no caller vets input. `Answered checks n p` reads: in the order of 01's table the first check
+-- that is not passed has the number n, and p is the place where 01 has it reported; 0 and 0 where all are passed. `Reported` says the same where a
+-- number stands twice in the table, as 1 does in X.1's. `Asked` puts a file's own fault before the question's own checks.
 use Prim.Native.Nat.{ℕ, _≤_, _<_}
 use mathlib.Core.Path.{_≡_}
-use mathlib.Core.Logic.{_↔_}
-use mathlib.Core.Logic.{_⊎_}
+use mathlib.Core.Logic.{_⊎_, _↔_}
 use mathlib.Core.List.{List, [], _∷_, _++_, reverse, List·Memᴰ}
 use lib.Dec.{T}
 use lib.IntN.{ℤ, pos, natAbs, _*ℤ_}
@@ -62,7 +61,7 @@ use Rattle.route_graph.specs.Objects.{objectAt}
 use Rattle.route_graph.specs.Read.{objectOf}
 use Rattle.route_walks.specs.declared.Tally.{Tally}
 use Rattle.route_walks.specs.Lent.{roomOf}
-use Rattle.route_walks.specs.Legal.{NoneTwice, lastObject, Walk, Route}
+use Rattle.route_walks.specs.Legal.{Follows, NoneTwice, lastObject, Walk, Route}
 use Rattle.route_walks.specs.All.{AllRoutes}
 use Rattle.route_lister.specs.declared.RoutesAnswer.the-variants as routes
 use Rattle.route_lister.specs.Answered.{limitOf, routesAnswer}
@@ -77,8 +76,7 @@ use Rattle.ahead.specs.declared.Stop.{Stop}
 use Rattle.ahead.specs.declared.Stop.the-variants as stop
 use Rattle.ahead.specs.declared.Sight.{Sight}
 use Rattle.ahead.specs.declared.AheadAnswer.the-variants as ahead
-use Rattle.ahead.specs.Asked.{aheadAnswer, aheadFile, aheadAsked}
-use Rattle.ahead.specs.Asked.{leftAsked as leftAhead}
+use Rattle.ahead.specs.Asked.{aheadAnswer, aheadFile, aheadAsked, leftAsked as leftAhead}
 use Rattle.ahead_theorems.specs.Stops.{EndsFor}
 use Rattle.ahead_theorems.specs.Asked.{InRange, AheadAnswered, objectsOf, linkOf, LiesAhead, Listed}
 use Rattle.c_values.specs.Shown.{leaves}
@@ -147,7 +145,7 @@ pub record Returns : Type 0 where
   pub record-asked : Determined 2 record-kinds.ps record-kinds.r record-reads.Pre record-reads.Post
   pub list : Determined 3 routes-kinds.ps routes-kinds.r routes-reads.Pre routes-reads.Post
   pub list-flat : Determined 3 routes-flat-kinds.ps routes-flat-kinds.r routes-flat-reads.Pre routes-flat-reads.Post
-  -- 02: Ticket9.7
+  -- 01: Form.4
   pub look-ahead : Determined 4 ahead-kinds.ps ahead-kinds.r ahead-reads.Pre ahead-reads.Post
   -- an output after a refusal, the words lent to a listing after one, and the bytes lent for the objects ahead
   -- 01: Ask.6
@@ -311,7 +309,7 @@ pub record LooksAhead : Type 0 where
       ↔ AheadAnswered f g offset link lies room d n p
   -- what an answer is: the list that lies ahead, with its stop, in the memory lent, and nothing else changed
   -- 02: Ticket9.2
-  pub listed : (f g : List ℕ) (offset link : ℕ) (lies out : List ℕ) (s : Sight) → aheadAsked f g offset link lies (length out) ≡ ahead.Seen s
+  pub listed : (f g : List ℕ) (offset link : ℕ) (lies out : List ℕ) (s : Sight) → aheadAsked f g offset link lies (length out) ≡ ahead.Listed s
       → Listed g offset link lies s out (leftAhead f g offset link lies out)
   -- there is no second such list
   -- 02: Ticket9.2
@@ -332,14 +330,19 @@ pub record LooksAhead : Type 0 where
   -- no object is listed twice, and the one last passed is not listed
   -- 02: Ticket9.5
   pub once : (g : List ℕ) (offset link : ℕ) (lies objects : List ℕ) (s : Stop) → LiesAhead g offset link lies objects s → NoneTwice (offset ∷ objects)
-  -- it is a legal way, as 01 has it for routes: a partial walk that goes from the object last passed to the first one listed goes on over all of
-  -- them, up to its limit and while none stands twice
+  -- it is a legal way, as 01 has it for routes: the link asked with names the first object, and each object after it is one by which the object before
+  -- is left
   -- 02: Ticket9.2
-  pub legal : (g : List ℕ) (offset link : ℕ) (lies : List ℕ) (start limit : ℕ) (w : List ℕ) (b : ℕ) (objects : List ℕ) (s : Stop)
+  pub steps : (g : List ℕ) (offset link : ℕ) (lies : List ℕ) (b : ℕ) (objects : List ℕ) (s : Stop) → LiesAhead g offset link lies (b ∷ objects) s
+      → (b ≡ linkOf g offset link) × (b ≡ 0 → ⊥) × Follows (objectsOf g) offset (b ∷ objects)
+  -- so a partial walk that goes from the object last passed to the first one listed goes on over all of them, up to its limit and while none stands
+  -- twice
+  -- 02: Ticket9.2
+  pub walk-goes-on : (g : List ℕ) (offset link : ℕ) (lies : List ℕ) (start limit : ℕ) (w : List ℕ) (b : ℕ) (objects : List ℕ) (s : Stop)
       → LiesAhead g offset link lies (b ∷ objects) s → Walk (objectsOf g) start limit (w ++ (offset ∷ b ∷ []))
       → NoneTwice (w ++ (offset ∷ b ∷ objects)) → length (w ++ (offset ∷ b ∷ objects)) ≤ limit
       → Walk (objectsOf g) start limit (w ++ (offset ∷ b ∷ objects))
-  -- from a boundary, left by its link, the list is a partial walk; and a route, where it stops at a boundary
+  -- from a boundary, left by its link, the list is a partial walk, of at most 65 objects with the boundary; and a route, where it stops at a boundary
   -- 02: Ticket9.2
   pub from-boundary : (g : List ℕ) (offset : ℕ) (lies : List ℕ) (objects : List ℕ) (s : Stop) → BoundaryHere g offset
       → LiesAhead g offset 0 lies objects s → Walk (objectsOf g) offset 65 (offset ∷ objects)

@@ -44,7 +44,7 @@ pub record Cases : Type 0 where
 
 pub cases : Cases
 unfolding numAt walk startsFrom layoutOf madeOf groupsFrom nextStart groupEnd groupEnds baliseBytes kindAt sizeOf isTarget mayName viewAt objectAt onwardOf has lieOf allLies areLies frontOf trailOf legOf
-    wayOf aheadFrom inRange seenIn replicate
+    wayOf aheadFrom inRange seenIn
 cases = record {
   normal = refl;
   reverse = refl;

@@ -16,13 +16,14 @@ use Rattle.ahead.specs.declared.Stop.{Stop}
 use Rattle.ahead.specs.declared.Stop.the-variants as stop
 use Rattle.ahead.specs.declared.AheadAnswer.{AheadAnswer}
 use Rattle.ahead.specs.declared.AheadAnswer.the-variants as answer
-use Rattle.ahead.specs.Seen.{Seen, objectsMost, seenBytes, stopNumber}
+use Rattle.ahead.specs.Ahead.{objectsMost, seenBytes, stopNumber}
+use Rattle.ahead.specs.Seen.{Seen}
 use Rattle.ahead.specs.Asked.{inRange, seenIn, judged, answerIn, afterPair, aheadAsked, aheadAnswer, aheadFile}
 use Rattle.ahead.proofs.Answering.{list-few}
 use Rattle.places.specs.Places.{placeOver}
 use Rattle.places.proofs.Pair.{pair-place}
 use Rattle.c_values.specs.Words.{overByte}
-use Rattle.c_values.specs.Ahead.{stopOf, objectsOf, aheadShown}
+use Rattle.c_values.specs.Ahead.{stopOf, countOf, aheadShown}
 use Rattle.c_values.proofs.Numbers.{number-fits, file-fits}
 use Rattle.c_values.proofs.Ahead.{number-back, file-back, place-back, stop-back, objects-back}
 use Rattle.export_theorems.specs.Ahead.{AheadBack}
@@ -30,12 +31,12 @@ use Rattle.export_theorems.specs.Ahead.{AheadBack}
 -- ---- every part fits its bytes
 
 number-small : (a : AheadAnswer) → answerNumber (aheadAnswer a) < overByte
-number-small (answer.Seen s) = omega arith
+number-small (answer.Listed s) = omega arith
 number-small (answer.Faulty d t) = number-fits (t .reason)
 number-small (answer.Refused t) = number-fits (t .reason)
 
 file-small : (a : AheadAnswer) → aheadFile a < overByte
-file-small (answer.Seen s) = omega arith
+file-small (answer.Listed s) = omega arith
 file-small (answer.Faulty d t) = file-fits d
 file-small (answer.Refused t) = omega arith
 
@@ -48,11 +49,11 @@ six-stops stop.AgainstLie = omega arith
 six-stops stop.Full = omega arith
 
 stop-small : (a : AheadAnswer) → stopOf a < overByte
-stop-small (answer.Seen s) = omega (arith, six-stops (s .stop))
+stop-small (answer.Listed s) = omega (arith, six-stops (s .stop))
 stop-small (answer.Faulty d t) = omega arith
 stop-small (answer.Refused t) = omega arith
 
-parts-back : (a : AheadAnswer) → answerPlace (aheadAnswer a) < placeOver → objectsOf a ≤ objectsMost → AheadBack a (aheadShown a)
+parts-back : (a : AheadAnswer) → answerPlace (aheadAnswer a) < placeOver → countOf a ≤ objectsMost → AheadBack a (aheadShown a)
 parts-back a p o =
     let n = number-small a in
     let f = file-small a in
@@ -76,7 +77,7 @@ place-small pair.Accepted true true s h = omega arith
 place-small pair.Accepted true false s h = omega arith
 
 objects-small :
-    (v : PairVerdict) (inside short : Bool) (s : Seen) → length (s .objects) ≤ objectsMost → objectsOf (afterPair v (judged inside short s)) ≤ objectsMost
+    (v : PairVerdict) (inside short : Bool) (s : Seen) → length (s .objects) ≤ objectsMost → countOf (afterPair v (judged inside short s)) ≤ objectsMost
 unfolding judged
 objects-small (pair.Refused d t) inside short s h = omega arith
 objects-small pair.Accepted false short s h = omega arith

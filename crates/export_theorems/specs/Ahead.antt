@@ -4,10 +4,10 @@ use Prim.Native.Nat.{ℕ, _≤_}
 use mathlib.Core.Path.{_≡_}
 use Rattle.verdict.specs.Answers.{answerNumber, answerPlace}
 use Rattle.ahead.specs.declared.AheadAnswer.{AheadAnswer}
-use Rattle.ahead.specs.Seen.{objectsMost}
+use Rattle.ahead.specs.Ahead.{objectsMost}
 use Rattle.ahead.specs.Asked.{aheadAnswer, aheadFile}
 use Rattle.c_values.specs.Words.{numberPart, filePart, placePart}
-use Rattle.c_values.specs.Ahead.{stopOf, objectsOf, stopPart, objectsPart}
+use Rattle.c_values.specs.Ahead.{stopOf, countOf, stopPart, objectsPart}
 
 -- r has the five parts of an answer in it, as the header's macros take them
 -- 02: Ticket9.7
@@ -18,5 +18,5 @@ pub record AheadBack (a : AheadAnswer) (r : ℕ) : Type 0 where
   pub place-is : placePart r ≡ answerPlace (aheadAnswer a)
   -- why the list stops, and how many objects it has, at most 64; both 0 in a refusal
   pub stop-is : stopPart r ≡ stopOf a
-  pub objects-are : objectsPart r ≡ objectsOf a
+  pub objects-are : objectsPart r ≡ countOf a
   pub objects-few : objectsPart r ≤ objectsMost

@@ -1,6 +1,5 @@
 -- The link of an index, from 0: of three, of which a missing one is 0.
 use Prim.Native.Nat.{ℕ, zero, suc}
-use native.Mathlib.Omega.{arith}
 use mathlib.Core.Path.{_≡_, refl, _∙_}
 use mathlib.Core.List.{[], _∷_}
 use lib.ListN.{getD}

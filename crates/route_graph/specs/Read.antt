@@ -5,6 +5,7 @@ use Rattle.route_graph.specs.declared.Object.{Object}
 use Rattle.route_graph.specs.declared.Object.the-variants.{Boundary, Plain, Turnout, Nothing}
 
 -- 01: X2.links.1
+-- 02: Ticket9.8
 abbrev pub objectOf : Record → Object
 objectOf (record-of.StartBoundary b) = Boundary (b .link)
 objectOf (record-of.EndBoundary b) = Boundary (b .link)

@@ -3,13 +3,10 @@ use Prim.Native.Nat.{ℕ, suc, _+_, _≤_, _<_}
 use native.Mathlib.Numerals.{add-one}
 use native.Mathlib.Omega.{arith}
 use mathlib.Core.Path.{_≡_, sym, ap, _∙_}
-use mathlib.Core.Bool.{Bool, _||_}
 use mathlib.Core.Logic.{_⊎_, inl, inr}
 use mathlib.Core.List.{List, [], _∷_, _++_}
 use lib.ListN.{length, getD, take, drop, set, take-append-drop}
 use lib.Seq.{take-suc, length-take-le, take-suc-set, take-take}
-use lib.Dec.{eqb}
-use Rattle.route_walks.specs.Walks.{has}
 use Rattle.route_walks.specs.Lent.{roomOf, lay, lays}
 use Rattle.route_walks.proofs.Lent.{length-lays, lays-append, lays-snoc, lays-out}
 

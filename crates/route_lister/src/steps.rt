@@ -10,11 +10,9 @@ ghost use Rattle.route_lister.specs.inner.Marks.{Marked};
 ghost use Rattle.route_lister.specs.inner.Steps.{Lesser, Tested};
 use crate::marks::CELLS;
 use crate::marks::stands;
+use route_walks::BYTE_VALUES;
 use route_walks::Tally;
 use route_walks::WORD_SIZE;
-
-// How many values a byte has.
-const BYTE_VALUES: u16 = 256;
 
 // Whether a walk of the first n of a path opens another by the link `to`: the link names an object, `left` objects more are allowed, the
 // walks do not outnumber the budget, and the object does not stand in the walk.

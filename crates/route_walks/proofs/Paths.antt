@@ -2,16 +2,45 @@
 use Prim.Native.Nat.{ℕ, _+_, _<_}
 use native.Mathlib.Numerals.{add-one}
 use mathlib.Core.Path.{_≡_, refl, sym, ap, subst, _∙_}
-use mathlib.Core.Bool.{Bool, true, false, _||_}
+use mathlib.Core.Bool.{Bool, true, false, true≢false, _||_}
 use mathlib.Core.Logic.{⊎-elim}
 use mathlib.Core.List.{List, [], _∷_, _++_, List·Memᴰ, List·Memᴰ·head, List·Memᴰ·tail, List·Memᴰ·not-nil, List·Memᴰ·cases-cons, Memᴰ·cast}
 use lib.ListN.{length, getD, take}
 use lib.Seq.{take-suc}
 use lib.Dec.{eqb}
-use borrow.Author.Tests.{ne-eqb, eqb-false}
+use borrow.Author.Tests.{eq-eqb, ne-eqb, eqb-true, eqb-false}
 use Rattle.verdict.proofs.Orders.{neither}
 use Rattle.route_walks.specs.Legal.{NoneTwice}
 use Rattle.route_walks.specs.Walks.{has}
+
+-- standing in a list is tested as it is stated
+pub mem-has : (l : List ℕ) (x : ℕ) → List·Memᴰ x l → has l x ≡ true
+unfolding has
+mem-has [] x m = absurd (List·Memᴰ·not-nil m)
+mem-has (y ∷ ys) x m = ⊎-elim (λ e. rw (eq-eqb y x (sym e)) refl) (λ h. rw (mem-has ys x h) (or-true (eqb y x))) (List·Memᴰ·cases-cons m)
+  where
+    or-true : (b : Bool) → (b || true) ≡ true
+    or-true true = refl
+    or-true false = refl
+
+pub has-mem : (l : List ℕ) (x : ℕ) → has l x ≡ true → List·Memᴰ x l
+unfolding has
+has-mem [] x e = absurd (true≢false (sym e))
+has-mem (y ∷ ys) x e = go (eqb y x) refl e (λ h. has-mem ys x h)
+  where
+    go : (b : Bool) → eqb y x ≡ b → (b || has ys x) ≡ true → (has ys x ≡ true → List·Memᴰ x ys) → List·Memᴰ x (y ∷ ys)
+    go true q h rec = List·Memᴰ·head (sym (eqb-true y x q))
+    go false q h rec = List·Memᴰ·tail (rec h)
+
+pub not-has : (l : List ℕ) (x : ℕ) → (¬ List·Memᴰ x l) → has l x ≡ false
+not-has l x n = go (has l x) refl
+  where
+    go : (b : Bool) → has l x ≡ b → b ≡ false
+    go true e = absurd (n (has-mem l x e))
+    go false e = refl
+
+pub has-not : (l : List ℕ) (x : ℕ) → has l x ≡ false → ¬ List·Memᴰ x l
+has-not l x e m = true≢false (sym (mem-has l x m) ∙ e)
 
 -- x stands in a list with one element more where it stands in the list or is that element
 pub has-more : (l : List ℕ) (y x : ℕ) → has (l ++ (y ∷ [])) x ≡ (has l x || eqb y x)

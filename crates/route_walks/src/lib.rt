@@ -13,8 +13,10 @@ pub const BUDGET_LEAST: usize = 1;
 
 pub const BUDGET_MOST: usize = 65535;
 
-// How many bytes a word of a list has.
+// How many bytes a word of a list has, and how many values a byte.
 pub const WORD_SIZE: usize = 2;
+
+pub const BYTE_VALUES: u16 = 256;
 
 // The partial walks opened, the routes among them, and the words that these take.
 pub struct Tally {

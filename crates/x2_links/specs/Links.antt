@@ -52,7 +52,7 @@ unfoldable pub isTarget : List ℕ → Layout → ℕ → Claim
 isTarget f l x = some (starts f l) (named f l x)
 
 -- the same, tested: a link may name x, which is an offset in a file
--- 02: Ticket9.10
+-- 02: Ticket9.9
 unfoldable pub mayName : List ℕ → Layout → ℕ → Bool
 mayName f l x = leb x numberMost && test (isTarget f l x)
 

@@ -4,7 +4,8 @@ use mathlib.Core.Path.{_≡_}
 use mathlib.Core.List.{List}
 use lib.ListN.{length, take}
 use Rattle.ahead.specs.declared.Sight.{Sight}
-use Rattle.ahead.specs.Seen.{objectsMost, Seen}
+use Rattle.ahead.specs.Ahead.{objectsMost}
+use Rattle.ahead.specs.Seen.{Seen}
 
 pub record Followed (s : Seen) (path : List ℕ) (r : Sight) : Type 0 where
   pub room : length path ≡ objectsMost

@@ -1,10 +1,10 @@
 -- `ahead::asked::look` meets its contract: one law for each way out.
-use mathlib.Core.Path.{_≡_, ap, _∙_}
+use mathlib.Core.Path.{ap, _∙_}
 use native.Mathlib.Omega.{arith}
 use borrow.Author.Needs.{needs}
 use Rattle.route_walks.specs.Lent.{lays}
 use Rattle.ahead.specs.Seen.{Seen, sightOf}
-use Rattle.ahead.proofs.Answering.{Told, not-named, is-offset, seen-is, asked-is, not-asked, no-room, listed}
+use Rattle.ahead.proofs.Answering.{not-named, is-offset, seen-is, asked-is, not-asked, no-room, listed}
 use Rattle.ahead.proofs.asked.look.Statement.{statement}
 use Rattle.ahead.proofs.asked.look.Tie as tie
 

@@ -1,6 +1,6 @@
 -- `ahead::list::follow` meets its contract. The loop's invariant: the first n of the path are listed, and what follows them by the link `to` is all
 -- that follows.
-use mathlib.Core.Path.{_≡_, sym, ap, _∙_}
+use mathlib.Core.Path.{sym, ap, _∙_}
 use Prim.Native.Nat.{_-_}
 use native.Mathlib.Omega.{arith}
 use lib.ListN.{length-set}
@@ -9,8 +9,8 @@ use borrow.Author.Needs.{needs}
 use Rattle.route_graph.specs.declared.Object.{Object}
 use Rattle.route_graph.specs.Objects.{objectAt}
 use Rattle.ahead.specs.Ways.{wayOf}
-use Rattle.ahead.specs.Seen.{objectsMost}
-use Rattle.ahead.proofs.Looking.{Looking, stood, begins, no-link, repeated, full, stops, goes-on}
+use Rattle.ahead.specs.Ahead.{objectsMost}
+use Rattle.ahead.proofs.Looking.{Looking, stood, begins, no-link, repeated, full, stops, goes-on, ended-so}
 use Rattle.ahead.proofs.list.follow.Statement.{statement}
 use Rattle.ahead.proofs.list.follow.Tie as tie
 
@@ -26,10 +26,10 @@ loop-holds c =
     begins (objectAt (a .g .now) (a .l)) (a .lies .now) (a .passed) (a .first) (a .path .now) (c .before .before .before .pre)
 
 same-length : tie.Need-same-length Inv-loop μ-loop
-same-length c = c .before .loop .inv .room ∙ sym (c .before .before .before .before .before .pre)
+same-length c = c .before .before .loop .inv .room ∙ sym (c .before .before .before .before .before .before .pre)
 
 returns : tie.Need-returns Inv-loop μ-loop
-returns c = no-link _ _ _ _ _ _ _ _ (c .before .loop .inv) (c .if1 .taken)
+returns c = ended-so _ _ _ _ (c .ends .ensures) (no-link _ _ _ _ _ _ _ _ (c .before .before .loop .inv) (c .before .if1 .taken))
 
 slice-aggregate-stands-in : tie.Need-slice-aggregate-stands-in Inv-loop μ-loop
 slice-aggregate-stands-in c =
@@ -37,41 +37,45 @@ slice-aggregate-stands-in c =
     sym (length-take-le (h .n) (h .path) (omega (arith, h .inv .small, h .inv .room)))
 
 same-length-2 : tie.Need-same-length-2 Inv-loop μ-loop
-same-length-2 c = c .before .before .before .before .loop .inv .room ∙ sym (c .before .before .before .before .before .before .before .before .pre)
+same-length-2 c = c .before .before .before .before .before .loop .inv .room ∙ sym (c .before .before .before .before .before .before .before .before .before .pre)
 
 returns-2 : tie.Need-returns-2 Inv-loop μ-loop
 returns-2 c =
-    let h = c .before .before .before .before .loop in
-    let a = c .before .before .before .before .before .before .before .before .args in
-    repeated _ _ _ _ _ _ _ _ (h .inv) (c .before .before .before .if1 .left) _ (stood (a .passed) (h .to) _ _ (c .before .stands-in .ensures)) (c .if2 .taken)
+    let h = c .before .before .before .before .before .loop in
+    let a = c .before .before .before .before .before .before .before .before .before .args in
+    let again = stood (a .passed) (h .to) _ _ (c .before .before .stands-in .ensures) in
+    ended-so _ _ _ _ (c .ends2 .ensures) (repeated _ _ _ _ _ _ _ _ (h .inv) (c .before .before .before .before .if1 .left) _ again (c .before .if2 .taken))
 
 same-length-3 : tie.Need-same-length-3 Inv-loop μ-loop
-same-length-3 c = c .before .before .before .before .before .loop .inv .room ∙ sym (c .before .before .before .before .before .before .before .before .before .pre)
+same-length-3 c = c .before .before .before .before .before .before .loop .inv .room ∙ sym (c .before .before .before .before .before .before .before .before .before .before .pre)
 
 returns-3 : tie.Need-returns-3 Inv-loop μ-loop
 returns-3 c =
-    let h = c .before .before .before .before .before .loop in
-    let a = c .before .before .before .before .before .before .before .before .before .args in
-    full _ _ _ _ _ _ _ _ (h .inv) (c .before .before .before .before .if1 .left) _ (stood (a .passed) (h .to) _ _ (c .before .before .stands-in .ensures)) (c .before .if2 .left) (c .if3 .taken)
+    let h = c .before .before .before .before .before .before .loop in
+    let a = c .before .before .before .before .before .before .before .before .before .before .args in
+    let again = stood (a .passed) (h .to) _ _ (c .before .before .before .stands-in .ensures) in
+    ended-so _ _ _ _ (c .ends3 .ensures) (full _ _ _ _ _ _ _ _ (h .inv) (c .before .before .before .before .before .if1 .left) _ again (c .before .before .if2 .left) (c .before .if3 .taken))
 
 same-length-4 : tie.Need-same-length-4 Inv-loop μ-loop
 same-length-4 c =
-    let h = c .before .before .before .before .before .before .before .before .before .before .loop in
-    length-set (h .path) (h .n) (h .to) ∙ h .inv .room ∙ sym (c .before .before .before .before .before .before .before .before .before .before .before .before .before .before .pre)
+    let h = c .before .before .before .before .before .before .before .before .before .before .before .loop in
+    length-set (h .path) (h .n) (h .to) ∙ h .inv .room ∙ sym (c .before .before .before .before .before .before .before .before .before .before .before .before .before .before .before .pre)
 
 returns-4 : tie.Need-returns-4 Inv-loop μ-loop
 returns-4 c =
-    let h = c .before .before .before .before .before .before .before .before .before .before .loop in
-    let a = c .before .before .before .before .before .before .before .before .before .before .before .before .before .before .args in
-    let way = c .before .before .before .way-of .ensures ∙ ap (λ (o : Object). wayOf o (h .from) (a .lies .now)) (c .before .before .before .before .object-at .ensures) in
-    stops _ _ _ _ _ _ _ _ (h .inv) (c .before .before .before .before .before .before .before .before .before .if1 .left) _ (stood (a .passed) (h .to) _ _ (c .before .before .before .before .before .before .before .stands-in .ensures)) (c .before .before .before .before .before .before .if2 .left) (c .before .before .before .before .before .if3 .left) _ way _ (c .before .way .given .1)
+    let h = c .before .before .before .before .before .before .before .before .before .before .before .loop in
+    let a = c .before .before .before .before .before .before .before .before .before .before .before .before .before .before .before .args in
+    let way = c .before .before .before .before .way-of .ensures ∙ ap (λ (o : Object). wayOf o (h .from) (a .lies .now)) (c .before .before .before .before .before .object-at .ensures) in
+    let again = stood (a .passed) (h .to) _ _ (c .before .before .before .before .before .before .before .before .stands-in .ensures) in
+    ended-so _ _ _ _ (c .ends4 .ensures) (stops _ _ _ _ _ _ _ _ (h .inv) (c .before .before .before .before .before .before .before .before .before .before .if1 .left) _ again (c .before .before .before .before .before .before .before .if2 .left) (c .before .before .before .before .before .before .if3 .left) _ way _ (c .before .before .way .given .1))
 
 loop-again : tie.Need-loop-again Inv-loop μ-loop
 loop-again c =
     let h = c .before .before .before .before .before .before .before .before .before .before .loop in
     let a = c .before .before .before .before .before .before .before .before .before .before .before .before .before .before .args in
     let way = c .before .before .before .way-of .ensures ∙ ap (λ (o : Object). wayOf o (h .from) (a .lies .now)) (c .before .before .before .before .object-at .ensures) in
-    goes-on _ _ _ _ _ _ _ _ (h .inv) (c .before .before .before .before .before .before .before .before .before .if1 .left) _ (stood (a .passed) (h .to) _ _ (c .before .before .before .before .before .before .before .stands-in .ensures)) (c .before .before .before .before .before .before .if2 .left) (c .before .before .before .before .before .if3 .left) _ way _ (c .before .way2 .given .1)
+    let again = stood (a .passed) (h .to) _ _ (c .before .before .before .before .before .before .before .stands-in .ensures) in
+    goes-on _ _ _ _ _ _ _ _ (h .inv) (c .before .before .before .before .before .before .before .before .before .if1 .left) _ again (c .before .before .before .before .before .before .if2 .left) (c .before .before .before .before .before .if3 .left) _ way _ (c .before .way2 .given .1)
 
 pub follow-spec : {M : Type 1} → statement M
 follow-spec =
@@ -80,13 +84,16 @@ follow-spec =
     Inv-loop
     μ-loop
     loop-holds
+    (λ c κs. search needs)
     same-length
     returns
     (λ c. search needs)
     slice-aggregate-stands-in
     (λ c κs. search needs)
+    (λ c κs. search needs)
     same-length-2
     returns-2
+    (λ c κs. search needs)
     same-length-3
     returns-3
     (λ c. search needs)
@@ -95,6 +102,7 @@ follow-spec =
     (λ c κs. search needs)
     (λ c κs. search needs)
     (λ c. search needs)
+    (λ c κs. search needs)
     same-length-4
     returns-4
     (λ c. search needs)

@@ -12,7 +12,7 @@ returns : tie.Need-returns
 returns c =
     let w = c .before .before in
     shown-sum (w .before .before .before .before .args .a) _ _ _ _ _ _ (w .answer .ensures) (w .before .before .before .number .ensures)
-    (w .before .before .file .ensures) (w .before .place .ensures) (c .before .stop-of .ensures) (c .objects-of .ensures)
+    (w .before .before .file .ensures) (w .before .place .ensures) (c .before .stop-of .ensures) (c .count-of .ensures)
 
 pub ahead-answer-spec : {M : Type 1} → statement M
 ahead-answer-spec =

@@ -1,5 +1,5 @@
 -- `x2_links::named::may_name` meets its contract. The loop's invariant: what is found from the record at `at` on is what is found at all.
-use Prim.Native.Nat.{_+_, _-_}
+use Prim.Native.Nat.{_-_}
 use mathlib.Core.Path.{_≡_, sym, _∙_}
 use native.Mathlib.Omega.{arith}
 use borrow.Author.Needs.{needs}
