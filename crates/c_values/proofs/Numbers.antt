@@ -36,7 +36,7 @@ module _ (number file place : ℕ) (n : number < overByte) (f : file < overByte)
   pub place-back : placePart (answerWord number file place) ≡ place
   place-back = rw whole (omega arith)
 
--- every number of the paper is one byte, and no refusal's is 0
+-- every number of the paper is one byte
 pub number-fits : (r : Reason) → numberOf r < overByte
 number-fits reason.Length = omega arith
 number-fits reason.Checksum = omega arith
@@ -53,23 +53,10 @@ number-fits reason.Position = omega arith
 number-fits reason.Question = omega arith
 number-fits reason.Steps = omega arith
 number-fits reason.Room = omega arith
-
-pub number-above : (r : Reason) → 0 < numberOf r
-number-above reason.Length = omega arith
-number-above reason.Checksum = omega arith
-number-above reason.FileType = omega arith
-number-above reason.Structure = omega arith
-number-above reason.Layout = omega arith
-number-above reason.Field = omega arith
-number-above reason.Agreement = omega arith
-number-above reason.Target = omega arith
-number-above reason.Return = omega arith
-number-above reason.Station = omega arith
-number-above reason.Track = omega arith
-number-above reason.Position = omega arith
-number-above reason.Question = omega arith
-number-above reason.Steps = omega arith
-number-above reason.Room = omega arith
+number-fits reason.Kinds = omega arith
+number-fits reason.Identity = omega arith
+number-fits reason.Order = omega arith
+number-fits reason.Piece = omega arith
 
 pub file-fits : (d : File) → fileOf d < overByte
 file-fits file.First = omega arith

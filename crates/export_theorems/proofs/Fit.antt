@@ -26,7 +26,7 @@ use Rattle.c_values.specs.Degrees.{degreesLaid}
 use Rattle.c_values.specs.Shown.{short, wordsLeave, shown}
 use Rattle.export_theorems.specs.TakenApart.{numberShown}
 use Rattle.export_theorems.specs.Fit.{header1Signed, header2Signed, trackSigned, pointSigned, coordinateSigned, degreesSigned, recordSigned, routesSigned, Fits, Back, AllFit, AnswerFits, AnswerBack}
-use Rattle.c_values.proofs.Numbers.{number-above}
+use Rattle.verdict.proofs.Questions.{number-above}
 use Rattle.export_theorems.proofs.Back.{value-at, number-word, signed-word}
 use Rattle.export_theorems.proofs.Fitting.{header1-fits, header2-fits, track-fits, point-fits, coordinate-fits, degrees-fits, point-degrees-fits, record-fits, routes-fits}
 use Rattle.export_theorems.proofs.TakenApart.{header1-parts, header2-parts, track-parts, point-parts, coordinate-parts, degrees-parts, point-degrees-parts, record-parts, routes-parts}

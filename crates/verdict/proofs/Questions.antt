@@ -1,6 +1,6 @@
 -- What is answered of a file: its verdict is accepted where no fact fails, and a question first gives the file's own fault. `say` makes an
 -- answer of a fault, and w is the file's verdict. And what a refused answer holds besides its number and place.
-use Prim.Native.Nat.{ℕ, suc, zero}
+use Prim.Native.Nat.{ℕ, suc, zero, _<_}
 use mathlib.Core.Bool.{Bool, true, false, cond}
 use lib.IntN.{ℤ, pos}
 use lib.ListN.{replicate}
@@ -93,22 +93,29 @@ module _ (A : Type 0) (cs : List Check) where
       by-test n p false e = (λ h. absurd (eqb-false n (numberOf r) e (sym (h .0))), λ h. absurd (none (h .0)))
 
 -- a refusal's number is not 0
+pub number-above : (u : Reason) → 0 < numberOf u
+number-above why.Length = omega arith
+number-above why.Checksum = omega arith
+number-above why.FileType = omega arith
+number-above why.Structure = omega arith
+number-above why.Layout = omega arith
+number-above why.Field = omega arith
+number-above why.Agreement = omega arith
+number-above why.Target = omega arith
+number-above why.Return = omega arith
+number-above why.Station = omega arith
+number-above why.Track = omega arith
+number-above why.Position = omega arith
+number-above why.Question = omega arith
+number-above why.Steps = omega arith
+number-above why.Room = omega arith
+number-above why.Kinds = omega arith
+number-above why.Identity = omega arith
+number-above why.Order = omega arith
+number-above why.Piece = omega arith
+
 pub some-number : (u : Reason) → ¬ (numberOf u ≡ 0)
-some-number why.Length e = omega arith
-some-number why.Checksum e = omega arith
-some-number why.FileType e = omega arith
-some-number why.Structure e = omega arith
-some-number why.Layout e = omega arith
-some-number why.Field e = omega arith
-some-number why.Agreement e = omega arith
-some-number why.Target e = omega arith
-some-number why.Return e = omega arith
-some-number why.Station e = omega arith
-some-number why.Track e = omega arith
-some-number why.Position e = omega arith
-some-number why.Question e = omega arith
-some-number why.Steps e = omega arith
-some-number why.Room e = omega arith
+some-number u e = let above : 0 < numberOf u = number-above u in omega arith
 
 -- ---- a refused answer: all else in it is 0
 

@@ -3,7 +3,8 @@
 use Prim.Native.Nat.{ℕ}
 use Rattle.verdict.specs.declared.Reason.{Reason}
 use Rattle.verdict.specs.declared.Reason.the-variants.{Length, Checksum, FileType, Structure, Layout, Field, Agreement, Target}
-use Rattle.verdict.specs.declared.Reason.the-variants.{Return, Station, Track, Position, Question, Steps, Room}
+use Rattle.verdict.specs.declared.Reason.the-variants.{Return, Station, Track, Position, Question, Steps, Room, Kinds, Identity}
+use Rattle.verdict.specs.declared.Reason.the-variants.{Order, Piece}
 use Rattle.verdict.specs.declared.Fault.{Fault}
 use Rattle.verdict.specs.declared.File.{File}
 use Rattle.verdict.specs.declared.File.the-variants.{First, Second}
@@ -15,7 +16,7 @@ use Rattle.verdict.specs.declared.Mark.{Mark}
 use Rattle.verdict.specs.declared.Judged.{Judged}
 use Rattle.verdict.specs.declared.Judged.the-variants as judged
 
--- the paper's number of a reason
+-- the paper's number of a reason: 01's up to 15, then 02's, of which 16 waits for its ticket
 -- 01: Form.10
 abbrev pub numberOf : Reason → ℕ
 numberOf Length = 1
@@ -33,6 +34,10 @@ numberOf Position = 12
 numberOf Question = 13
 numberOf Steps = 14
 numberOf Room = 15
+numberOf Kinds = 16
+numberOf Identity = 17
+numberOf Order = 18
+numberOf Piece = 19
 
 -- the paper's number of a file of the pair
 -- 01: Pair.5

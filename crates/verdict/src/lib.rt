@@ -5,7 +5,8 @@ ghost use Rattle.verdict.specs.Answers.{refusal, faultIn};
 ghost use Rattle.verdict.specs.Facts.{mark, also};
 ghost use Rattle.verdict.specs.inner.Accepted.{isAccepted};
 
-// Why an answer is refused, in the order of 01's table: 6 comes before 5.
+// Why an answer is refused, in the order of 01's table: 6 comes before 5. Those after 15 are 02's: a bad list of kinds is ticket 4's, which is to
+// come, and the last three are a loader's, ticket 6.
 pub enum Reason {
     Length,
     Checksum,
@@ -22,6 +23,10 @@ pub enum Reason {
     Question,
     Steps,
     Room,
+    Kinds,
+    Identity,
+    Order,
+    Piece,
 }
 
 // A reason, with the byte place that it is reported at.
@@ -146,6 +151,10 @@ impl Reason {
             Reason::Question => 13,
             Reason::Steps => 14,
             Reason::Room => 15,
+            Reason::Kinds => 16,
+            Reason::Identity => 17,
+            Reason::Order => 18,
+            Reason::Piece => 19,
         }
     }
 }

@@ -8,7 +8,7 @@ use Rattle.verdict.specs.declared.Rule.{Rule}
 use Rattle.verdict.specs.declared.Rule.the-variants as rule
 use Rattle.verdict.specs.declared.Reason.{Reason}
 use Rattle.verdict.specs.declared.Reason.the-variants.{Length, Checksum, FileType, Structure, Layout, Field, Agreement, Target, Return}
-use Rattle.verdict.specs.declared.Reason.the-variants.{Station, Track, Position, Question, Steps, Room}
+use Rattle.verdict.specs.declared.Reason.the-variants.{Station, Track, Position, Question, Steps, Room, Kinds, Identity, Order, Piece}
 use Rattle.verdict.specs.Facts.{Claim, always}
 use Rattle.rules.specs.Rules.{says, Names}
 use Rattle.x2_layout.specs.Layout.{layoutOf}
@@ -41,6 +41,10 @@ saysFor f Position = λ m. always
 saysFor f Question = λ m. always
 saysFor f Steps = λ m. always
 saysFor f Room = λ m. always
+saysFor f Kinds = λ m. always
+saysFor f Identity = λ m. always
+saysFor f Order = λ m. always
+saysFor f Piece = λ m. always
 
 abbrev pub saysOf : List ℕ → Mark → Claim
 saysOf f m = saysFor f (m .reason) m

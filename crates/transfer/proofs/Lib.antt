@@ -1,0 +1,5 @@
+pub mod Answers
+pub mod Laws
+pub mod Taking
+pub mod Laying
+pub mod Finished
