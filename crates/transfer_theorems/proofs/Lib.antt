@@ -1,2 +1,5 @@
 pub mod Rooms
 pub mod Runs
+pub mod Forms
+pub mod Which
+pub mod Sent
