@@ -20,10 +20,15 @@ uint32_t values_size_of(uint32_t asked_for)
     }
 }
 
+/* An answer as the library returns it. */
+static uint64_t returned(ind_answer given)
+{
+    return (uint64_t)given.place << 16 | given.file << 8 | given.number;
+}
+
 static void answer(expected *due, ind_answer given)
 {
-    due->answer = (uint64_t)given.place << 16 | given.file << 8
-        | given.number;
+    due->answer = returned(given);
 }
 
 /* One value more. */
@@ -301,4 +306,67 @@ void expect(const posed *ask, expected *due)
     }
     if (YARD_NUMBER(due->answer) != YARD_ANSWERED)
         due->values_size = due->words_size = 0;
+}
+
+/* ---- the loader */
+
+/* The transfer that bytes are the state of: nothing is opened where they are
+ * too few, or the first value is not 1. */
+static ind_transfer transfer_of(const load_lent *of)
+{
+    ind_transfer transfer = { 0, { 0 }, 0 };
+    if (of->state_length < YARD_LOAD_STATE_SIZE
+        || yard_unsigned(of->state, YARD_LOAD_OPENED) != 1)
+        return transfer;
+    transfer.opened = 1;
+    for (uint32_t i = 0; i < IND_IDENTITY_NUMBERS; i++)
+        transfer.identity[i] = yard_unsigned(of->state, YARD_LOAD_STATION + i);
+    transfer.due = yard_unsigned(of->state, YARD_LOAD_DUE);
+    return transfer;
+}
+
+/* Its values in their order. */
+static void put_transfer(const ind_transfer *transfer, load_lent *of)
+{
+    put_four(of->state, YARD_VALUE_SIZE * YARD_LOAD_OPENED, 1);
+    for (uint32_t i = 0; i < IND_IDENTITY_NUMBERS; i++)
+        put_four(of->state, YARD_VALUE_SIZE * (YARD_LOAD_STATION + i),
+                 transfer->identity[i]);
+    put_four(of->state, YARD_VALUE_SIZE * YARD_LOAD_DUE, transfer->due);
+}
+
+/* A state that is too short is no room, as a room that is. */
+static ind_answer expect_open(load_lent *of)
+{
+    ind_transfer transfer = transfer_of(of);
+    ind_answer given = ind_load_open(&transfer, of->identity,
+                                     of->room_length);
+    if (given.number != IND_ACCEPTED)
+        return given;
+    if (of->state_length < YARD_LOAD_STATE_SIZE)
+        return ind_says(IND_ROOM, 0);
+    put_transfer(&transfer, of);
+    return given;
+}
+
+static ind_answer expect_piece(load_lent *of)
+{
+    ind_transfer transfer = transfer_of(of);
+    ind_answer given = ind_load_piece(&transfer, of->piece, of->piece_length,
+                                      of->room, of->room_length);
+    if (given.number == IND_ACCEPTED)
+        put_transfer(&transfer, of);
+    return given;
+}
+
+uint64_t expect_load(load_lent *of)
+{
+    ind_transfer transfer = transfer_of(of);
+    switch (of->kind) {
+    case CALL_OPEN: return returned(expect_open(of));
+    case CALL_PIECE: return returned(expect_piece(of));
+    default:
+        return returned(ind_load_finish(&transfer, of->room,
+                                        of->room_length));
+    }
 }

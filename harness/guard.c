@@ -7,7 +7,8 @@
  * both functions that list them, and the two have to leave the same bytes; a
  * coordinate and a point are always asked in degrees too, and first at every
  * whole degree. What lies ahead is asked with four lent buffers: two files,
- * the lies, which have to keep their bytes too, and the objects. */
+ * the lies, which have to keep their bytes too, and the objects. The calls of
+ * the loader stand in guard_load.c. */
 #define _XOPEN_SOURCE 700
 #include <signal.h>
 #include <stdio.h>
@@ -21,7 +22,7 @@
 #include "generator/damage.h"
 #include "generator/random.h"
 #include "generator/whole_degrees.h"
-#include "lent.h"
+#include "guard.h"
 
 enum {
     /* Outputs are lent with up to so many bytes more than are needed. */
@@ -49,16 +50,6 @@ typedef struct {
     uint64_t above[NUMBERS];
 } call;
 
-/* What a run has seen. */
-typedef struct {
-    uint64_t calls;
-    uint64_t answers[QUESTIONS][IND_NUMBERS];
-    uint64_t checksums;
-    uint64_t with_null;
-    uint64_t differ;
-    uint64_t changed;
-} figures;
-
 static room files[FILES], lies_room, out_room, words_room;
 
 /* ---- signals: a signal is a defect; say in which call, and stop */
@@ -69,11 +60,23 @@ enum {
     NO_CALL = -1
 };
 
-/* The case under way, one of a seed or one of the whole degrees; the call, and
- * how its buffers are lent. */
+/* The case under way, one of a seed or one of the whole degrees; the call, of
+ * the loader its kind, and how its buffers are lent. */
 static const char *volatile cases_now = "case";
 static volatile uint64_t case_now;
-static volatile sig_atomic_t question_now = NO_CALL, way_now;
+static volatile sig_atomic_t question_now = NO_CALL, kind_now, way_now;
+
+void begin_call(uint32_t question, uint32_t kind, way lent)
+{
+    kind_now = (sig_atomic_t)kind;
+    way_now = (sig_atomic_t)lent;
+    question_now = (sig_atomic_t)question;
+}
+
+void end_call(void)
+{
+    question_now = NO_CALL;
+}
 
 /* What is said. A handler may neither format nor allocate. */
 static char said[200];
@@ -125,6 +128,8 @@ static void say_function(uint32_t asked_for)
     size_t from = said_size;
     if (asked_for == ASK_ROUTES2)
         say("routes_flat");
+    else if (asked_for == ASK_LOAD)
+        say(call_name((uint32_t)kind_now));
     else
         say(asked_for == CHECKSUM ? "checksum" : question_name(asked_for));
     for (size_t i = from; i < said_size; i++)
@@ -187,13 +192,12 @@ static void fill(uint8_t *bytes, uint32_t length)
         bytes[i] = OLD_BYTE(i);
 }
 
-/* Neither memcmp nor memcpy may be given a null pointer. */
-static int alike(const uint8_t *bytes, const uint8_t *others, uint32_t length)
+int alike(const uint8_t *bytes, const uint8_t *others, uint32_t length)
 {
     return length == 0 || memcmp(bytes, others, length) == 0;
 }
 
-static void copy(uint8_t *to, const uint8_t *bytes, uint32_t length)
+void copy(uint8_t *to, const uint8_t *bytes, uint32_t length)
 {
     if (length > 0)
         memcpy(to, bytes, length);
@@ -276,8 +280,17 @@ static int is_first_defect(void)
     return first;
 }
 
-/* All of an answer, one side's; only what lies ahead has a stop. */
-static void tell_answer(const char *side, uint64_t answer)
+int tell_defect(const char *what)
+{
+    if (!is_first_defect())
+        return 0;
+    printf("first defect: %s %llu, %s, with %s\n", cases_now,
+           (unsigned long long)case_now, what, way_name((int)way_now));
+    return 1;
+}
+
+/* Only what lies ahead has a stop. */
+void tell_answer(const char *side, uint64_t answer)
 {
     printf("%-11s %u at %lu, file %u, stop %u, %u objects\n", side,
            YARD_NUMBER(answer), (unsigned long)YARD_PLACE(answer),
@@ -339,10 +352,9 @@ static uint64_t one_call(figures *seen, const call *of, const expected *due,
     copy(lies, of->ask.lies, lies_of(of));
     fill(out, of->out_length);
     fill(words, of->words_length);
-    question_now = (sig_atomic_t)of->ask.question;
-    way_now = (sig_atomic_t)lent;
+    begin_call(of->ask.question, 0, lent);
     got = ask_library(of, file, lies, out, words);
-    question_now = NO_CALL;
+    end_call();
     count_answer(seen, of->ask.question, got);
     seen->with_null += lent == NULL_FOR_NOTHING;
     changed = changed_in(out, of->out_length, due->values, due->values_size)
@@ -516,10 +528,9 @@ static void checksum_each_way(figures *seen, const stored *file,
         uint8_t *bytes = lend(files[0], length, (way)lent);
         uint32_t got;
         copy(bytes, file->bytes, length);
-        question_now = CHECKSUM;
-        way_now = lent;
+        begin_call(CHECKSUM, 0, (way)lent);
         got = yard_checksum(bytes, length);
-        question_now = NO_CALL;
+        end_call();
         seen->differ += got != due;
         if (got != due)
             tell_checksum(length, got, due);
@@ -554,7 +565,8 @@ static void run_calls(figures *seen, source *from, const asked *ask,
 }
 
 /* A generated case, the checksum of its first file, now and then the same
- * with buffers of no bytes, and the case with some bits of a file flipped. */
+ * with buffers of no bytes, and the case with some bits of a file flipped. A
+ * case of load is made once more with bits flipped in some pieces. */
 static void run_case(figures *seen, const generation *run, uint64_t index)
 {
     static asked ask;
@@ -562,6 +574,11 @@ static void run_case(figures *seen, const generation *run, uint64_t index)
     uint32_t which;
     case_now = index;
     build_case(run, index, &ask);
+    if (ask.question == ASK_LOAD) {
+        run_loads(seen, &from, &ask, 0);
+        run_loads(seen, &from, &ask, 1);
+        return;
+    }
     run_calls(seen, &from, &ask, 0);
     checksum_each_way(seen, &ask.files[0], ask.files[0].length);
     if (once_in(&from, 4)) {
@@ -602,14 +619,13 @@ static void run_whole_degrees(figures *seen, const wanted *kinds)
     cases_now = "case";
 }
 
-/* A question's calls, and how many were answered by each number. */
-static void print_calls(const figures *seen, uint32_t asked_for)
+/* The calls of a name, and how many were answered by each number. */
+static void print_calls(const char *name, const uint64_t answers[IND_NUMBERS])
 {
-    const uint64_t *answers = seen->answers[asked_for];
     unsigned long long calls = 0;
     for (int n = 0; n < IND_NUMBERS; n++)
         calls += answers[n];
-    printf("%-13s %10llu calls:", question_name(asked_for), calls);
+    printf("%-13s %10llu calls:", name, calls);
     for (int n = 0; n < IND_NUMBERS; n++)
         if (answers[n] > 0)
             printf(" %d:%llu", n, (unsigned long long)answers[n]);
@@ -620,9 +636,13 @@ static void print_figures(const figures *seen)
 {
     printf("%-13s %10llu calls\n", "checksum",
            (unsigned long long)seen->checksums);
-    for (uint32_t q = ASK_X1; q < QUESTIONS; q++)
-        if (is_question(q))
-            print_calls(seen, q);
+    for (uint32_t q = ASK_X1; q < QUESTIONS; q++) {
+        if (is_question(q) && q != ASK_LOAD)
+            print_calls(question_name(q), seen->answers[q]);
+        for (uint32_t kind = CALL_OPEN; q == ASK_LOAD && kind < CALL_KINDS;
+             kind++)
+            print_calls(call_name(kind), seen->load_answers[kind]);
+    }
     printf("%llu calls, %llu of them with a null pointer, %llu differ, %llu "
            "bytes changed, no signal\n",
            (unsigned long long)seen->calls,
@@ -647,6 +667,7 @@ int main(int count, char **words)
     lies_room = make_room(LIES_ROOM);
     out_room = make_room(OUT_ROOM);
     words_room = make_room(LENT_WORDS_ROOM);
+    make_load_rooms();
     catch_signals();
     run_whole_degrees(&seen, &run.kinds);
     at_degrees = seen.calls;

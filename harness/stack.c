@@ -7,6 +7,7 @@
 #include <ucontext.h>
 
 #include "files.h"
+#include "generator/calls.h"
 #include "yard.h"
 
 enum { STACK = 1 << 20, FILLED = 0xA5, LARGEST = 65535, FIRST_START = 41, FORKS = 600, WORDS = 8192, OUTPUT = 128 };
@@ -22,6 +23,11 @@ static ucontext_t caller, called;
 static stored geography, heights, application, forked, station[2], far[2];
 static uint8_t out[OUTPUT], words[WORDS], lies[YARD_LIES_SIZE];
 static uint64_t answered;
+
+/* A state of the loader for each file that is finished, the piece that has all of a file, and the room that it goes to. */
+static uint8_t of_geography[YARD_LOAD_STATE_SIZE], of_heights[YARD_LOAD_STATE_SIZE], of_application[YARD_LOAD_STATE_SIZE];
+static uint8_t piece[CALL_BYTES_MOST], room[LARGEST];
+static uint32_t piece_length;
 
 static void verdict1(void) { answered = yard_x1(geography.bytes, geography.length); }
 static void verdict1_heights(void) { answered = yard_x1(heights.bytes, heights.length); }
@@ -67,6 +73,51 @@ static void ahead_in(const stored *of)
 static void ahead(void) { ahead_in(station); }
 static void ahead_far(void) { ahead_in(far); }
 
+static void load_open_of(uint8_t *state, const stored *file)
+{
+    uint32_t identity[IND_IDENTITY_NUMBERS];
+    identity_of(file->bytes, file->length, identity);
+    answered = yard_load_open(state, YARD_LOAD_STATE_SIZE, identity[0], identity[1], identity[2], identity[3], identity[4], room, LARGEST);
+}
+
+static void load_piece_of(uint8_t *state)
+{
+    answered = yard_load_piece(state, YARD_LOAD_STATE_SIZE, piece, piece_length, room, LARGEST);
+}
+
+static void load_finish_of(const uint8_t *state, const stored *file)
+{
+    answered = yard_load_finish(state, YARD_LOAD_STATE_SIZE, file->bytes, file->length);
+}
+
+/* A file in one piece. */
+static void make_piece(const stored *file)
+{
+    uint32_t numbers[IND_PIECE_NUMBERS];
+    identity_of(file->bytes, file->length, numbers);
+    numbers[IND_START_NUMBER] = 0;
+    numbers[IND_COUNT_NUMBER] = file->length;
+    piece_length = 0;
+    for (uint32_t i = 0; i < IND_PIECE_NUMBERS; i++)
+        piece_length += put_groups(piece + piece_length, numbers[i], 0);
+    memcpy(piece + piece_length, file->bytes, file->length);
+    piece_length += file->length;
+}
+
+/* The state of a transfer whose bytes are all there. */
+static void take_whole(uint8_t *state, const stored *file)
+{
+    load_open_of(state, file);
+    make_piece(file);
+    load_piece_of(state);
+}
+
+static void load_open(void) { load_open_of(of_application, &application); }
+static void load_piece(void) { load_piece_of(of_application); }
+static void load_finish1(void) { load_finish_of(of_geography, &geography); }
+static void load_finish_heights(void) { load_finish_of(of_heights, &heights); }
+static void load_finish2(void) { load_finish_of(of_application, &application); }
+
 typedef struct {
     const char *name;
     void (*call)(void);
@@ -97,6 +148,11 @@ static const measured calls[] = {
     { "routes, limit 512, flat", flat_of_512, ON_X2 },
     { "ahead", ahead, ON_PAIR },
     { "ahead, 64 objects", ahead_far, ON_PAIR },
+    { "load-open", load_open, ON_X1 },
+    { "load-piece", load_piece, ON_X1 },
+    { "load-finish, X.1", load_finish1, ON_X2 },
+    { "load-finish, heights", load_finish_heights, ON_X2 },
+    { "load-finish, X.2", load_finish2, ON_X2 },
 };
 
 /* The bytes of the stack that a call changes. */
@@ -124,6 +180,9 @@ int main(void)
     forks(FORKS, &forked);
     largest_station(LARGEST, station);
     far_station(LARGEST, far);
+    take_whole(of_geography, &geography);
+    take_whole(of_heights, &heights);
+    make_piece(&application);
     for (size_t i = 0; i < sizeof calls / sizeof calls[0]; i++) {
         unsigned bytes = taken(calls[i].call);
         printf("%-23s %6u bytes of stack, at most %6u; number %u\n", calls[i].name, bytes, calls[i].allowed, YARD_NUMBER(answered));

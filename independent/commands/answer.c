@@ -1,7 +1,9 @@
 /* The answers, as yardask prints them: the first line has number and place
  * (and file for the pair and for what lies ahead), then one name and value per
- * line. */
+ * line. Of a sequence of calls each has its line of number and place. */
 #include "answer.h"
+
+#include <string.h>
 
 #include "batch.h"
 #include "commands.h"
@@ -78,6 +80,40 @@ static ind_header ask_header(const posed *ask)
     return ind_header2(ask->bytes[0], ask->length[0]);
 }
 
+void begin_loading(loading *of, const posed *ask)
+{
+    memset(&of->transfer, 0, sizeof of->transfer);
+    of->calls = ask->bytes[0];
+    of->length = ask->length[0];
+    of->place = 0;
+    of->room_size = ask->numbers[LOAD_ROOM];
+    memset(of->room, LOAD_ROOM_BYTE, of->room_size);
+}
+
+int next_call(loading *of, load_call *call)
+{
+    return of->place < of->length
+        && take_call(of->calls, of->length, &of->place, call);
+}
+
+ind_answer make_call(loading *of, const load_call *call)
+{
+    return answer_call(&of->transfer, call, of->room,
+                       lent_of(call, of->room_size));
+}
+
+/* The answer to the last call of a sequence; accepted where it has none. */
+static ind_answer ask_load(const posed *ask)
+{
+    static loading of;
+    ind_answer last = ind_says(IND_ACCEPTED, 0);
+    load_call call;
+    begin_loading(&of, ask);
+    while (next_call(&of, &call))
+        last = make_call(&of, &call);
+    return last;
+}
+
 ind_answer answer_case(const posed *ask)
 {
     uint8_t out[IND_AHEAD_ROOM];
@@ -95,6 +131,7 @@ ind_answer answer_case(const posed *ask)
     case ASK_RECORD: return ask_record(ask).answer;
     case ASK_ROUTES:
     case ASK_ROUTES2: return ask_routes(ask).answer;
+    case ASK_LOAD: return ask_load(ask);
     case ASK_AHEAD: return ask_ahead(ask, out).answer;
     default: return ask_header(ask).answer;
     }
@@ -405,6 +442,22 @@ static void print_header(FILE *output, const posed *ask)
                          header.name_size);
 }
 
+/* Each call's number and place, the next byte due, 0 with nothing opened, and
+ * the checksum of the whole room. */
+static void print_load(FILE *output, const posed *ask)
+{
+    static loading of;
+    load_call call;
+    begin_loading(&of, ask);
+    while (next_call(&of, &call)) {
+        ind_answer answer = make_call(&of, &call);
+        fprintf(output, "%lu %lu\n", (unsigned long)answer.number,
+                (unsigned long)answer.place);
+    }
+    line(output, "due", of.transfer.opened ? of.transfer.due : 0);
+    line(output, "room", ind_checksum(of.room, of.room_size));
+}
+
 void print_answer(FILE *output, const posed *ask)
 {
     switch (ask->question) {
@@ -420,6 +473,7 @@ void print_answer(FILE *output, const posed *ask)
     case ASK_RECORD: print_record(output, ask); break;
     case ASK_ROUTES:
     case ASK_ROUTES2: print_routes(output, ask); break;
+    case ASK_LOAD: print_load(output, ask); break;
     case ASK_AHEAD: print_ahead(output, ask); break;
     default: print_header(output, ask); break;
     }
@@ -433,6 +487,9 @@ static const char *reading_fault(reading got)
     switch (got) {
     case READ_CUT_OFF: return "the input ends inside a case";
     case READ_TOO_MANY_LIES: return "a case has more lies than bytes";
+    case READ_LARGE_ROOM: return "a case has a room of more than 65536 bytes";
+    case READ_BAD_CALLS:
+        return "a case has a bad call, or ends inside a call";
     default: return "a case asks an unknown question";
     }
 }

@@ -33,6 +33,12 @@ int command_backwards_cases(int count, char **words);
 /* This takes CASES ANSWERS. */
 int command_backwards(int count, char **words);
 
+/* This takes FILE BYTES. */
+int command_split(int count, char **words);
+
+/* This takes STATION TYPE VERSION TOTAL TRAILER. */
+int command_load(int count, char **words);
+
 /* These take SEED COUNT [KIND..]. */
 int command_cases(int count, char **words);
 int command_kinds(int count, char **words);

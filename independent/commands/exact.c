@@ -117,6 +117,73 @@ static int ahead_right(const posed *ask)
     return right;
 }
 
+/* Whether a call left the room as it has to: only an accepted piece writes, and
+ * just its bytes, which are its last ones, from the next byte due on. */
+static int room_right(const load_call *call, const ind_transfer *before,
+                      const ind_transfer *after, ind_answer answer,
+                      const uint8_t *old, const uint8_t *left, uint32_t lent)
+{
+    uint32_t from = 0, count = 0;
+    if (call->kind == CALL_PIECE && answer.number == IND_ACCEPTED) {
+        from = before->due;
+        count = after->due - before->due;
+    }
+    return from + count <= lent && count <= call->length
+        && memcmp(left, old, from) == 0
+        && memcmp(left + from, call->bytes + call->length - count, count)
+        == 0
+        && memcmp(left + from + count, old + from + count,
+                  lent - from - count) == 0;
+}
+
+/* A refused call, and finishing, leave the transfer as it was. */
+static int transfer_right(const load_call *call, const ind_transfer *before,
+                          const ind_transfer *after, ind_answer answer)
+{
+    if (call->kind != CALL_FINISH && answer.number == IND_ACCEPTED)
+        return after->opened;
+    return memcmp(before, after, sizeof *after) == 0;
+}
+
+/* A call with its bytes, and the room that is lent, in blocks: the answer is
+ * that of the same call elsewhere, and so is what it leaves. */
+static int call_right(loading *of, const load_call *call)
+{
+    uint32_t lent = lent_of(call, of->room_size);
+    ind_transfer before = of->transfer, after = before;
+    uint8_t *bytes = block(call->length), *room = block(lent);
+    uint8_t *old = block(lent);
+    load_call exact = { call->kind, call->lent, bytes, call->length };
+    ind_answer answer, elsewhere;
+    int right;
+    memcpy(bytes, call->bytes, call->length);
+    memcpy(room, of->room, lent);
+    memcpy(old, of->room, lent);
+    answer = answer_call(&after, &exact, room, lent);
+    elsewhere = make_call(of, call);
+    right = alike(answer, elsewhere)
+        && memcmp(&after, &of->transfer, sizeof after) == 0
+        && memcmp(room, of->room, lent) == 0
+        && room_right(call, &before, &after, answer, old, room, lent)
+        && transfer_right(call, &before, &after, answer);
+    free(bytes);
+    free(room);
+    free(old);
+    return right;
+}
+
+/* Every call of a case of load, each from where the one before it left off. */
+static int calls_right(const posed *ask)
+{
+    static loading of;
+    load_call call;
+    begin_loading(&of, ask);
+    while (next_call(&of, &call))
+        if (!call_right(&of, &call))
+            return 0;
+    return 1;
+}
+
 /* Lies of a case of ahead, in a block of their own; of another case none. */
 static uint8_t *block_of_lies(const asked *ask)
 {
@@ -132,7 +199,21 @@ static int left_right(const posed *ask)
 {
     if (asks_routes(ask->question))
         return listing_right(ask);
+    if (ask->question == ASK_LOAD)
+        return calls_right(ask);
     return ask->question != ASK_AHEAD || ahead_right(ask);
+}
+
+/* The bytes of a case's first or second string: calls are all there, however
+ * many. */
+static uint8_t *block_of_string(const asked *ask, int which)
+{
+    uint8_t *calls;
+    if (ask->question != ASK_LOAD || which != 0)
+        return block_of(&ask->files[which]);
+    calls = block(ask->calls.length);
+    memcpy(calls, ask->calls.bytes, ask->calls.length);
+    return calls;
 }
 
 static int case_right(const asked *ask)
@@ -142,7 +223,7 @@ static int case_right(const asked *ask)
     uint8_t *blocks[FILES], *lies = block_of_lies(ask);
     int right;
     for (int i = 0; i < FILES; i++) {
-        blocks[i] = block_of(&ask->files[i]);
+        blocks[i] = block_of_string(ask, i);
         exact.bytes[i] = blocks[i];
     }
     exact.lies = lies;

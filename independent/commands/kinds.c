@@ -9,6 +9,7 @@
 #include "commands.h"
 #include "generation.h"
 #include "generator/stand.h"
+#include "kinds_load.h"
 #include "listings.h"
 
 enum {
@@ -23,10 +24,30 @@ enum {
     NAMES_LARGEST = 2000
 };
 
+/* How often each number was answered. */
+typedef unsigned long number_counts[IND_NUMBERS];
+
+static void print_numbers(const char *name, const number_counts counted)
+{
+    for (int number = 0; number < IND_NUMBERS; number++)
+        if (counted[number] > 0)
+            printf("%s %d %lu\n", name, number, counted[number]);
+}
+
+/* Of a case of load each call counts, and each kind of call by itself. */
+static void count_calls(const posed *ask, number_counts counted[CALL_KINDS])
+{
+    static loading of;
+    load_call call;
+    begin_loading(&of, ask);
+    while (next_call(&of, &call))
+        counted[call.kind][make_call(&of, &call).number]++;
+}
+
 int command_kinds(int count, char **words)
 {
     static asked ask;
-    static unsigned long counted[QUESTIONS][IND_NUMBERS];
+    static number_counts counted[QUESTIONS], calls[CALL_KINDS];
     generation run;
     if (!read_generation(count, words, &run))
         return RUN_MISUSED;
@@ -34,13 +55,17 @@ int command_kinds(int count, char **words)
         posed given;
         build_case(&run, i, &ask);
         given = pose(&ask);
-        counted[ask.question][answer_case(&given).number]++;
+        if (ask.question == ASK_LOAD)
+            count_calls(&given, calls);
+        else
+            counted[ask.question][answer_case(&given).number]++;
     }
-    for (uint32_t asked_for = ASK_X1; asked_for < QUESTIONS; asked_for++)
-        for (int number = 0; number < IND_NUMBERS; number++)
-            if (counted[asked_for][number] > 0)
-                printf("%s %d %lu\n", question_name(asked_for), number,
-                       counted[asked_for][number]);
+    for (uint32_t asked_for = ASK_X1; asked_for < QUESTIONS; asked_for++) {
+        print_numbers(question_name(asked_for), counted[asked_for]);
+        for (uint32_t kind = CALL_OPEN;
+             asked_for == ASK_LOAD && kind < CALL_KINDS; kind++)
+            print_numbers(call_name(kind), calls[kind]);
+    }
     return RUN_WELL;
 }
 
@@ -635,28 +660,51 @@ static unsigned long count_name(const char *name)
     return ++names[i].count;
 }
 
-/* The question of a case, its answer's number and kind of place. */
-static void name_case(const asked *ask, char *name)
+/* Counts a case by its question, its answer's number and kind of place. Whether
+ * it is the first so. */
+static int count_case(const asked *ask)
 {
-    char place[PLACE_ROOM];
+    char place[PLACE_ROOM], name[NAME_ROOM];
     posed given = pose(ask);
     ind_answer answer = answer_case(&given);
     name_place(ask, answer, place);
     snprintf(name, NAME_ROOM, "%s %lu %s", question_name(ask->question),
              (unsigned long)answer.number, place);
+    return count_name(name) == 1;
 }
 
-/* Builds each case of a run and counts its name; hands each one on that is
- * the first of its name, with its index. */
+/* Counts each call of a case of load. Whether some call is the first of its
+ * name. */
+static int count_each_call(const asked *ask)
+{
+    static loading of;
+    posed given = pose(ask);
+    load_call call;
+    int first = 0;
+    begin_loading(&of, &given);
+    while (next_call(&of, &call)) {
+        ind_transfer before = of.transfer;
+        made_call made = { &call, &before, make_call(&of, &call), of.room,
+                           lent_of(&call, of.room_size) };
+        char kind[CALL_NAME_ROOM], name[NAME_ROOM];
+        name_call(&made, kind);
+        snprintf(name, NAME_ROOM, "%s %lu %s", call_name(call.kind),
+                 (unsigned long)made.answer.number, kind);
+        first |= count_name(name) == 1;
+    }
+    return first;
+}
+
+/* Builds each case of a run and counts its name, or those of its calls; hands
+ * each one on that is the first of a name, with its index. */
 static void name_cases(const generation *run,
                        void (*first)(const asked *ask, uint64_t index))
 {
     static asked ask;
     for (uint64_t i = run->first; i < run->end; i++) {
-        char name[NAME_ROOM];
         build_case(run, i, &ask);
-        name_case(&ask, name);
-        if (count_name(name) == 1)
+        if (ask.question == ASK_LOAD ? count_each_call(&ask)
+                                     : count_case(&ask))
             first(&ask, i);
     }
 }

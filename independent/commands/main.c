@@ -25,6 +25,10 @@ static const command commands[] = {
       "plan FILE PLAN ..     an X.2 and a plan, print what yardplan prints" },
     { "plan-case", NULL, command_plan_case,
       "plan-case SEED ..     write an X.2 and a plan, print what to ask with" },
+    { "split", NULL, command_split,
+      "split FILE BYTES      print a file's pieces of at most so many bytes" },
+    { "load", NULL, command_load,
+      "load STATION ..       read such pieces, print the file they make" },
     { "cases", NULL, command_cases,
       "cases SEED COUNT ..   write so many generated cases" },
     { "kinds", NULL, command_kinds,
@@ -56,7 +60,7 @@ static int usage(void)
         fprintf(stderr, "  %s\n", commands[i].usage);
     fputs("after SEED COUNT may stand kinds: x1 x2 pair track point "
           "coordinate record\nroutes header1 header2 routes2 degrees "
-          "point-degrees ahead x1-version-1; and\nsmall, for small files "
+          "point-degrees load ahead x1-version-1;\nand small, for small files "
           "alone\n",
           stderr);
     return RUN_MISUSED;

@@ -3,8 +3,8 @@
  * the lookup of tracks by its ticket 7, long lines by its ticket 8, names by
  * its ticket 10, heights by its ticket 11 and fixed listings by both listers
  * of its ticket 12, each asserted of the core; the check of its ticket 13,
- * routes read backwards; degrees by its ticket 14; and what lies ahead by its
- * ticket 9. */
+ * routes read backwards; degrees by its ticket 14; what lies ahead by its
+ * ticket 9; and files in pieces by its ticket 6. */
 #include "self.h"
 
 #include <string.h>
@@ -1437,6 +1437,7 @@ int command_self(int count, char **words)
     backwards_examples();
     degrees_examples();
     ahead_examples();
+    load_examples();
     if (count == 1)
         depot_examples(words[0]);
     printf("%lu passed, %lu failed\n", passed, failed);

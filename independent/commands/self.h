@@ -63,6 +63,10 @@ void degrees_examples(void);
  * its cases. */
 void ahead_examples(void);
 
+/* A file in pieces: each refusal and their order, what is left, two versions,
+ * and the form of its cases. */
+void load_examples(void);
+
 /* The first depot beside its plan, from the folder of the examples. */
 void depot_examples(const char *folder);
 

@@ -705,8 +705,8 @@ static void cover_examples(void)
     ensure(stops == (1 << IND_STOPS) - 1, "generated cases have each stop");
     ensure(full_stops == (1 << IND_STOPS) - 1 - (1 << IND_NO_STOP),
            "each with 64 objects too");
-    ensure(numbers == (1 << IND_NUMBERS) - 1 - (1 << IND_STEPS),
-           "and each number but 14");
+    ensure(numbers == (1 << (IND_ROOM + 1)) - 1 - (1 << IND_STEPS),
+           "and each number up to 15 but 14");
 }
 
 void ahead_examples(void)

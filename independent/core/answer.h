@@ -22,6 +22,11 @@ enum {
     IND_OUT_OF_RANGE = 13,
     IND_STEPS = 14,
     IND_ROOM = 15,
+    /* Of a transfer, by 02's ticket 6; 16 is for a file that is not read here.
+     */
+    IND_IDENTITY = 17,
+    IND_ORDER = 18,
+    IND_PIECE = 19,
     IND_NUMBERS
 };
 

@@ -30,6 +30,7 @@
 #include "routes.h"
 #include "choices.h"
 #include "ahead.h"
+#include "load.h"
 #include "plan.h"
 
 #endif

@@ -13,6 +13,10 @@ posed pose(const asked *ask)
         given.bytes[i] = ask->files[i].bytes;
         given.length[i] = ask->files[i].length;
     }
+    if (ask->question == ASK_LOAD) {
+        given.bytes[0] = ask->calls.bytes;
+        given.length[0] = ask->calls.length;
+    }
     given.lies = ask->lies;
     return given;
 }
@@ -33,6 +37,7 @@ const char *question_name(uint32_t asked_for)
         [ASK_ROUTES2] = "routes2",
         [ASK_DEGREES] = "degrees",
         [ASK_POINT_DEGREES] = "point-degrees",
+        [ASK_LOAD] = "load",
         [ASK_AHEAD] = "ahead",
         [ASK_X1_VERSION_1] = "x1-version-1"
     };
@@ -67,7 +72,7 @@ uint32_t first_of(uint32_t asked_for)
 int is_asked_unnamed(uint32_t asked_for)
 {
     return is_question(asked_for) && asked_for == first_of(asked_for)
-        && asked_for != ASK_AHEAD;
+        && asked_for != ASK_LOAD && asked_for != ASK_AHEAD;
 }
 
 int asks_pair(uint32_t asked_for)

@@ -2,6 +2,7 @@
 #ifndef ASKED_H
 #define ASKED_H
 
+#include "calls.h"
 #include "core/ahead.h"
 #include "stored.h"
 
@@ -23,9 +24,10 @@ enum {
     /* Coordinate and point in degrees, by its ticket 14. */
     ASK_DEGREES,
     ASK_POINT_DEGREES,
-    /* The number between is kept for a question that is still to come. What
-     * lies ahead, by its ticket 9. */
-    ASK_AHEAD = 15,
+    /* A file in pieces, by its ticket 6: a sequence of calls. */
+    ASK_LOAD,
+    /* What lies ahead, by its ticket 9. */
+    ASK_AHEAD,
     ASK_X1_VERSION_1,
     QUESTIONS
 };
@@ -48,18 +50,25 @@ enum {
     AHEAD_BYTES
 };
 
+/* The number of a case of load: how many bytes the room has. */
+enum {
+    LOAD_ROOM
+};
+
 /* A case of ahead has as many lies as one of its numbers says, and their bytes
  * where those are at most LIES_ROOM: of a longer list, as of an over-long
- * file, it counts that it is too long. */
+ * file, it counts that it is too long. A case of load has calls for its first
+ * file; of any other case they mean nothing. */
 typedef struct {
     uint32_t question;
     uint32_t numbers[NUMBERS];
     stored files[FILES];
     uint8_t lies[LIES_ROOM];
+    sequence calls;
 } asked;
 
-/* A case as the core is to see it: the bytes of files and lies wherever they
- * stand. */
+/* A case as the core is to see it: the bytes of files, of calls and of lies
+ * wherever they stand. */
 typedef struct {
     uint32_t question;
     uint32_t numbers[NUMBERS];
@@ -82,7 +91,7 @@ uint32_t first_of(uint32_t asked_for);
 uint32_t second_of(uint32_t asked_for);
 
 /* Whether it is asked where no question is named: not the second of two, nor
- * ahead. */
+ * load or ahead. */
 int is_asked_unnamed(uint32_t asked_for);
 
 /* Whether it is about both files of a station. */

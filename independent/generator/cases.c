@@ -7,6 +7,7 @@
 #include "ahead.h"
 #include "core/core.h"
 #include "damage.h"
+#include "load.h"
 #include "make.h"
 #include "questions.h"
 
@@ -243,6 +244,59 @@ static void ask_ahead(source *from, const wanted *kinds, asked *ask)
         spoil(from, 1, file);
 }
 
+/* A right file and its next data version: an X.2 with one joint more, or a file
+ * in which the version alone is another. */
+static void two_versions(source *from, const wanted *kinds, int application,
+                         stored *one, stored *next)
+{
+    static yard made;
+    uint32_t version;
+    if (application && once_in(from, 2)) {
+        size_wanted size = some_size(from, kinds);
+        uint32_t station = some_station(from);
+        make_yard(from, size, station, &made);
+        lay_out(&made, NULL, one);
+        add_joint(from, &made);
+        lay_out(&made, NULL, next);
+        return;
+    }
+    right_file(from, kinds, application, one);
+    version = ind_two(one->bytes, IND_DATA_VERSION_PLACE);
+    next->length = one->length;
+    memcpy(next->bytes, one->bytes, one->length);
+    put_two(next->bytes, IND_DATA_VERSION_PLACE,
+            version % IND_LARGEST_OF_TWO + 1);
+    seal(next);
+}
+
+/* One data version and the other, or one file, damaged in one case of four:
+ * there is no other version then. What is damaged keeps its first fields and
+ * its last. */
+static void ask_load(source *from, const wanted *kinds, asked *ask)
+{
+    enum { LEAST = IND_STATION_PLACE + IND_OFFSET_SIZE + IND_CHECKSUM_SIZE };
+    int application = (int)draw(from, 2), first = (int)draw(from, 2);
+    stored *file = &ask->files[0], *other = &ask->files[1];
+    sent_files sent = { file, NULL };
+    if (once_in(from, 4)) {
+        two_versions(from, kinds, application, file, other);
+        sent.file = &ask->files[first];
+        sent.other = &ask->files[1 - first];
+    } else {
+        right_file(from, kinds, application, file);
+        if (once_in(from, 3))
+            spoil(from, application, file);
+        while (file->length < LEAST)
+            file->bytes[file->length++] = 0;
+    }
+    some_calls(from, &sent, ask);
+    file->length = other->length = 0;
+    for (int i = LOAD_ROOM + 1; i < NUMBERS; i++)
+        ask->numbers[i] = once_in(from, 4) ? (uint32_t)draw_bits(from) : 0;
+    if (once_in(from, 8))
+        random_bytes(from, other);
+}
+
 static void ask_of_geography(source *from, const wanted *kinds, asked *ask)
 {
     stored *file = &ask->files[0];
@@ -361,6 +415,7 @@ void build_case(const generation *run, uint64_t index, asked *ask)
     case ASK_COORDINATE: ask_coordinate(&from, &run->kinds, ask); break;
     case ASK_RECORD: ask_record(&from, &run->kinds, ask); break;
     case ASK_ROUTES: ask_routes(&from, &run->kinds, ask); break;
+    case ASK_LOAD: ask_load(&from, &run->kinds, ask); break;
     case ASK_AHEAD: ask_ahead(&from, &run->kinds, ask); break;
     case ASK_HEADER1:
     case ASK_HEADER2: ask_header(&from, &run->kinds, ask); break;
