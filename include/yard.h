@@ -1,16 +1,16 @@
 /* The station files of T/VSTR 021-2024, for C and for whatever can call C: track geography (X.1) and fixed application data (X.2). Verdicts
  * of a file and of a pair, and the questions on them: header, track, point, coordinate, these two in degrees, record, routes, and what lies
- * ahead. The library is libyard.a; tools/library makes it, for x86-64 Linux, and lays it out beside this header in target/libyard. Nothing else
- * is linked with it.
+ * ahead; and a loader, which gathers a file from pieces and joins no two versions. The library is libyard.a; tools/library makes it, for x86-64
+ * Linux, and lays it out beside this header in target/libyard. Nothing else is linked with it.
  *
  * An X.1 has structure version 1 or 2. In version 2 each point has a height at its end, and so 15 bytes for 13; all else is alike. Every
  * function on an X.1 takes both, but for yard_x1_version_1. An X.2 has structure version 1.
  *
  * What every function has in common
  *
- * - A file, a list of lies, and every output, is a pointer to bytes and after it their number. The pointer needs no alignment. Where the number
- *   is 0 the pointer may be null, and the answer is that of any other pointer. Otherwise it points to so many bytes, which no one changes during the
- *   call; an output overlaps no other argument.
+ * - A file, a list of lies, a piece, and every output, is a pointer to bytes and after it their number. The pointer needs no alignment. Where
+ *   the number is 0 the pointer may be null, and the answer is that of any other pointer. Otherwise it points to so many bytes, which no one
+ *   changes during the call; an output overlaps no other argument.
  * - No byte outside these is read or written. Nothing is kept between calls and nothing is shared, so that calls may run at the same time.
  *   There is no heap, and every call returns. A call takes at most 14 KB of stack on an X.1, 22 KB on an X.2 and 25 KB on a pair;
  *   yard_routes takes at most 250 KB at limit 512, some 400 bytes for each turnout that a walk enters at the front. yard_routes_flat takes
@@ -394,19 +394,19 @@ enum yard_stop {
 
 /* ---- a file in pieces: a loader that joins no two versions */
 
-/* A transfer is opened with the identity of a file, five numbers: its station, its file type (1 or 2), its data version, its total length, and its
- * trailer, which is its last four bytes as a number, low byte first. Every piece repeats them, so that a piece of another file or of another data
- * version is refused where it comes. A file is whole where finishing accepts it, and not before.
+/* A transfer is opened with the identity of a file, five numbers: its station, its file type (1 or 2), its data version, its total length, and
+ * its trailer, which is its last four bytes as a number, low byte first. Every piece repeats them, so that a piece of another file or of another
+ * data version is refused where it comes. A file is whole where finishing accepts it, and not before.
  *
- * A piece is seven numbers and then bytes of the file: the five of the identity, the place in the file that its bytes start at, and how many they
- * are. Each number is in groups of seven bits, one to a byte, low group first; the top bit is set on all groups but the last. It has the shortest
- * form and at most 32 bits.
+ * A piece is seven numbers and then bytes of the file: the five of the identity, the place in the file that its bytes start at, and how many
+ * they are. Each number is in groups of seven bits, one to a byte, low group first; the top bit is set on all groups but the last. It has the
+ * shortest form and at most 32 bits.
  *
- * The caller keeps two things and lends them to each call. The state has YARD_LOAD_STATE_SIZE bytes; bytes of a longer one after these are left as
- * they were. The room is where the file is gathered: its bytes stand in it from the first on. Both are the same throughout; the room may be lent
- * shorter or longer from call to call. A state may be kept and lent again later, and so a transfer that broke off goes on: the next byte due is
- * yard_unsigned(state, YARD_LOAD_DUE). Bytes that are no state, all zero for instance, have nothing opened: a state is at least so many bytes, of
- * which the first value is 1. */
+ * The caller keeps two things and lends them to each call. The state has YARD_LOAD_STATE_SIZE bytes; bytes of a longer one after these are left
+ * as they were. The room is where the file is gathered: its bytes stand in it from the first on. Both are the same throughout; the room may be
+ * lent shorter or longer from call to call. A state may be kept and lent again later, and so a transfer that broke off goes on: the next byte
+ * due is yard_unsigned(state, YARD_LOAD_DUE). Bytes that are no state, all zero for instance, have nothing opened: a state is at least so many
+ * bytes, of which the first value is 1. */
 #define YARD_LOAD_STATE_SIZE 28
 
 /* The values of a state, four bytes each, low byte first. */
@@ -421,22 +421,22 @@ enum yard_load_value {
     YARD_LOAD_VALUES
 };
 
-/* Opens a transfer. A file type other than 1 or 2, or a station, version or trailer of more than 32 bits: YARD_QUESTION. A total under 68 (type 1), under
- * 69 (type 2), over 65,535 or over the bytes of the room, or a state that is too short: YARD_ROOM. A refused opening changes nothing, and a transfer under
- * way goes on. A granted one forgets all, also with the same identity; no byte of the room is written. */
+/* Opens a transfer. A file type other than 1 or 2, or a station, version or trailer of more than 32 bits: YARD_QUESTION. A total under 68 (type
+ * 1), under 69 (type 2), over 65,535 or over the bytes of the room, or a state that is too short: YARD_ROOM. A refused opening changes nothing,
+ * and a transfer under way goes on. A granted one forgets all, also with the same identity; no byte of the room is written. */
 uint64_t yard_load_open(uint8_t *state, size_t state_length, size_t station, size_t type, size_t version, size_t total, size_t trailer,
                         const uint8_t *room, size_t room_length);
 
-/* Takes a piece. In this order: a bad number (cut off by the end, not the shortest form, over 32 bits), no bytes, or a byte count other than the count
- * of bytes that follow: YARD_PIECE. Nothing opened, or another identity: YARD_IDENTITY. A start that is not the next byte due: YARD_ORDER. Bytes beyond
- * the total: YARD_PIECE. A room under the total: YARD_ROOM. All are at place 0, and a refused piece changes nothing. The bytes of an accepted one stand in
- * the room from its start on, nothing else of the room is written, and the next byte due is the one behind them. */
+/* Takes a piece. In this order: a bad number (cut off by the end, not the shortest form, over 32 bits), no bytes, or a byte count other than the
+ * count of bytes that follow: YARD_PIECE. Nothing opened, or another identity: YARD_IDENTITY. A start that is not the next byte due: YARD_ORDER.
+ * Bytes beyond the total: YARD_PIECE. A room under the total: YARD_ROOM. All are at place 0, and a refused piece changes nothing. The bytes of
+ * an accepted one stand in the room from its start on, nothing else of the room is written, and the next byte due is the one behind them. */
 uint64_t yard_load_piece(uint8_t *state, size_t state_length, const uint8_t *piece, size_t piece_length, uint8_t *room, size_t room_length);
 
-/* Finishes a transfer: the reader judges the file, which is the first bytes of the room, as many as the total. Nothing opened, or bytes are still due:
- * YARD_ORDER. A room under the total: YARD_ROOM. Both are at place 0. Then the number and the place of yard_x1 or yard_x2, by the identity's file
- * type. Then YARD_IDENTITY at place 0: the file's station, data version, length or trailer is not the identity's. 0: the file is right, and it is the one
- * that was opened. It changes nothing: asked again it answers the same, and the transfer stays open. */
+/* Finishes a transfer: the reader judges the file, which is the first bytes of the room, as many as the total. Nothing opened, or bytes are
+ * still due: YARD_ORDER. A room under the total: YARD_ROOM. Both are at place 0. Then the number and the place of yard_x1 or yard_x2, by the
+ * identity's file type. Then YARD_IDENTITY at place 0: the file's station, data version, length or trailer is not the identity's. 0: the file is
+ * right, and it is the one that was opened. It changes nothing: asked again it answers the same, and the transfer stays open. */
 uint64_t yard_load_finish(const uint8_t *state, size_t state_length, const uint8_t *room, size_t room_length);
 
 #ifdef __cplusplus

@@ -3,7 +3,7 @@ use mathlib.Core.Path.{_≡_, refl}
 use mathlib.Core.List.{List}
 use Prim.Native.Nat.{ℕ}
 use Rattle.verdict.specs.Answers.{Answer, answered, refused, answerNumber}
-use Rattle.promises.proofs.OfExports.{yard-checksum-determined, yard-x1-determined, yard-x1-version-1-determined, yard-x2-determined, yard-pair-determined, yard-header1-determined, yard-header2-determined, yard-track-determined, yard-point-determined, yard-coordinate-determined, yard-degrees-determined, yard-point-degrees-determined, yard-record-determined, yard-routes-determined, yard-routes-flat-determined, yard-ahead-determined}
+use Rattle.promises.proofs.OfExports.{yard-checksum-determined, yard-x1-determined, yard-x1-version-1-determined, yard-x2-determined, yard-pair-determined, yard-header1-determined, yard-header2-determined, yard-track-determined, yard-point-determined, yard-coordinate-determined, yard-degrees-determined, yard-point-degrees-determined, yard-record-determined, yard-routes-determined, yard-routes-flat-determined, yard-ahead-determined, yard-load-open-determined, yard-load-piece-determined, yard-load-finish-determined}
 use Rattle.promises.proofs.Engines.{calls-agree}
 use Rattle.c_values.specs.Shown.{leaves}
 use Rattle.export_theorems.proofs.Fit.{track-back, point-back, coordinate-back, degrees-back, point-degrees-back, record-back}
@@ -36,8 +36,15 @@ use Rattle.ahead_theorems.proofs.Answered as ahead
 use Rattle.ahead_theorems.proofs.Legal.{ahead-few, ahead-once, ahead-steps, walk-goes-on}
 use Rattle.ahead_theorems.proofs.Ends.{none-ahead}
 use Rattle.ahead_theorems.proofs.Ways.{from-boundary, route-ahead}
+use Rattle.seven_bits.proofs.Forms.{form-iff}
+use Rattle.transfer_theorems.proofs.Which as transfer
+use Rattle.transfer_theorems.proofs.Runs as runs
+use Rattle.transfer_theorems.proofs.Sent.{arrives}
+use Rattle.transfer_theorems.proofs.Forms.{head-laid}
 use Rattle.export_theorems.proofs.Ahead.{ahead-back}
-use Rattle.demands.specs.Demands.{Returns, Accepts, Lists, LooksAhead}
+use Rattle.export_theorems.proofs.Load.{refused-leaves}
+use Rattle.export_theorems.proofs.Hosts.{c-runs, c-answers, c-never-joined}
+use Rattle.demands.specs.Demands.{Returns, Accepts, Lists, LooksAhead, Loads}
 
 -- a refusal leaves every byte of an output
 output-kept : (a : Answer) (out : List ℕ) → (answerNumber a ≡ 0 → ⊥) → leaves a out ≡ out
@@ -66,6 +73,10 @@ returns = record {
   words-kept = yard.refused-keeps;
   look-ahead = yard-ahead-determined;
   objects-kept = λ f g offset link lies out n. ahead.refused-keeps f g offset link lies out n;
+  load-opening = yard-load-open-determined;
+  load-piece = yard-load-piece-determined;
+  load-finishing = yard-load-finish-determined;
+  transfer-kept = refused-leaves;
 }
 
 -- PROMISE 2
@@ -143,4 +154,24 @@ looks-ahead = record {
   from-boundary = from-boundary;
   route-ahead = route-ahead;
   returned = λ f g offset link lies room. ahead-back f g offset link lies room;
+}
+
+-- A LOADER THAT CANNOT JOIN TWO VERSIONS
+pub loads : Loads
+loads = record {
+  which-opening = λ i room n p. transfer.which-opening i room n p;
+  which-piece = λ t s room bytes n p. transfer.which-piece t s room bytes n p;
+  which-finishing = λ t room n p. transfer.which-finishing t room n p;
+  refused-keeps = runs.refused-keeps;
+  finishing-keeps = runs.finishing-keeps;
+  openings-write-nothing = runs.openings-write-nothing;
+  gathers = runs.since-opening;
+  one-version = runs.one-version;
+  never-joined = runs.never-joined;
+  arrives = arrives;
+  number-read = form-iff;
+  head-laid = head-laid;
+  host-runs = c-runs;
+  host-answers = c-answers;
+  host-never-joined = λ h n i o cs m e head tail p q. c-never-joined h n i o cs m e head tail p q;
 }

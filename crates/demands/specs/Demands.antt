@@ -9,7 +9,7 @@ use mathlib.Core.List.{List, [], _∷_, _++_, reverse, List·Memᴰ}
 use lib.Dec.{T}
 use lib.IntN.{ℤ, pos, natAbs, _*ℤ_}
 use lib.Signed.{_<ℤ_}
-use lib.ListN.{length, getD}
+use lib.ListN.{length, getD, take}
 use lib.Ieee.{Float, binary64, toBits, lt}
 use Rattle.verdict.specs.declared.Fault.{Fault}
 use Rattle.verdict.specs.declared.Verdict.the-variants as verdict
@@ -79,10 +79,24 @@ use Rattle.ahead.specs.declared.AheadAnswer.the-variants as ahead
 use Rattle.ahead.specs.Asked.{aheadAnswer, aheadFile, aheadAsked, leftAsked as leftAhead}
 use Rattle.ahead_theorems.specs.Stops.{EndsFor}
 use Rattle.ahead_theorems.specs.Asked.{InRange, AheadAnswered, objectsOf, linkOf, LiesAhead, Listed}
+use Rattle.octets.specs.Octets.{numAt}
+use Rattle.envelope.specs.Seal.{dataAt}
+use Rattle.seven_bits.specs.Numbers.{found, numberAt as numberRead, Form}
+use Rattle.transfer.specs.declared.Identity.{Identity}
+use Rattle.transfer.specs.declared.State.{State}
+use Rattle.transfer.specs.Calls.{identityOf, openVerdict, statedIn, pieceVerdict, readerOf, finishVerdict}
+use Rattle.transfer.specs.Pieces.{pieceOf}
+use Rattle.transfer.specs.Heads.{headIn}
+use Rattle.transfer_theorems.specs.Checks.{openChecks, pieceChecks, FinishAnswered}
+use Rattle.transfer_theorems.specs.Runs.{Call, opening, finishing, World, lent, answer, after, run, takenSince, runSince, Gathered, OneVersion}
+use Rattle.transfer_theorems.specs.Sent.{together, EachSome, Arrives}
+use Rattle.c_values.specs.Words.{numberPart}
 use Rattle.c_values.specs.Shown.{leaves}
 use Rattle.c_values.specs.Degrees.{degreesLaid}
 use Rattle.c_values.specs.Ahead.{aheadShown}
 use Rattle.export_theorems.specs.Ahead.{AheadBack}
+use Rattle.export_theorems.specs.TakenApart.{TakenApart}
+use Rattle.export_theorems.specs.Load.{Host, worldIn, Lent, returned, hostAfter, hostRun}
 use Rattle.export_theorems.specs.Fit.{trackSigned, pointSigned, coordinateSigned, degreesSigned, recordSigned, AnswerBack, DegreesBack}
 use Rattle.exports.proofs.yard_checksum.Kinds as checksum-kinds
 use Rattle.exports.proofs.yard_checksum.Reads as checksum-reads
@@ -112,6 +126,12 @@ use Rattle.exports.proofs.yard_record.Kinds as record-kinds
 use Rattle.exports.proofs.yard_record.Reads as record-reads
 use Rattle.exports.proofs.yard_ahead.Kinds as ahead-kinds
 use Rattle.exports.proofs.yard_ahead.Reads as ahead-reads
+use Rattle.exports.proofs.yard_load_open.Kinds as load-open-kinds
+use Rattle.exports.proofs.yard_load_open.Reads as load-open-reads
+use Rattle.exports.proofs.yard_load_piece.Kinds as load-piece-kinds
+use Rattle.exports.proofs.yard_load_piece.Reads as load-piece-reads
+use Rattle.exports.proofs.yard_load_finish.Kinds as load-finish-kinds
+use Rattle.exports.proofs.yard_load_finish.Reads as load-finish-reads
 use Rattle.exports.proofs.yard_routes.Kinds as routes-kinds
 use Rattle.exports.proofs.yard_routes.Reads as routes-reads
 use Rattle.exports.proofs.yard_routes_flat.Kinds as routes-flat-kinds
@@ -147,6 +167,9 @@ pub record Returns : Type 0 where
   pub list-flat : Determined 3 routes-flat-kinds.ps routes-flat-kinds.r routes-flat-reads.Pre routes-flat-reads.Post
   -- 01: Form.4
   pub look-ahead : Determined 4 ahead-kinds.ps ahead-kinds.r ahead-reads.Pre ahead-reads.Post
+  pub load-opening : Determined 2 load-open-kinds.ps load-open-kinds.r load-open-reads.Pre load-open-reads.Post
+  pub load-piece : Determined 3 load-piece-kinds.ps load-piece-kinds.r load-piece-reads.Pre load-piece-reads.Post
+  pub load-finishing : Determined 2 load-finish-kinds.ps load-finish-kinds.r load-finish-reads.Pre load-finish-reads.Post
   -- an output after a refusal, the words lent to a listing after one, and the bytes lent for the objects ahead
   -- 01: Ask.6
   pub output-kept : (a : Answer) (out : List ℕ) → (answerNumber a ≡ 0 → ⊥) → leaves a out ≡ out
@@ -156,6 +179,9 @@ pub record Returns : Type 0 where
   -- 02: Ticket9.9
   pub objects-kept : (f g : List ℕ) (offset link : ℕ) (lies out : List ℕ)
       → (answerNumber (aheadAnswer (aheadAsked f g offset link lies (length out))) ≡ 0 → ⊥) → leftAhead f g offset link lies out ≡ out
+  -- and the state and the room that a C host lends to a call of the loader
+  -- 02: Ticket6.12
+  pub transfer-kept : (h : Host) (c : Call) → (numberPart (returned h c) ≡ 0 → ⊥) → hostAfter h c ≡ h
 
 -- ---- 2. 'A file is accepted exactly when it obeys the standard as document 01 reads it. Every record handed out has the value that its
 -- bytes mean; a coordinate is the exact interpolated value to the nearest milliarcsecond.'
@@ -353,3 +379,64 @@ pub record LooksAhead : Type 0 where
   -- 02: Ticket9.7
   pub returned : (f g : List ℕ) (offset link : ℕ) (lies : List ℕ) (room : ℕ)
       → AheadBack (aheadAsked f g offset link lies room) (aheadShown (aheadAsked f g offset link lies room))
+
+-- ---- Above the reader: a loader that cannot join two versions (02, ticket 6). i is an identity, t a state of the loader, s the bytes of a piece, w
+-- a state with a room and `cs` any sequence of calls; n bytes of the room are lent. Every byte of a piece and of a file is below 256.
+pub record Loads : Type 0 where
+  -- which number and place each call answers, for every state, also one that no calls lead to
+  -- 02: Ticket6.8
+  pub which-opening : (i : Identity) (room n p : ℕ)
+      → ((numberIn (openVerdict i room) ≡ n) × (placeIn (openVerdict i room) ≡ p)) ↔ Reported (openChecks i room) n p
+  -- 02: Ticket6.9
+  pub which-piece : (t : State) (s : List ℕ) (room : ℕ) → ((k : ℕ) → getD s k 0 < 256) → (n p : ℕ)
+      → ((numberIn (pieceVerdict t s room) ≡ n) × (placeIn (pieceVerdict t s room) ≡ p)) ↔ Reported (pieceChecks t s room) n p
+  -- 02: Ticket6.10
+  pub which-finishing : (t : State) (room : List ℕ) (n p : ℕ)
+      → ((numberIn (finishVerdict t room) ≡ n) × (placeIn (finishVerdict t room) ≡ p)) ↔ FinishAnswered t room n p
+  -- a refused call changes neither state nor room, finishing changes nothing, and openings write no byte
+  -- 02: Ticket6.6
+  pub refused-keeps : (w : World) (c : Call) (t : Fault) → answer w c ≡ verdict.Refused t → after w c ≡ w
+  -- 02: Ticket6.6
+  pub finishing-keeps : (w : World) (n : ℕ) → after w (finishing n) ≡ w
+  -- 02: Ticket6.12
+  pub openings-write-nothing : (w : World) (n : ℕ) (i : Identity) → after w (opening n i) .room ≡ w .room
+  -- after any run of calls since a granted opening the room holds the bytes of the pieces accepted since, in order and without gap, all of them under
+  -- one identity; what lies behind is as it was
+  -- 02: Ticket6.4
+  pub gathers : (w : World) (n : ℕ) (i : Identity) → answer w (opening n i) ≡ verdict.Accepted → (cs : List Call)
+      → Gathered (takenSince w n i cs) (runSince w n i cs)
+  -- a finishing that is accepted means: the reader accepts exactly those bytes, and their header, length and trailer are the identity's
+  -- 02: Ticket6.5
+  pub one-version : (w : World) (n : ℕ) (i : Identity) → answer w (opening n i) ≡ verdict.Accepted → (cs : List Call) (m : ℕ)
+      → answer (runSince w n i cs) (finishing m) ≡ verdict.Accepted → OneVersion (takenSince w n i cs) (runSince w n i cs .room)
+  -- THE INCIDENT was the head of one data version joined to the tail of the next. No accepted file holds bytes of pieces with two identities, and every
+  -- piece in it stated the data version that stands in its header.
+  -- 02: Ticket6.4
+  pub never-joined : (w : World) (n : ℕ) (i : Identity) → answer w (opening n i) ≡ verdict.Accepted → (cs : List Call) (m : ℕ)
+      → answer (runSince w n i cs) (finishing m) ≡ verdict.Accepted
+      → (head tail : List ℕ) → List·Memᴰ head (takenSince w n i cs .pieces) → List·Memᴰ tail (takenSince w n i cs .pieces)
+      → (statedIn head .identity ≡ statedIn tail .identity)
+      × (statedIn tail .identity .version ≡ numAt 2 (take (takenSince w n i cs .identity .total) (runSince w n i cs .room)) dataAt)
+  -- and it refuses no one who keeps to the ticket: a file that the reader accepts, opened with its own identity in a room that holds it and sent in
+  -- pieces of any sizes, arrives
+  -- 02: Ticket6.4
+  pub arrives : (f : List ℕ) → ((k : ℕ) → getD f k 0 < 256) → readerOf (identityOf f .kind) f ≡ verdict.Accepted
+      → (parts : List (List ℕ)) → EachSome parts → together parts ≡ f → (w : World) (n : ℕ) → length f ≤ length (lent n w) → Arrives w n f parts
+  -- a number of a piece: what is read is what is written for it, and each number has just one form that is read
+  -- 02: Ticket6.3
+  pub number-read : (s : List ℕ) (at v next : ℕ) → ((k : ℕ) → getD s k 0 < 256) → (numberRead s at ≡ found v next) ↔ Form s at v next
+  -- what is laid out to be sent, the numbers and then the bytes, is a piece
+  pub head-laid : (i : Identity) (start : ℕ) (bytes : List ℕ)
+      → take (headIn i start (length bytes) .length) (headIn i start (length bytes) .bytes) ++ bytes ≡ pieceOf i start bytes
+  -- a C host keeps the state in bytes, 28 or more, and the room. After any run of calls these are the loader's, and each call is returned the loader's
+  -- number and place
+  pub host-runs : (h : Host) → Lent (h .state) → (cs : List Call) → worldIn (hostRun h cs) ≡ run (worldIn h) cs
+  pub host-answers : (h : Host) → Lent (h .state) → (cs : List Call) (c : Call)
+      → TakenApart (returned (hostRun h cs) c) (numberIn (answer (run (worldIn h) cs) c)) 0 (placeIn (answer (run (worldIn h) cs) c))
+  -- so the incident does not happen to it, whatever its bytes were before an opening that returned 0
+  pub host-never-joined : (h : Host) (n : ℕ) (i : Identity) → numberPart (returned h (opening n i)) ≡ 0 → (cs : List Call) (m : ℕ)
+      → numberPart (returned (hostRun h (opening n i ∷ cs)) (finishing m)) ≡ 0
+      → (head tail : List ℕ) → List·Memᴰ head (takenSince (worldIn h) n i cs .pieces) → List·Memᴰ tail (takenSince (worldIn h) n i cs .pieces)
+      → (statedIn head .identity ≡ statedIn tail .identity)
+      × (statedIn tail .identity .version
+      ≡ numAt 2 (take (takenSince (worldIn h) n i cs .identity .total) (hostRun h (opening n i ∷ cs) .room)) dataAt)

@@ -1,2 +1,3 @@
 pub mod Backwards
 pub mod Ahead
+pub mod Transfer

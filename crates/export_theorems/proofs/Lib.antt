@@ -5,3 +5,5 @@ pub mod Fitting
 pub mod Fit
 pub mod Doubles
 pub mod Ahead
+pub mod Load
+pub mod Hosts

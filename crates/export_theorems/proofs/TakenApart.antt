@@ -47,7 +47,7 @@ word-parts number file place n f p = record {
 
 -- ---- the verdicts
 
-verdict-parts : (v : Verdict) → placeIn v < placeOver → TakenApart (verdictShown v) (numberIn v) 0 (placeIn v)
+pub verdict-parts : (v : Verdict) → placeIn v < placeOver → TakenApart (verdictShown v) (numberIn v) 0 (placeIn v)
 verdict-parts verdict.Accepted h = word-parts 0 0 0 (omega arith) (omega arith) h
 verdict-parts (verdict.Refused t) h = word-parts (numberOf (t .reason)) 0 (t .place) (number-fits (t .reason)) (omega arith) h
 

@@ -1,3 +1,4 @@
 pub mod TakenApart
 pub mod Fit
 pub mod Ahead
+pub mod Load

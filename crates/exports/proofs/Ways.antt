@@ -18,8 +18,14 @@ use Rattle.route_lister.specs.declared.RoutesAnswer.{RoutesAnswer}
 use Rattle.route_lister.specs.declared.RoutesAnswer.the-variants.{Listed, Refused}
 use Rattle.route_lister.specs.Answered.{refusedFor, judged, answerAt, routesAnswer}
 use Rattle.route_question.specs.Routes.{routesAsked}
+use Rattle.transfer.specs.declared.Identity.{Identity}
+use Rattle.transfer.specs.declared.State.{State}
+use Rattle.transfer.specs.declared.Step.{Step}
+use Rattle.transfer.specs.Calls.{openVerdict, opened, openStep, pieceVerdict, moved, pieceStep, pieceRoom}
 use Rattle.c_values.specs.Words.{answerWord, valueWords}
 use Rattle.c_values.specs.Shown.{wordsShown, wordsLeave, shown, leaves, countsSize, wordsLeft}
+use Rattle.c_values.specs.Load.{stateIn, stateAnswer, openShown, openLeaves, pieceShown, pieceLeaves}
+use Rattle.c_values.proofs.Stored.{after-call, piece-shown}
 
 -- ---- a question: an answer of any kind, which `shape` makes the one shape. `asked` is the answer that is due, `got` the one that a function gave,
 -- and `way` the case that it was found to be
@@ -91,3 +97,30 @@ module _ (counts : List ℕ) (h : length counts < countsSize) where
 pub listed-words : (counts words listed : List ℕ) → countsSize ≤ length counts → listed ≡ wordsLeft counts words listed
 unfolding wordsLeft
 listed-words counts words listed h = sym (rw (le-ltb _ _ h) refl)
+
+-- ---- the loader: `p` is the step that a call gave, and the state after it is what is put in the bytes
+
+abbrev stepAnswer : Step → Answer
+stepAnswer p = stateAnswer (p .verdict) (p .state)
+
+pub opening-shown :
+    (b : List ℕ) (t : State) (i : Identity) (n : ℕ) {p : Step} → p ≡ openStep t i n → {r : ℕ} {b′ : List ℕ}
+    → (r ≡ shown (stepAnswer p) b) × (b′ ≡ leaves (stepAnswer p) b) → (r ≡ openShown b i n) × (b′ ≡ openLeaves b i n)
+unfolding openStep
+opening-shown b t i n e = given-shown (λ (a : Answer). a) (ap stepAnswer e ∙ after-call (openVerdict i n) (opened i) t) b
+
+module _ (b s room : List ℕ) (t : State) (is : t ≡ stateIn b) where
+  step-is : (p : Step) → p ≡ pieceStep t s (length room) → stepAnswer p ≡ stateAnswer (pieceVerdict (stateIn b) s (length room)) (moved (stateIn b) s)
+  unfolding pieceStep
+  step-is p e =
+      ap stepAnswer e
+      ∙ after-call (pieceVerdict t s (length room)) (moved t s) t
+      ∙ ap (λ (u : State). stateAnswer (pieceVerdict u s (length room)) (moved u s)) is
+
+  pub taking-shown :
+      {p : Step} → p ≡ pieceStep t s (length room) → {r : ℕ} {b′ : List ℕ} → (r ≡ shown (stepAnswer p) b) × (b′ ≡ leaves (stepAnswer p) b)
+      → (r ≡ pieceShown b s (length room)) × (b′ ≡ pieceLeaves b s (length room))
+  taking-shown {p} e h = let a = given-shown (λ (x : Answer). x) (step-is p e) b h in (a .0 ∙ piece-shown b s (length room), a .1)
+
+  pub taking-room : {room′ : List ℕ} → room′ ≡ pieceRoom t s room → room′ ≡ pieceRoom (stateIn b) s room
+  taking-room e = e ∙ ap (λ (u : State). pieceRoom u s room) is

@@ -1,5 +1,5 @@
-// The reader for other languages: verdicts, pair and questions as C functions with numbers and byte slices only. `include/yard.h` says what
-// each argument and each result means.
+// The reader for other languages: verdicts, pair, questions and the loader as C functions with numbers and byte slices only. `include/yard.h`
+// says what each argument and each result means.
 ghost use mathlib.Core.Path.{_≡_};
 ghost use lib.ListN.{length};
 ghost use Rattle.checksum.specs.Checksum.{checksumOf};
@@ -15,9 +15,13 @@ ghost use Rattle.route_walks.specs.Lent.{roomOf};
 ghost use Rattle.route_lister.specs.Answered.{routesAnswer};
 ghost use Rattle.route_question.specs.Routes.{routesAsked, leftAsked};
 ghost use Rattle.ahead.specs.Asked as ahead;
+ghost use Rattle.transfer.specs.Calls.{pieceRoom};
 ghost use Rattle.c_values.specs.Degrees.{degreesLaid};
 ghost use Rattle.c_values.specs.Ahead.{aheadShown};
 ghost use Rattle.c_values.specs.Shown.{verdictShown, pairShown, shown, leaves, wordsLeft};
+ghost use Rattle.c_values.specs.Load.{stateIn, stateAnswer, identityFrom, openShown, openLeaves, pieceShown, pieceLeaves, finishShown};
+use c_values::load::state_in;
+use c_values::load::state_words;
 use c_values::seen::ahead_answer;
 use c_values::values::coordinate_words;
 use c_values::values::degrees_words;
@@ -32,6 +36,8 @@ use c_values::words::answer;
 use c_values::words::refused;
 use c_values::words::show;
 use route_lister::RoutesAnswer;
+use transfer::Identity;
+use transfer::Step;
 use verdict::Verdict;
 use x1_degrees::DegreesAnswer;
 use x1_questions::CoordinateAnswer;
@@ -267,4 +273,60 @@ pub extern "C" fn yard_ahead(
     ensures { λ _. ⌜ now (out .exit) ≡ ahead.leftAsked (now (first .entry)) (now (second .entry)) offset link (now (lies .entry)) (now (out .entry)) ⌝ }
 {
     ahead_answer(ahead::ahead(first, second, offset, link, lies, out))
+}
+
+// Answers a call of the loader: the state after an accepted one is put in the bytes lent.
+fn show_state(step: Step, state: &mut [u8]) -> u64
+    ensures { λ r. ⌜ r ≡ shown (stateAnswer (step .verdict) (step .state)) (now (state .entry)) ⌝ }
+    ensures { λ _. ⌜ now (state .exit) ≡ leaves (stateAnswer (step .verdict) (step .state)) (now (state .entry)) ⌝ }
+{
+    let verdict = step.verdict;
+    match verdict {
+        Verdict::Accepted => show(&state_words(step.state), state),
+        Verdict::Refused(fault) => refused(fault),
+    }
+}
+
+// Opens a transfer of the file with an identity.
+#[no_mangle]
+pub extern "C" fn yard_load_open(
+    state: &mut [u8],
+    station: usize,
+    kind: usize,
+    version: usize,
+    total: usize,
+    trailer: usize,
+    room: &[u8],
+) -> u64
+    ensures { λ r. ⌜ r ≡ openShown (now (state .entry)) (identityFrom station kind version total trailer) (length (now (room .entry))) ⌝ }
+    ensures { λ _. ⌜ now (state .exit) ≡ openLeaves (now (state .entry)) (identityFrom station kind version total trailer) (length (now (room .entry))) ⌝ }
+{
+    let identity = Identity {
+        station,
+        kind,
+        version,
+        total,
+        trailer,
+    };
+    let step = transfer::opening::opening(state_in(state), identity, room.len());
+    show_state(step, state)
+}
+
+// Takes a piece.
+#[no_mangle]
+pub extern "C" fn yard_load_piece(state: &mut [u8], piece: &[u8], room: &mut [u8]) -> u64
+    ensures { λ r. ⌜ r ≡ pieceShown (now (state .entry)) (now (piece .entry)) (length (now (room .entry))) ⌝ }
+    ensures { λ _. ⌜ now (state .exit) ≡ pieceLeaves (now (state .entry)) (now (piece .entry)) (length (now (room .entry))) ⌝ }
+    ensures { λ _. ⌜ now (room .exit) ≡ pieceRoom (stateIn (now (state .entry))) (now (piece .entry)) (now (room .entry)) ⌝ }
+{
+    let step = transfer::pieces::piece(state_in(state), piece, room);
+    show_state(step, state)
+}
+
+// Finishes a transfer.
+#[no_mangle]
+pub extern "C" fn yard_load_finish(state: &[u8], room: &[u8]) -> u64
+    ensures { λ r. ⌜ r ≡ finishShown (now (state .entry)) (now (room .entry)) ⌝ }
+{
+    judged(transfer::finishing::finish(state_in(state), room))
 }

@@ -13,6 +13,7 @@ pub mod OfX1Verdict
 pub mod OfRounding
 pub mod OfDegrees
 pub mod OfDecimal
+pub mod OfSevenBits
 pub mod OfX2Records
 pub mod OfX2Layout
 pub mod OfX2Kinds
@@ -35,7 +36,9 @@ pub mod OfPlanRoutes
 pub mod OfPlanReading
 pub mod OfPlanQuestion
 pub mod OfAhead
+pub mod OfTransfer
 pub mod OfListings
+pub mod OfLoading
 pub mod OfCValues
 pub mod OfExports
 pub mod Engines

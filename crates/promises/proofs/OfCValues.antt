@@ -32,6 +32,10 @@ use Rattle.c_values.proofs.words.show.Kinds as show-kinds
 use Rattle.c_values.proofs.words.show.Reads as show-reads
 use Rattle.c_values.proofs.seen.ahead_answer.Kinds as ahead-answer-kinds
 use Rattle.c_values.proofs.seen.ahead_answer.Reads as ahead-answer-reads
+use Rattle.c_values.proofs.load.state_in.Kinds as state-in-kinds
+use Rattle.c_values.proofs.load.state_in.Reads as state-in-reads
+use Rattle.c_values.proofs.load.state_words.Kinds as state-words-kinds
+use Rattle.c_values.proofs.load.state_words.Reads as state-words-reads
 
 pub header-words-determined : Determined 0 header-words-kinds.ps header-words-kinds.r header-words-reads.Pre header-words-reads.Post
 header-words-determined κs a = by-equation (λ v w. refl)
@@ -74,3 +78,9 @@ show-determined κs a = (tt, λ x y v w p q. (p .0 ∙ sym (q .0), ap (λ (l : L
 
 pub ahead-answer-determined : Determined 0 ahead-answer-kinds.ps ahead-answer-kinds.r ahead-answer-reads.Pre ahead-answer-reads.Post
 ahead-answer-determined κs a = by-equation (λ v w. refl)
+
+pub state-in-determined : Determined 1 state-in-kinds.ps state-in-kinds.r state-in-reads.Pre state-in-reads.Post
+state-in-determined κs a = by-equation (λ v w. refl)
+
+pub state-words-determined : Determined 0 state-words-kinds.ps state-words-kinds.r state-words-reads.Pre state-words-reads.Post
+state-words-determined κs a = by-equation (λ v w. refl)

@@ -36,6 +36,12 @@ use Rattle.exports.proofs.yard_header2.Kinds as yard-header2-kinds
 use Rattle.exports.proofs.yard_header2.Reads as yard-header2-reads
 use Rattle.exports.proofs.yard_ahead.Kinds as yard-ahead-kinds
 use Rattle.exports.proofs.yard_ahead.Reads as yard-ahead-reads
+use Rattle.exports.proofs.yard_load_open.Kinds as yard-load-open-kinds
+use Rattle.exports.proofs.yard_load_open.Reads as yard-load-open-reads
+use Rattle.exports.proofs.yard_load_piece.Kinds as yard-load-piece-kinds
+use Rattle.exports.proofs.yard_load_piece.Reads as yard-load-piece-reads
+use Rattle.exports.proofs.yard_load_finish.Kinds as yard-load-finish-kinds
+use Rattle.exports.proofs.yard_load_finish.Reads as yard-load-finish-reads
 
 pub yard-checksum-determined : Determined 1 yard-checksum-kinds.ps yard-checksum-kinds.r yard-checksum-reads.Pre yard-checksum-reads.Post
 yard-checksum-determined κs a = by-equation (λ v w. refl)
@@ -84,3 +90,12 @@ yard-header2-determined κs a = (tt, λ x y v w p q. (p .0 ∙ sym (q .0), ap (�
 
 pub yard-ahead-determined : Determined 4 yard-ahead-kinds.ps yard-ahead-kinds.r yard-ahead-reads.Pre yard-ahead-reads.Post
 yard-ahead-determined κs a = (tt, λ x y v w p q. (p .0 ∙ sym (q .0), ap (λ (l : List ℕ). (tt, (tt, (tt, (tt, (tt, (l, tt))))))) (p .1 ∙ sym (q .1))))
+
+pub yard-load-open-determined : Determined 2 yard-load-open-kinds.ps yard-load-open-kinds.r yard-load-open-reads.Pre yard-load-open-reads.Post
+yard-load-open-determined κs a = (tt, λ x y v w p q. (p .0 ∙ sym (q .0), ap (λ (l : List ℕ). (l, (tt, (tt, (tt, (tt, (tt, (tt, tt)))))))) (p .1 ∙ sym (q .1))))
+
+pub yard-load-piece-determined : Determined 3 yard-load-piece-kinds.ps yard-load-piece-kinds.r yard-load-piece-reads.Pre yard-load-piece-reads.Post
+yard-load-piece-determined κs a = (tt, λ x y v w p q. (p .0 ∙ sym (q .0), ap₂ (λ (l m : List ℕ). (l, (tt, (m, tt)))) (p .1 .0 ∙ sym (q .1 .0)) (p .1 .1 ∙ sym (q .1 .1))))
+
+pub yard-load-finish-determined : Determined 2 yard-load-finish-kinds.ps yard-load-finish-kinds.r yard-load-finish-reads.Pre yard-load-finish-reads.Post
+yard-load-finish-determined κs a = by-equation (λ v w. refl)

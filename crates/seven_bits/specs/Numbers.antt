@@ -1,5 +1,5 @@
 -- Numbers in groups of seven bits, low group first, the top bit set on all groups but the last, shortest form only. Each number fits 32 bits
--- (02, Ticket 6). Each definition is total: a number that is cut off, not in shortest form or too large is bad.
+-- (02, ticket 6). Each definition is total: a number that is cut off, not in shortest form or too large is bad.
 use Prim.Native.Nat.{ℕ, zero, suc, _+_, _-_, _*_, _/_, _%_, _^_, _<_}
 use mathlib.Core.Path.{_≡_}
 use mathlib.Core.Bool.{Bool, true, false, cond, _&&_}
@@ -14,6 +14,7 @@ abbrev pub groupValues : ℕ
 groupValues = 2 ^ 7
 
 -- the first number that does not fit 32 bits
+-- 02: Ticket6.7
 abbrev pub numberLimit : ℕ
 numberLimit = 2 ^ 32
 
@@ -41,6 +42,7 @@ abbrev pub mayFollow : Number → Bool
 mayFollow r = r .good && (ltb 0 (r .value) && ltb (r .value) restLimit)
 
 -- the number that a first group and the groups after it make
+-- 02: Ticket6.7
 unfoldable pub joined : ℕ → ℕ → Number → Number
 joined at low r = cond (mayFollow r) (found (low + groupValues * r .value) (r .next)) (bad at)
 
@@ -55,6 +57,7 @@ groupsAt (suc n) s at =
     (bad at)
 
 -- the number at a place
+-- 02: Ticket6.3
 unfoldable pub numberAt : List ℕ → ℕ → Number
 numberAt s at = groupsAt groupsMost s at
 
@@ -66,6 +69,7 @@ groupsOf zero v = []
 groupsOf (suc n) v = cond (ltb v groupValues) (v ∷ []) ((groupValues + v % groupValues) ∷ groupsOf n (v / groupValues))
 
 -- what is written for a number
+-- 02: Ticket6.3
 unfoldable pub written : ℕ → List ℕ
 written v = groupsOf groupsMost v
 
@@ -82,12 +86,14 @@ putNext out at v = cond (leb (at + groupsMost) (length out)) (at + length (writt
 
 -- the bytes are the number in groups: low group first, the top bit set on all groups but the last, and shortest form only: the groups after a
 -- first one do not make 0
+-- 02: Ticket6.3
 pub data InGroups : List ℕ → ℕ → Type 0 where
   last : (low : ℕ) → low < groupValues → InGroups (low ∷ []) low
   more : (low rest : ℕ) (bs : List ℕ) → low < groupValues → 0 < rest → InGroups bs rest
       → InGroups ((groupValues + low) ∷ bs) (low + groupValues * rest)
 
 -- the number v stands at a place, and ends before `next`: its bytes are those that are written for it, and it fits 32 bits
+-- 02: Ticket6.3
 pub record Form (s : List ℕ) (at v next : ℕ) : Type 0 where
   pub stands : drop at s ≡ written v ++ drop next s
   pub ends : next ≡ at + length (written v)

@@ -1,5 +1,5 @@
 // Numbers in groups of seven bits, low group first, the top bit set on all groups but the last, shortest form only. Each number fits 32
-// bits (02, Ticket 6).
+// bits (02, ticket 6).
 ghost use mathlib.Core.Path.{_≡_};
 ghost use Prim.Native.Nat.{_+_, _≤_, _<_};
 ghost use lib.ListN.{length};
@@ -44,8 +44,8 @@ fn found_number(value: usize, next: usize) -> Number
 {
     Number {
         good: true,
-        value: value,
-        next: next,
+        value,
+        next,
     }
 }
 

@@ -11,6 +11,7 @@ abbrev pub headMost : ℕ
 headMost = 35
 
 -- they stand in front, and the bytes after them are 0
+-- 02: Ticket6.2
 unfoldable pub headIn : Identity → ℕ → ℕ → Head
 headIn i start count = record {
   bytes = headOf i start count ++ replicate (headMost - length (headOf i start count)) 0;

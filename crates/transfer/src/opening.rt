@@ -1,6 +1,6 @@
 // Opening: a transfer is opened with an identity.
 ghost use mathlib.Core.Path.{_≡_};
-ghost use Rattle.transfer.specs.Calls.{leastOf, isAskable, openVerdict, openStep};
+ghost use Rattle.transfer.specs.Calls.{nothingOpened, leastOf, isAskable, openVerdict, openStep};
 use crate::Identity;
 use crate::State;
 use crate::Step;
@@ -9,6 +9,24 @@ use envelope::MOST_LENGTH;
 use seven_bits::NUMBER_LIMIT;
 use verdict::Reason;
 use verdict::Verdict;
+
+// The state of a loader that has nothing opened. Its numbers mean nothing.
+pub fn nothing_opened() -> State
+    ensures { λ r. ⌜ r ≡ nothingOpened ⌝ }
+{
+    let identity = Identity {
+        station: 0,
+        kind: 0,
+        version: 0,
+        total: 0,
+        trailer: 0,
+    };
+    State {
+        opened: false,
+        identity,
+        due: 0,
+    }
+}
 
 // How long a file of a type is at least.
 fn least_of(kind: usize) -> usize

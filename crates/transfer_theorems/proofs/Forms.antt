@@ -3,8 +3,8 @@ use Prim.Native.Nat.{ℕ, zero, suc, _+_, _-_, _<_}
 use mathlib.Core.Path.{_≡_, refl, sym, ap, _∙_}
 use mathlib.Core.Bool.{Bool, true, false, _&&_}
 use mathlib.Core.List.{List, _++_, append-assoc}
-use lib.ListN.{length, drop, getD, length-drop}
-use lib.Seq.{drop-drop, drop-at}
+use lib.ListN.{length, take, drop, getD, replicate, length-drop}
+use lib.Seq.{drop-drop, drop-at, take-at}
 use lib.Dec.{eqb, ltb}
 use native.Mathlib.Omega.{arith}
 use borrow.Author.Tests.{ltb-true, lt-ltb, eq-eqb}
@@ -16,6 +16,7 @@ use Rattle.transfer.specs.declared.Identity.{Identity}
 use Rattle.transfer.specs.declared.pieces.Stated.{Stated}
 use Rattle.transfer.specs.Calls.{nth, follows, statedIn, bytesIn}
 use Rattle.transfer.specs.Pieces.{identityBytes, headOf, pieceOf, Fits, IsPiece}
+use Rattle.transfer.specs.Heads.{headMost, headIn}
 use Rattle.transfer.proofs.Answers.{counted}
 
 -- ---- one number before others
@@ -147,3 +148,11 @@ is-piece s bytes e =
       starts = h .fits;
       counts = let fits = k .fits in omega arith;
     }
+
+-- The numbers as they are laid out to be sent, and the bytes behind them, are a piece.
+pub head-laid : (i : Identity) (start : ℕ) (bytes : List ℕ)
+    → take (headIn i start (length bytes) .length) (headIn i start (length bytes) .bytes) ++ bytes ≡ pieceOf i start bytes
+unfolding headIn pieceOf
+head-laid i start bytes =
+    let head = headOf i start (length bytes) in
+    ap (λ (l : List ℕ). l ++ bytes) (take-at head (replicate (headMost - length head) 0) (length head) refl)

@@ -203,6 +203,7 @@ pub never-joined : (w : World) (n : ℕ) (i : Identity) → answer w (opening n 
     → (head tail : List ℕ) → List·Memᴰ head (takenSince w n i cs .pieces) → List·Memᴰ tail (takenSince w n i cs .pieces)
     → (statedIn head .identity ≡ statedIn tail .identity) × (statedIn tail .identity .version ≡ numAt 2 (take (takenSince w n i cs .identity .total) (runSince w n i cs .room)) dataAt)
 never-joined w n i o cs m e head tail p q =
-    let h = one-version w n i o cs m e in
-    (h .stated head p ∙ sym (h .stated tail q),
-    ap (λ (j : Identity). j .version) (h .stated tail q) ∙ sym (h .file .version) ∙ ap (λ (f : List ℕ). numAt 2 f dataAt) (sym (h .stands)))
+    let h = one-version w n i o cs m e in (
+      h .stated head p ∙ sym (h .stated tail q),
+      ap (λ (j : Identity). j .version) (h .stated tail q) ∙ sym (h .file .version) ∙ ap (λ (f : List ℕ). numAt 2 f dataAt) (sym (h .stands)),
+    )

@@ -55,13 +55,15 @@ one-check b A r v cs there back rest = record { exactly = by-test b there back }
     by-test : (b : Bool) → (b ≡ true → A) → (A → b ≡ true) → (n p : ℕ)
         → Says (ensure b r v) n p ↔ ((A × Reported cs n p) ⊎ ((A → ⊥) × ((n ≡ numberOf r) × (p ≡ 0))))
     by-test true there back n p =
-        let a = there refl in
-        (λ h. inl (a, (rest a .exactly n p) .0 h),
-        ⊎-elim (λ (h : A × Reported cs n p). (rest a .exactly n p) .1 (h .1)) (λ (h : (A → ⊥) × ((n ≡ numberOf r) × (p ≡ 0))). absurd (h .0 a)))
+        let a = there refl in (
+          λ h. inl (a, (rest a .exactly n p) .0 h),
+          ⊎-elim (λ (h : A × Reported cs n p). (rest a .exactly n p) .1 (h .1)) (λ (h : (A → ⊥) × ((n ≡ numberOf r) × (p ≡ 0))). absurd (h .0 a)),
+        )
     by-test false there back n p =
-        let none : A → ⊥ = λ a. true≢false (sym (back a)) in
-        (λ h. inr (none, (sym (h .0), sym (h .1))),
-        ⊎-elim (λ (h : A × Reported cs n p). absurd (none (h .0))) (λ (h : (A → ⊥) × ((n ≡ numberOf r) × (p ≡ 0))). (sym (h .1 .0), sym (h .1 .1))))
+        let none : A → ⊥ = λ a. true≢false (sym (back a)) in (
+          λ h. inr (none, (sym (h .0), sym (h .1))),
+          ⊎-elim (λ (h : A × Reported cs n p). absurd (none (h .0))) (λ (h : (A → ⊥) × ((n ≡ numberOf r) × (p ≡ 0))). (sym (h .1 .0), sym (h .1 .1))),
+        )
 
 both-true : (a b : Bool) → a ≡ true → b ≡ true → (a && b) ≡ true
 both-true a b p q = rw (p, q)

@@ -17,12 +17,14 @@ use Rattle.transfer.specs.Calls.{identityOf, readerOf}
 use Rattle.transfer.specs.Pieces.{IsPiece}
 
 -- a refusal of a call of its own is at place 0
+-- 02: Ticket6.11
 abbrev at-0 : ℕ → Type 0
 at-0 p = p ≡ 0
 
 -- ---- opening
 
 -- 13: the file type is 1 or 2, and station, version and trailer fit 32 bits
+-- 02: Ticket6.8
 pub record Askable (i : Identity) : Type 0 where
   pub kind : (i .kind ≡ 1) ⊎ (i .kind ≡ 2)
   pub station : i .station < numberLimit
@@ -30,34 +32,41 @@ pub record Askable (i : Identity) : Type 0 where
   pub trailer : i .trailer < numberLimit
 
 -- 15: the total is one of the reader's lengths, and not over the room
+-- 02: Ticket6.8
 pub record Lengthy (i : Identity) (room : ℕ) : Type 0 where
   pub first : i .kind ≡ 1 → 68 ≤ i .total
   pub second : i .kind ≡ 2 → 69 ≤ i .total
   pub most : i .total ≤ 65535
   pub roomy : i .total ≤ room
 
+-- 02: Ticket6.8
 abbrev pub openChecks : Identity → ℕ → List Check
 openChecks i room = check 13 (Askable i) at-0 ∷ check 15 (Lengthy i room) at-0 ∷ []
 
 -- ---- a piece
 
 -- 19: s is a piece at all: seven good numbers, and then bytes, as many as the last says
+-- 02: Ticket6.9
 abbrev pub AnyPiece : List ℕ → Type 0
 AnyPiece s = (i : Identity) × (start : ℕ) × (bytes : List ℕ) × IsPiece i start bytes s
 
 -- 17: a transfer is open, and s is a piece of its identity
+-- 02: Ticket6.9
 abbrev pub PieceOfIt : State → List ℕ → Type 0
 PieceOfIt t s = (t .opened ≡ true) × ((start : ℕ) × (bytes : List ℕ) × IsPiece (t .identity) start bytes s)
 
 -- 18: s is a piece of its identity that starts at the next byte due
+-- 02: Ticket6.9
 abbrev pub PieceDue : State → List ℕ → Type 0
 PieceDue t s = (bytes : List ℕ) × IsPiece (t .identity) (t .due) bytes s
 
 -- 19: and none of its bytes is beyond the total
+-- 02: Ticket6.9
 abbrev pub PieceInside : State → List ℕ → Type 0
 PieceInside t s = (bytes : List ℕ) × IsPiece (t .identity) (t .due) bytes s × (t .due + length bytes ≤ t .identity .total)
 
 -- 15: the room is not under the total
+-- 02: Ticket6.9
 abbrev pub pieceChecks : State → List ℕ → ℕ → List Check
 pieceChecks t s room =
     check 19 (AnyPiece s) at-0
@@ -71,6 +80,7 @@ pieceChecks t s room =
 
 -- 18: a transfer is open and all bytes have come; 15: the room is not under the total; then the reader's own number and place; then 17: header,
 -- length and trailer are the identity's
+-- 02: Ticket6.10
 abbrev pub readyChecks : State → ℕ → List Check
 readyChecks t room =
     check 18 ((t .opened ≡ true) × (t .due ≡ t .identity .total)) at-0 ∷ check 15 (t .identity .total ≤ room) at-0 ∷ []
@@ -80,6 +90,7 @@ abbrev pub fileIn : State → List ℕ → List ℕ
 fileIn t room = take (t .identity .total) room
 
 -- n is answered at the place p
+-- 02: Ticket6.10
 pub data FinishAnswered (t : State) (room : List ℕ) (n p : ℕ) : Type 0 where
   not-ready : (n ≡ 0 → ⊥) → Reported (readyChecks t (length room)) n p → FinishAnswered t room n p
   refused : Reported (readyChecks t (length room)) 0 0 → (n ≡ 0 → ⊥) → n ≡ numberIn (readerOf (t .identity .kind) (fileIn t room))

@@ -15,6 +15,7 @@ use Rattle.transfer.specs.Calls.{changed, openVerdict, openStep, statedIn, byte
 
 -- ---- calls
 
+-- 02: Ticket6.4
 pub data Call : Type 0 where
   opening : ℕ → Identity → Call
   piece : ℕ → List ℕ → Call
@@ -36,6 +37,7 @@ answer w (piece n s) = pieceVerdict (w .state) s (length (lent n w))
 answer w (finishing n) = finishVerdict (w .state) (lent n w)
 
 -- the state and the room after a call: what lies behind the bytes that are lent stays
+-- 02: Ticket6.6
 unfoldable pub after : World → Call → World
 after w (opening n i) = record { state = openStep (w .state) i (length (lent n w)) .state; room = w .room }
 after w (piece n s) = record {
@@ -45,6 +47,7 @@ after w (piece n s) = record {
 after w (finishing n) = w
 
 -- and after a run of calls
+-- 02: Ticket6.4
 unfoldable pub run : World → List Call → World
 run w [] = w
 run w (c ∷ cs) = run (after w c) cs
@@ -77,6 +80,7 @@ taken w [] l = l
 taken w (c ∷ cs) l = taken (after w c) cs (note w c l)
 
 -- what is taken in a run of calls since an opening
+-- 02: Ticket6.4
 unfoldable pub takenSince : World → ℕ → Identity → List Call → Taken
 takenSince w n i cs = taken (after w (opening n i)) cs (fresh i (w .room))
 
@@ -103,6 +107,7 @@ pub data Placed : ℕ → List (List ℕ) → Type 0 where
 
 -- The room's first bytes up to the next byte due are those of the pieces taken, joined in order without gap; every one of them stated the identity
 -- that was opened; and what lies behind is as it was at the opening.
+-- 02: Ticket6.4
 pub record Gathered (l : Taken) (w : World) : Type 0 where
   pub opened : w .state .opened ≡ true
   pub identity : w .state .identity ≡ l .identity
@@ -117,6 +122,7 @@ pub record Gathered (l : Taken) (w : World) : Type 0 where
 -- ---- a file that is accepted
 
 -- the reader accepts these bytes, and header, length and trailer are the identity's
+-- 02: Ticket6.5
 pub record Finished (f : List ℕ) (i : Identity) : Type 0 where
   pub accepted : readerOf (i .kind) f ≡ Accepted
   pub station : numAt 2 f stationAt ≡ i .station
@@ -127,6 +133,7 @@ pub record Finished (f : List ℕ) (i : Identity) : Type 0 where
 
 -- One version: the file in the room is the bytes of the pieces taken and nothing else; every piece stated the identity that was opened; and that is
 -- the file's own.
+-- 02: Ticket6.5
 pub record OneVersion (l : Taken) (room : List ℕ) : Type 0 where
   pub stands : take (l .identity .total) room ≡ joined (l .pieces)
   pub stated : (s : List ℕ) → List·Memᴰ s (l .pieces) → statedIn s .identity ≡ l .identity

@@ -34,6 +34,7 @@ abbrev pub sending : ℕ → List ℕ → List (List ℕ) → List Call
 sending n f parts = sent n (identityOf f) 0 parts
 
 -- The file arrives: its identity is opened, every piece is taken, finishing accepts it, and its bytes stand in the room.
+-- 02: Ticket6.4
 pub record Arrives (w : World) (n : ℕ) (f : List ℕ) (parts : List (List ℕ)) : Type 0 where
   pub granted : answer w (opening n (identityOf f)) ≡ Accepted
   pub each : EachAccepted (after w (opening n (identityOf f))) (sending n f parts)

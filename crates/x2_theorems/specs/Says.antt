@@ -104,6 +104,10 @@ HeldFor f Position m = Unit {0}
 HeldFor f Question m = Unit {0}
 HeldFor f Steps m = Unit {0}
 HeldFor f Room m = Unit {0}
+HeldFor f Kinds m = Unit {0}
+HeldFor f Identity m = Unit {0}
+HeldFor f Order m = Unit {0}
+HeldFor f Piece m = Unit {0}
 
 abbrev pub HeldOf : List ℕ → Mark → Type 0
 HeldOf f m = HeldFor f (m .reason) m

@@ -1,11 +1,13 @@
 // Many questions in one run. Standard input is a sequence of cases: the question in 1 byte (x1, x2, pair, track, point, coordinate,
-// record, routes, header1, header2, routes2, degrees and point-degrees are 1 to 13; 14 is kept for a question to come and unknown until then;
-// ahead is 15; x1-version-1 is 16), four numbers of 4 bytes each, two lengths of 4 bytes each, and the bytes of the first and of the second file;
-// all numbers are little-endian. The numbers of ahead are the offset, the link, how many lies there are, and the room in bytes; so many bytes at
-// the end of its second byte string are the lies, those before them the X.2, so that the string may be longer than a file. Standard output is, for
-// each case, what yardask prints, and an empty line. Input that ends inside a case, an unknown question, a case of ahead with more lies than its
-// second byte string has bytes, or a list of routes that does not fit the 65,535 words that are here where the case lends more, is a line on
-// standard error and ends the run.
+// record, routes, header1, header2, routes2, degrees, point-degrees and load are 1 to 14; ahead is 15; x1-version-1 is 16), four numbers of 4
+// bytes each, two lengths of 4 bytes each, and the bytes of the first and of the second file; all numbers are little-endian. The numbers of ahead
+// are the offset, the link, how many lies there are, and the room in bytes; so many bytes at the end of its second byte string are the lies, those
+// before them the X.2, so that the string may be longer than a file. The first number of load is the size of the room, 65,536 bytes at most, which
+// is filled with 0xA5, and its first byte string a sequence of calls, which load.rt reads; the others are passed over. Standard output is, for
+// each case, what yardask prints, and an empty line; of load it is a line `NUMBER PLACE` for each call, then the next byte due and the checksum of
+// the room. Input that ends inside a case, an unknown question, a case of ahead with more lies than its second byte string has bytes, a case of
+// load with a larger room or with a call that is none, or a list of routes that does not fit the 65,535 words that are here where the case lends
+// more, is a line on standard error and ends the run.
 ghost use Prim.Native.Nat.{_≤_};
 use ahead::LIES;
 use libc::STDERR_FILENO;
@@ -17,6 +19,8 @@ use octets::byte_at;
 use octets::least;
 use octets::u32_at;
 use route_question::Engine;
+
+mod load;
 
 // What stands before the files of a case: the question, four numbers and two lengths.
 const HEAD: usize = 25;
@@ -47,6 +51,8 @@ const ROUTES2: usize = 11;
 const DEGREES: usize = 12;
 
 const POINT_DEGREES: usize = 13;
+
+const LOAD: usize = 14;
 
 const AHEAD: usize = 15;
 
@@ -283,6 +289,9 @@ fn lies_of(head: &[u8]) -> usize {
 
 // Answers the case that begins with a head. It answers whether there may be a next case.
 fn case_of(head: &[u8]) -> bool {
+    if byte_at(head, 0) == LOAD {
+        return load::case_of(head);
+    }
     let bytes = u32_at(head, SECOND_LENGTH);
     let lies = lies_of(head);
     if bytes < lies {
