@@ -426,6 +426,7 @@ pub record Loads : Type 0 where
   -- 02: Ticket6.3
   pub number-read : (s : List ℕ) (at v next : ℕ) → ((k : ℕ) → getD s k 0 < 256) → (numberRead s at ≡ found v next) ↔ Form s at v next
   -- what is laid out to be sent, the numbers and then the bytes, is a piece
+  -- 02: Ticket6.2
   pub head-laid : (i : Identity) (start : ℕ) (bytes : List ℕ)
       → take (headIn i start (length bytes) .length) (headIn i start (length bytes) .bytes) ++ bytes ≡ pieceOf i start bytes
   -- a C host keeps the state in bytes, 28 or more, and the room. After any run of calls these are the loader's, and each call is returned the loader's
@@ -434,6 +435,7 @@ pub record Loads : Type 0 where
   pub host-answers : (h : Host) → Lent (h .state) → (cs : List Call) (c : Call)
       → TakenApart (returned (hostRun h cs) c) (numberIn (answer (run (worldIn h) cs) c)) 0 (placeIn (answer (run (worldIn h) cs) c))
   -- so the incident does not happen to it, whatever its bytes were before an opening that returned 0
+  -- 02: Ticket6.4
   pub host-never-joined : (h : Host) (n : ℕ) (i : Identity) → numberPart (returned h (opening n i)) ≡ 0 → (cs : List Call) (m : ℕ)
       → numberPart (returned (hostRun h (opening n i ∷ cs)) (finishing m)) ≡ 0
       → (head tail : List ℕ) → List·Memᴰ head (takenSince (worldIn h) n i cs .pieces) → List·Memᴰ tail (takenSince (worldIn h) n i cs .pieces)

@@ -41,6 +41,7 @@ andThen Accepted v = v
 andThen (Refused t) v = Refused t
 
 -- what an accepted call makes of something; a refused one changes nothing
+-- 02: Ticket6.6
 unfoldable pub changed : {A : Type 0} → Verdict → A → A → A
 changed Accepted new old = new
 changed (Refused t) new old = old
