@@ -39,7 +39,7 @@ use Rattle.ahead_theorems.proofs.Ways.{from-boundary, route-ahead}
 use Rattle.seven_bits.proofs.Forms.{form-iff}
 use Rattle.transfer_theorems.proofs.Which as transfer
 use Rattle.transfer_theorems.proofs.Runs as runs
-use Rattle.transfer_theorems.proofs.Sent.{arrives}
+use Rattle.transfer_theorems.proofs.Sent.{arrives, arrives-resumed}
 use Rattle.transfer_theorems.proofs.Forms.{head-laid}
 use Rattle.export_theorems.proofs.Ahead.{ahead-back}
 use Rattle.export_theorems.proofs.Load.{refused-leaves}
@@ -169,6 +169,8 @@ loads = record {
   one-version = runs.one-version;
   never-joined = runs.never-joined;
   arrives = arrives;
+  resumes = runs.resumes;
+  arrives-resumed = arrives-resumed;
   number-read = form-iff;
   head-laid = head-laid;
   host-runs = c-runs;

@@ -88,8 +88,8 @@ use Rattle.transfer.specs.Calls.{identityOf, openVerdict, statedIn, pieceVerdic
 use Rattle.transfer.specs.Pieces.{pieceOf}
 use Rattle.transfer.specs.Heads.{headIn}
 use Rattle.transfer_theorems.specs.Checks.{openChecks, pieceChecks, FinishAnswered}
-use Rattle.transfer_theorems.specs.Runs.{Call, opening, finishing, World, lent, answer, after, run, takenSince, runSince, Gathered, OneVersion}
-use Rattle.transfer_theorems.specs.Sent.{together, EachSome, Arrives}
+use Rattle.transfer_theorems.specs.Runs.{Call, opening, finishing, World, lent, answer, after, run, acceptedIn, takenSince, runSince, Gathered, OneVersion}
+use Rattle.transfer_theorems.specs.Sent.{together, EachSome, sending, Arrives}
 use Rattle.c_values.specs.Words.{numberPart}
 use Rattle.c_values.specs.Shown.{leaves}
 use Rattle.c_values.specs.Degrees.{degreesLaid}
@@ -422,6 +422,14 @@ pub record Loads : Type 0 where
   -- 02: Ticket6.4
   pub arrives : (f : List ℕ) → ((k : ℕ) → getD f k 0 < 256) → readerOf (identityOf f .kind) f ≡ verdict.Accepted
       → (parts : List (List ℕ)) → EachSome parts → together parts ≡ f → (w : World) (n : ℕ) → length f ≤ length (lent n w) → Arrives w n f parts
+  -- refused calls may as well not have been made: a transfer that broke off goes on where it stopped, and the file arrives
+  -- 02: Ticket6.6
+  pub resumes : (w : World) (cs : List Call) → run w cs ≡ run w (acceptedIn w cs)
+  -- 02: Ticket6.4
+  pub arrives-resumed : (f : List ℕ) → ((k : ℕ) → getD f k 0 < 256) → readerOf (identityOf f .kind) f ≡ verdict.Accepted
+      → (parts : List (List ℕ)) → EachSome parts → together parts ≡ f → (w : World) (n : ℕ) → length f ≤ length (lent n w)
+      → (cs : List Call) → acceptedIn (after w (opening n (identityOf f))) cs ≡ sending n f parts
+      → (answer (runSince w n (identityOf f) cs) (finishing n) ≡ verdict.Accepted) × (take (length f) (runSince w n (identityOf f) cs .room) ≡ f)
   -- a number of a piece: what is read is what is written for it, and each number has just one form that is read
   -- 02: Ticket6.3
   pub number-read : (s : List ℕ) (at v next : ℕ) → ((k : ℕ) → getD s k 0 < 256) → (numberRead s at ≡ found v next) ↔ Form s at v next

@@ -19,7 +19,7 @@ use Rattle.transfer.specs.declared.State.{State}
 use Rattle.transfer.specs.Calls.{changed, opened, moved, openVerdict, openStep, statedIn, bytesIn, pieceVerdict, pieceStep, pieceRoom, finishVerdict}
 use Rattle.transfer.specs.Calls.{readerOf, identityOf}
 use Rattle.transfer.proofs.Answers.{never, Passed, passed, Ended, ended}
-use Rattle.transfer_theorems.specs.Runs.{Call, opening, piece, finishing, World, lent, answer, after, run, Taken, fresh, more, note, taken}
+use Rattle.transfer_theorems.specs.Runs.{Call, opening, piece, finishing, World, lent, answer, after, run, acceptedIn, Taken, fresh, more, note, taken}
 use Rattle.transfer_theorems.specs.Runs.{takenSince, runSince, joined, counts, Placed, none, next, Gathered, Finished, OneVersion}
 use Rattle.transfer_theorems.proofs.Rooms.{paste-lent, take-laid, drop-laid, length-laid}
 
@@ -145,6 +145,17 @@ unfolding answer after openStep pieceStep pieceRoom changed
 refused-keeps w (opening n i) t e = rw e
 refused-keeps w (piece n s) t e = rw e (ap (λ (r : List ℕ). record { state = w .state; room = r }) (take-append-drop n (w .room)))
 refused-keeps w (finishing n) t e = refl
+
+-- So the calls that are refused may as well not have been made: a transfer that broke off goes on where it stopped.
+pub resumes : (w : World) (cs : List Call) → run w cs ≡ run w (acceptedIn w cs)
+unfolding run acceptedIn changed
+resumes w [] = refl
+resumes w (c ∷ cs) = by-answer (answer w c) refl (resumes (after w c) cs)
+  where
+    by-answer : (v : Verdict) → answer w c ≡ v → run (after w c) cs ≡ run (after w c) (acceptedIn (after w c) cs)
+        → run (after w c) cs ≡ run w (changed v (c ∷ acceptedIn (after w c) cs) (acceptedIn (after w c) cs))
+    by-answer Accepted e rest = rest
+    by-answer (Refused t) e rest = rest ∙ ap (λ (u : World). run u (acceptedIn (after w c) cs)) (refused-keeps w c t e)
 
 -- Finishing changes nothing.
 pub finishing-keeps : (w : World) (n : ℕ) → after w (finishing n) ≡ w

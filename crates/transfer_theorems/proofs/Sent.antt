@@ -27,12 +27,12 @@ use Rattle.transfer.specs.Calls.{ensure, andThen, changed, same, identityOf, le
 use Rattle.transfer.specs.Calls.{pieceVerdict, pieceStep, pieceRoom, readyVerdict, readerOf, finishVerdict}
 use Rattle.transfer.specs.Pieces.{pieceOf, Fits, IsPiece}
 use Rattle.transfer_theorems.specs.Checks.{Askable, Lengthy}
-use Rattle.transfer_theorems.specs.Runs.{Call, opening, piece, finishing, World, lent, answer, after, run, runSince}
+use Rattle.transfer_theorems.specs.Runs.{Call, opening, piece, finishing, World, lent, answer, after, run, acceptedIn, runSince}
 use Rattle.transfer_theorems.specs.Sent as sending
 use Rattle.transfer_theorems.specs.Sent.{together, EachSome, sent, EachAccepted, Arrives}
 use Rattle.transfer_theorems.proofs.Rooms.{paste-lent, take-laid, length-laid}
 use Rattle.transfer_theorems.proofs.Forms.{states, Told, piece-told}
-use Rattle.transfer_theorems.proofs.Runs.{granted}
+use Rattle.transfer_theorems.proofs.Runs.{granted, resumes}
 use Rattle.transfer_theorems.proofs.Which.{same-self, same-so, askable-back, lengthy-back}
 
 -- ---- what an accepted file's identity is
@@ -208,3 +208,16 @@ arrives f bytes v parts some all w n roomy =
           (finishing-accepted (loading i (i .total)) (take n (end .room)) f refl refl inside (take-take (i .total) n (end .room) n-more ∙ held) v refl);
       stands = ap (λ (k : ℕ). take k (end .room)) (sym total) ∙ held;
     }
+
+-- Broken off and resumed, it arrives too: whatever other calls are made between, if these are refused.
+pub arrives-resumed : (f : List ℕ) → ((k : ℕ) → getD f k 0 < 256) → readerOf (identityOf f .kind) f ≡ Accepted
+    → (parts : List (List ℕ)) → EachSome parts → together parts ≡ f
+    → (w : World) (n : ℕ) → length f ≤ length (lent n w)
+    → (cs : List Call) → acceptedIn (after w (opening n (identityOf f))) cs ≡ sending.sending n f parts
+    → (answer (runSince w n (identityOf f) cs) (finishing n) ≡ Accepted) × (take (length f) (runSince w n (identityOf f) cs .room) ≡ f)
+unfolding runSince
+arrives-resumed f bytes v parts some all w n roomy cs e =
+    let a = arrives f bytes v parts some all w n roomy in
+    let u = after w (opening n (identityOf f)) in
+    let same : run u (sending.sending n f parts) ≡ run u cs = sym (resumes u cs ∙ ap (λ (l : List Call). run u l) e) in
+    (ap (λ (x : World). answer x (finishing n)) (sym same) ∙ a .finished, ap (λ (x : World). take (length f) (x .room)) (sym same) ∙ a .stands)

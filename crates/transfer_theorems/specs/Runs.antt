@@ -52,6 +52,12 @@ unfoldable pub run : World → List Call → World
 run w [] = w
 run w (c ∷ cs) = run (after w c) cs
 
+-- the calls of a run that are accepted, in order
+-- 02: Ticket6.6
+unfoldable pub acceptedIn : World → List Call → List Call
+acceptedIn w [] = []
+acceptedIn w (c ∷ cs) = changed (answer w c) (c ∷ acceptedIn (after w c) cs) (acceptedIn (after w c) cs)
+
 -- ---- what has been taken
 
 -- since the last granted opening: its identity, the room as it was then, and the pieces accepted since, in order
