@@ -435,8 +435,8 @@ uint64_t yard_load_piece(uint8_t *state, size_t state_length, const uint8_t *pie
 
 /* Finishes a transfer: the reader judges the file, which is the first bytes of the room, as many as the total. Nothing opened, or bytes are
  * still due: YARD_ORDER. A room under the total: YARD_ROOM. Both are at place 0. Then the number and the place of yard_x1 or yard_x2, by the
- * identity's file type. Then YARD_IDENTITY at place 0: the file's station, data version, length or trailer is not the identity's. 0: the file is
- * right, and it is the one that was opened. It changes nothing: asked again it answers the same, and the transfer stays open. */
+ * identity's file type. Then YARD_IDENTITY at place 0: the file's station, file type, data version, length or trailer is not the identity's. 0:
+ * the file is right, and it is the one that was opened. It changes nothing: asked again it answers the same, and the transfer stays open. */
 uint64_t yard_load_finish(const uint8_t *state, size_t state_length, const uint8_t *room, size_t room_length);
 
 #ifdef __cplusplus
