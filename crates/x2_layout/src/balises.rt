@@ -4,11 +4,12 @@ ghost use mathlib.Core.List.{[], _∷_};
 ghost use Prim.Native.Nat.{_<_};
 ghost use Rattle.verdict.specs.Facts.{test, judge};
 ghost use Rattle.x2_layout.specs.inner.Bounds.{sliceOver};
-ghost use Rattle.x2_layout.specs.inner.Sizes.{baliseFits};
+ghost use Rattle.x2_layout.specs.inner.Sizes.{baliseFits, Passed};
 ghost use Rattle.x2_layout.specs.Groups.{rightSize, sizeByte, baliseLayout, walkLayout};
 use crate::SIZE_LEAST;
 use crate::SIZE_MOST;
 use octets::byte_at;
+use octets::least;
 use rules::fits;
 use verdict::Judged;
 use verdict::Reason;
@@ -57,6 +58,20 @@ fn balise_layout(v: Judged, f: &[u8], at: usize, until: usize, next: usize) -> J
     fits(w, at, at, 0, at + n, field, until, next)
 }
 
+// Past the balises without a message, from a place on: where the first one stands that has a message or may be wrong. Each of them has the
+// least size, so that no step waits for what was read.
+fn past_plain(f: &[u8], from: usize, until: usize) -> usize
+    requires { ⌜ (from < sliceOver) × (until < sliceOver) ⌝ }
+    ensures { λ r. ⌜ Passed (now (f .entry)) until from r ⌝ }
+{
+    let top = least(until, f.len());
+    let mut at = from;
+    while at + Balise::SIZE <= top && f[at + Balise::SIZE_BYTE.0 as usize] == Balise::SIZE as u8 {
+        at = at + Balise::SIZE;
+    }
+    at
+}
+
 // The balises of the group that stands from a place to another, which is told at `next`: the facts of the first that does not obey are the
 // verdict.
 pub fn walk_layout(v: Judged, f: &[u8], from: usize, until: usize, next: usize) -> Judged
@@ -69,7 +84,7 @@ pub fn walk_layout(v: Judged, f: &[u8], from: usize, until: usize, next: usize) 
         if !balise_obeys(at, n, until) {
             return balise_layout(v, f, at, until, next);
         }
-        at = at + n;
+        at = past_plain(f, at + n, until);
     }
     v
 }

@@ -4,3 +4,4 @@ pub mod Obeys
 pub mod Questions
 pub mod Passes
 pub mod Linked
+pub mod Balises

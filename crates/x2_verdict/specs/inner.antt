@@ -2,3 +2,4 @@
 pub mod Starts
 pub mod Shapes
 pub mod Passes
+pub mod Balises

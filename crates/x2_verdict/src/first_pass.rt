@@ -2,14 +2,19 @@
 // order. On the way each place that a link may name is marked. It stops at the first record that does not obey.
 ghost use mathlib.Core.Path.{_≡_};
 ghost use mathlib.Core.Bool.{true};
-ghost use lib.ListN.{length};
+ghost use Prim.Native.Nat.{_/_, _≤_};
+ghost use lib.ListN.{length, getD, set};
 ghost use Rattle.x2_records.specs.declared.Kind.the-variants as kind;
-ghost use Rattle.x2_layout.specs.inner.Bounds.{Bounded};
+ghost use Rattle.x2_layout.specs.inner.Bounds.{placeMost, Bounded};
 ghost use Rattle.x2_layout.specs.inner.Regions.{Regions};
-ghost use Rattle.x2_links.specs.inner.Marks.{cells, Blank};
+ghost use Rattle.x2_links.specs.inner.Marks.{cell, cells, markIf, Blank};
 ghost use Rattle.x2_verdict.specs.inner.Passes.{Sort, Passing, AllPassed};
+use crate::balise_pass::byte_of;
+use crate::balise_pass::fixed_passes;
+use crate::balise_pass::group_passes;
+use crate::balise_pass::leads;
+use crate::balise_pass::message_passes;
 use x2_fields::agreement_obeys;
-use x2_kinds::balise_obeys;
 use x2_kinds::kind_obeys;
 use x2_layout::Layout;
 use x2_layout::size_of;
@@ -17,6 +22,7 @@ use x2_links::CELL;
 use x2_links::CELLS;
 use x2_links::mark_if;
 use x2_links::may_link;
+use x2_records::Balise;
 use x2_records::Kind;
 
 // How far a pass came over the records of a kind: whether each of them obeys, and where the last record starts.
@@ -58,7 +64,17 @@ fn sort_obeys(
     }
 }
 
-// The balises, in a loop of their own, which is quicker.
+// Marks the place of a balise where it is the first of its group. The cell of another stays as it is: 0.
+fn mark_lead(first: bool, at: usize, marks: &mut [u8; CELLS])
+    requires { ⌜ (at ≤ placeMost) × (getD (now marks) (at / cell) 0 ≡ 0) ⌝ }
+    ensures { λ _. ⌜ now (marks .exit) ≡ set (now (marks .entry)) (at / cell) (markIf first at) ⌝ }
+{
+    if first {
+        marks[at / CELL] = mark_if(true, at);
+    }
+}
+
+// The balises, in a loop of their own, which is quicker: it asks once whether all of them lie inside the file.
 fn balises_obey(
     f: &[u8],
     l: Layout,
@@ -72,17 +88,31 @@ fn balises_obey(
 {
     let mut last = before;
     let mut at = from;
-    while at < until {
-        let start = at as u32;
-        if !balise_obeys(f, start) {
+    if f.len() < until {
+        return Passed { obeys: false, last };
+    }
+    if until < Balise::SIZE {
+        return Passed { obeys: false, last };
+    }
+    let most = until - Balise::SIZE;
+    while at <= most {
+        if !fixed_passes(f, at) {
             return Passed { obeys: false, last };
         }
-        if !agreement_obeys(f, l, last, Kind::Balise, start) {
+        if !group_passes(f, from, last, at) {
             return Passed { obeys: false, last };
         }
-        marks[at / CELL] = mark_if(may_link(f, Kind::Balise, start), at);
-        last = start;
-        at = at + size_of(f, Kind::Balise, at);
+        mark_lead(leads(f, at), at, marks);
+        last = at as u32;
+        let size = byte_of(f, at, Balise::SIZE_BYTE);
+        if size <= Balise::SIZE {
+            at = at + Balise::SIZE;
+        } else {
+            if !message_passes(f, at, size, until) {
+                return Passed { obeys: false, last };
+            }
+            at = at + size;
+        }
     }
     Passed {
         obeys: at == until,

@@ -36,6 +36,7 @@ use x2_links::check_targets;
 use x2_records::Record;
 use x2_returns::check_returns;
 
+mod balise_pass;
 mod first_pass;
 mod second_pass;
 mod starts;

@@ -1,31 +1,23 @@
 -- `x2_verdict::first_pass::balises_obey` meets its contract. The invariant: the records before `at` are passed over, and `at` lies among
--- the balises, or after them.
+-- the balises, or where they end. They all lie inside the file.
 use Prim.Native.Nat.{ℕ, _-_, _≤_, _<_}
-use mathlib.Core.Path.{_≡_, sym, subst}
+use mathlib.Core.Path.{sym, subst}
 use mathlib.Core.Bool.{true≢false}
-use borrow.Author.Tests.{eqb-true}
 use native.Mathlib.Omega.{arith}
-use Rattle.x2_kinds.specs.KindFields.{kindFields}
+use native.Mathlib.Nat.{le-refl}
+use borrow.Author.Tests.{eqb-true, not-false}
+use Rattle.x2_kinds.proofs.Checks.{no-message-tested}
 use Rattle.x2_verdict.specs.inner.Passes.{Passing}
-use Rattle.x2_verdict.proofs.Passes.{passing-over}
+use Rattle.x2_verdict.proofs.Balises.{plain-size, whole-size, message-right, balise-over, Carried}
 use borrow.Author.Needs.{needs}
 use Rattle.x2_verdict.proofs.first_pass.balises_obey.Statement.{statement}
 use Rattle.x2_verdict.proofs.first_pass.balises_obey.Tie as tie
 
 abbrev Inv-loop : tie.InvT-loop
-Inv-loop f l from until before marks₀ last₀ at₀ marks last at = Passing f l marks last at × (from ≤ at)
+Inv-loop f from until before marks₀ last₀ at₀ most marks last at = Carried f from until before marks₀ marks last at × (from ≤ at) × (at ≤ until)
 
 abbrev μ-loop : tie.MeasureT-loop
-μ-loop f l from until before marks₀ last₀ at₀ marks last at = until - at
-
-loop-holds : tie.Need-loop-holds Inv-loop μ-loop
-loop-holds c = (c .before .pre .2, omega arith)
-
-cast-start : tie.Need-cast-start Inv-loop μ-loop
-cast-start c =
-    let g = c .before .before .before in
-    let most = g .pre .0 .end in
-    omega (arith, g .pre .1 .inside)
+μ-loop f from until before marks₀ last₀ at₀ most marks last at = until - at
 
 returns : tie.Need-returns Inv-loop μ-loop
 returns c = λ e. absurd (true≢false (sym e))
@@ -33,45 +25,85 @@ returns c = λ e. absurd (true≢false (sym e))
 returns-2 : tie.Need-returns-2 Inv-loop μ-loop
 returns-2 c = λ e. absurd (true≢false (sym e))
 
-element-write-marks : tie.Need-element-write-marks Inv-loop μ-loop
-element-write-marks c =
-    let s = c .before .before .before .before .before .before .before in
-    let g = s .before .before in
-    let below = c .before .before .before .before .before .before .loop-test .taken in
-    omega (arith, below, g .pre .0 .end, g .pre .1 .inside)
-
-add-at : tie.Need-add-at Inv-loop μ-loop
-add-at c =
-    let s = c .before .before .before .before .before .before .before .before in
-    let g = s .before .before in
-    let below = c .before .before .before .before .before .before .before .loop-test .taken in
-    omega (arith, below, c .size-of .ensures .most, g .pre .0 .end, g .pre .1 .inside)
-
-loop-less : tie.Need-loop-less Inv-loop μ-loop
-loop-less c =
-    let below = c .before .before .before .before .before .before .before .loop-test .taken in
-    omega (arith, below, c .size-of .ensures .least)
-
-loop-again : tie.Need-loop-again Inv-loop μ-loop
-unfolding kindFields
-loop-again c =
-    let s = c .before .before .before .before .before .before .before .before in
-    let g = s .before .before in
-    let below = c .before .before .before .before .before .before .before .loop-test .taken in
-    let within : s .loop .at < g .args .l .end = omega (arith, below, g .pre .1 .inside) in
-    let kind = g .pre .1 .kind (s .loop .at) (s .loop .inv .1) below in (
-      passing-over (s .loop .inv .0) within (omega (arith, within, g .pre .0 .end)) kind
-          (c .before .before .before .before .before .before .balise-obeys .ensures) (c .before .before .before .before .before .if1 .left)
-          (c .before .before .before .before .agreement-obeys .ensures) (c .before .before .before .if2 .left)
-          (c .before .before .may-link .ensures) (c .before .mark-if .ensures) (c .size-of .ensures),
-      omega (arith, s .loop .inv .1),
-    )
+loop-holds : tie.Need-loop-holds Inv-loop μ-loop
+loop-holds c =
+    let g = c .before .before .before in
+    (λ l b s p. p, omega arith, omega (arith, g .pre .1 .order))
 
 returns-3 : tie.Need-returns-3 Inv-loop μ-loop
-returns-3 c = λ e.
+returns-3 c = λ e. absurd (true≢false (sym e))
+
+returns-4 : tie.Need-returns-4 Inv-loop μ-loop
+returns-4 c = λ e. absurd (true≢false (sym e))
+
+mark-lead-requires : tie.Need-mark-lead-requires Inv-loop μ-loop
+mark-lead-requires c κs =
+    let s = c .before .before .before .before .before .before .before in
+    let g = s .before .before .before .before in
+    (omega (arith, s .loop .inv .2, g .pre .1 .inside, g .pre .0 .end), s .loop .inv .0 _ (g .pre .0) (g .pre .1) (g .pre .2) .marked .blank _ (le-refl _))
+
+cast-last : tie.Need-cast-last Inv-loop μ-loop
+cast-last c =
+    let s = c .before .before .before .before .before .before .before .before in
+    let g = s .before .before .before .before in
+    omega (arith, s .loop .inv .2, g .pre .1 .inside, g .pre .0 .end)
+
+loop-less : tie.Need-loop-less Inv-loop μ-loop
+loop-less c = omega (arith, c .before .before .before .before .before .before .before .before .before .loop-test .taken)
+
+loop-again : tie.Need-loop-again Inv-loop μ-loop
+loop-again c =
+    let byte = c .before in
+    let group = byte .before .before .before .before .before in
+    let s = group .before .before .before .before in
+    let g = s .before .before .before .before in
+    let a = g .args in
+    let turn = group .before .before .before .loop-test .taken in
+    let below : s .loop .at < a .until = omega (arith, turn) in (
+      λ l b r p.
+          balise-over r (b .end) (s .loop .inv .1) below (s .loop .inv .0 l b r p)
+          (group .before .before .fixed-passes .ensures (not-false _ (group .before .if3 .left)))
+          (group .group-passes .ensures (not-false _ (byte .before .before .before .before .if4 .left)))
+          (byte .before .before .before .leads .ensures) (byte .before .mark-lead .ensures)
+          (no-message-tested (a .f .now) (s .loop .at) (byte .byte-of .result) (byte .byte-of .ensures .is) (c .if5 .taken))
+          (plain-size (a .f .now) (s .loop .at) (byte .byte-of .result) (byte .byte-of .ensures .is) (c .if5 .taken)),
+      omega (arith, s .loop .inv .1),
+      omega (arith, turn),
+    )
+
+returns-5 : tie.Need-returns-5 Inv-loop μ-loop
+returns-5 c = λ e. absurd (true≢false (sym e))
+
+loop-again-2 : tie.Need-loop-again-2 Inv-loop μ-loop
+loop-again-2 c =
+    let message = c .before in
+    let large = message .before in
+    let byte = large .before in
+    let group = byte .before .before .before .before .before in
+    let s = group .before .before .before .before in
+    let g = s .before .before .before .before in
+    let a = g .args in
+    let turn = group .before .before .before .loop-test .taken in
+    let below : s .loop .at < a .until = omega (arith, turn) in
+    let ends = message .message-passes .ensures (not-false _ (c .if6 .left)) in (
+      λ l b r p.
+          balise-over r (b .end) (s .loop .inv .1) below (s .loop .inv .0 l b r p)
+          (group .before .before .fixed-passes .ensures (not-false _ (group .before .if3 .left)))
+          (group .group-passes .ensures (not-false _ (byte .before .before .before .before .if4 .left)))
+          (byte .before .before .before .leads .ensures) (byte .before .mark-lead .ensures)
+          (message-right (a .f .now) (s .loop .at) (byte .byte-of .result) (byte .byte-of .ensures .is) (a .until) (large .if5 .left) ends)
+          (whole-size (a .f .now) (s .loop .at) (byte .byte-of .result) (byte .byte-of .ensures .is) (large .if5 .left) (byte .byte-of .ensures .below)),
+      omega (arith, s .loop .inv .1),
+      ends .inside,
+    )
+
+returns-6 : tie.Need-returns-6 Inv-loop μ-loop
+returns-6 c = λ e.
     let s = c .before in
-    let a = s .before .before .args in
-    subst (λ (x : ℕ). Passing (a .f .now) (a .l) (s .loop .marks) (s .loop .last) x) (eqb-true (s .loop .at) (a .until) e) (s .loop .inv .0)
+    let g = s .before .before .before .before in
+    let a = g .args in
+    subst (λ (x : ℕ). Passing (a .f .now) (a .l) (s .loop .marks) (s .loop .last) x) (eqb-true (s .loop .at) (a .until) e)
+    (s .loop .inv .0 _ (g .pre .0) (g .pre .1) (g .pre .2))
 
 pub balises-obey-spec : {M : Type 1} → statement M
 balises-obey-spec =
@@ -79,17 +111,23 @@ balises-obey-spec =
     (tie.spec
     Inv-loop
     μ-loop
-    loop-holds
-    cast-start
-    (λ c κs. search needs)
     returns
-    (λ c κs. search needs)
     returns-2
+    loop-holds
     (λ c κs. search needs)
+    returns-3
     (λ c κs. search needs)
-    element-write-marks
+    returns-4
     (λ c κs. search needs)
-    add-at
+    mark-lead-requires
+    cast-last
+    (λ c κs. search needs)
+    (λ c. search needs)
     loop-less
     loop-again
-    returns-3)
+    (λ c κs. search needs)
+    returns-5
+    (λ c. search needs)
+    (λ c. search needs)
+    loop-again-2
+    returns-6)
