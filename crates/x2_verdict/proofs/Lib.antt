@@ -5,3 +5,5 @@ pub mod Questions
 pub mod Passes
 pub mod Linked
 pub mod Balises
+pub mod SingleBytes
+pub mod KindTurns

@@ -14,6 +14,10 @@ use crate::balise_pass::fixed_passes;
 use crate::balise_pass::group_passes;
 use crate::balise_pass::leads;
 use crate::balise_pass::message_passes;
+use crate::kind_passes::joints_pass;
+use crate::kind_passes::sidings_pass;
+use crate::kind_passes::signals_pass;
+use crate::kind_passes::turnouts_pass;
 use x2_fields::agreement_obeys;
 use x2_kinds::kind_obeys;
 use x2_layout::Layout;
@@ -31,7 +35,7 @@ pub struct Passed {
     pub last: u32,
 }
 
-// The records of a kind, which stand from a place to another, after the record at `before`.
+// The boundaries of a kind, which stand from a place to another, after the record at `before`.
 fn sort_obeys(
     f: &[u8],
     l: Layout,
@@ -141,7 +145,7 @@ pub fn records_pass(f: &[u8], l: Layout, marks: &mut [u8; CELLS]) -> bool
     if !ends.obeys {
         return false;
     }
-    let turnouts = sort_obeys(f, l, Kind::Turnout, l.turnouts, l.balises, ends.last, marks);
+    let turnouts = turnouts_pass(f, l, ends.last, marks);
     if !turnouts.obeys {
         return false;
     }
@@ -149,14 +153,14 @@ pub fn records_pass(f: &[u8], l: Layout, marks: &mut [u8; CELLS]) -> bool
     if !balises.obeys {
         return false;
     }
-    let signals = sort_obeys(f, l, Kind::Signal, l.signals, l.joints, balises.last, marks);
+    let signals = signals_pass(f, l, balises.last, marks);
     if !signals.obeys {
         return false;
     }
-    let joints = sort_obeys(f, l, Kind::Joint, l.joints, l.sidings, signals.last, marks);
+    let joints = joints_pass(f, l, signals.last, marks);
     if !joints.obeys {
         return false;
     }
-    let sidings = sort_obeys(f, l, Kind::Siding, l.sidings, l.end, joints.last, marks);
+    let sidings = sidings_pass(f, l, joints.last, marks);
     sidings.obeys
 }

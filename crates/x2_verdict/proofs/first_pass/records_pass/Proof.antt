@@ -2,7 +2,7 @@
 use mathlib.Core.Path.{sym}
 use mathlib.Core.Bool.{true≢false}
 use borrow.Author.Tests.{not-false}
-use Rattle.x2_verdict.proofs.Passes.{start-sort, end-sort, turnout-sort, balise-sort, signal-sort, joint-sort, siding-sort, passing-start, passing-all}
+use Rattle.x2_verdict.proofs.Passes.{start-sort, end-sort, balise-sort, passing-start, passing-all}
 use borrow.Author.Needs.{needs}
 use Rattle.x2_verdict.proofs.first_pass.records_pass.Statement.{statement}
 use Rattle.x2_verdict.proofs.first_pass.records_pass.Tie as tie
@@ -23,10 +23,10 @@ sort-obeys-requires-2 c κs =
 returns-2 : tie.Need-returns-2
 returns-2 c = λ e. absurd (true≢false (sym e))
 
-sort-obeys-requires-3 : tie.Need-sort-obeys-requires-3
-sort-obeys-requires-3 c κs =
+turnouts-pass-requires : tie.Need-turnouts-pass-requires
+turnouts-pass-requires c κs =
     let g = c .before .before .before .before .before .before .before .before .before .before in
-    (g .pre .0, turnout-sort _ _ (g .pre .1), c .before .before .before .sort-obeys2 .ensures (not-false _ (c .before .if2 .left)))
+    (g .pre .0, g .pre .1, c .before .before .before .sort-obeys2 .ensures (not-false _ (c .before .if2 .left)))
 
 returns-3 : tie.Need-returns-3
 returns-3 c = λ e. absurd (true≢false (sym e))
@@ -34,34 +34,34 @@ returns-3 c = λ e. absurd (true≢false (sym e))
 balises-obey-requires : tie.Need-balises-obey-requires
 balises-obey-requires c κs =
     let g = c .before .before .before .before .before .before .before .before .before .before .before .before .before .before in
-    (g .pre .0, balise-sort _ _ (g .pre .1), c .before .before .before .sort-obeys3 .ensures (not-false _ (c .before .if3 .left)))
+    (g .pre .0, balise-sort _ _ (g .pre .1), c .before .before .before .turnouts-pass .ensures (not-false _ (c .before .if3 .left)))
 
 returns-4 : tie.Need-returns-4
 returns-4 c = λ e. absurd (true≢false (sym e))
 
-sort-obeys-requires-4 : tie.Need-sort-obeys-requires-4
-sort-obeys-requires-4 c κs =
+signals-pass-requires : tie.Need-signals-pass-requires
+signals-pass-requires c κs =
     let g = c .before .before .before .before .before .before .before .before .before .before .before .before .before .before .before .before .before .before in
-    (g .pre .0, signal-sort _ _ (g .pre .1), c .before .before .before .balises-obey .ensures (not-false _ (c .before .if4 .left)))
+    (g .pre .0, g .pre .1, c .before .before .before .balises-obey .ensures (not-false _ (c .before .if4 .left)))
 
 returns-5 : tie.Need-returns-5
 returns-5 c = λ e. absurd (true≢false (sym e))
 
-sort-obeys-requires-5 : tie.Need-sort-obeys-requires-5
-sort-obeys-requires-5 c κs =
+joints-pass-requires : tie.Need-joints-pass-requires
+joints-pass-requires c κs =
     let g = c .before .before .before .before .before .before .before .before .before .before .before .before .before .before .before .before .before .before .before .before .before .before in
-    (g .pre .0, joint-sort _ _ (g .pre .1), c .before .before .before .sort-obeys4 .ensures (not-false _ (c .before .if5 .left)))
+    (g .pre .0, g .pre .1, c .before .before .before .signals-pass .ensures (not-false _ (c .before .if5 .left)))
 
 returns-6 : tie.Need-returns-6
 returns-6 c = λ e. absurd (true≢false (sym e))
 
-sort-obeys-requires-6 : tie.Need-sort-obeys-requires-6
-sort-obeys-requires-6 c κs =
+sidings-pass-requires : tie.Need-sidings-pass-requires
+sidings-pass-requires c κs =
     let g = c .before .before .before .before .before .before .before .before .before .before .before .before .before .before .before .before .before .before .before .before .before .before .before .before .before .before in
-    (g .pre .0, siding-sort _ _ (g .pre .1), c .before .before .before .sort-obeys5 .ensures (not-false _ (c .before .if6 .left)))
+    (g .pre .0, g .pre .1, c .before .before .before .joints-pass .ensures (not-false _ (c .before .if6 .left)))
 
 returns-7 : tie.Need-returns-7
-returns-7 c = λ e. passing-all _ _ _ _ (c .sort-obeys6 .ensures e)
+returns-7 c = λ e. passing-all _ _ _ _ (c .sidings-pass .ensures e)
 
 pub records-pass-spec : {M : Type 1} → statement M
 records-pass-spec =
@@ -71,13 +71,13 @@ records-pass-spec =
     returns
     sort-obeys-requires-2
     returns-2
-    sort-obeys-requires-3
+    turnouts-pass-requires
     returns-3
     balises-obey-requires
     returns-4
-    sort-obeys-requires-4
+    signals-pass-requires
     returns-5
-    sort-obeys-requires-5
+    joints-pass-requires
     returns-6
-    sort-obeys-requires-6
+    sidings-pass-requires
     returns-7)
