@@ -2,6 +2,7 @@ pub mod Checks
 pub mod Found
 pub mod Obeys
 pub mod Questions
+pub mod Neighbours
 pub mod Passes
 pub mod Linked
 pub mod Balises

@@ -10,8 +10,7 @@ use lib.Dec.{eqb, ltb}
 use borrow.Author.Tests.{not-false, lt-ltb, le-ltb}
 use Rattle.octets.specs.Octets.{numAt}
 use Rattle.verdict.specs.Facts.{test, same, both, either, denied, Holds, Fact, fact, AllHold, allTests}
-use Rattle.verdict.specs.declared.Judged.the-variants.{Accepted}
-use Rattle.verdict.proofs.Facts.{tested, tests-hold, judged-iff}
+use Rattle.verdict.proofs.Facts.{tested}
 use Rattle.verdict.proofs.Orders.{le-or-lt}
 use Rattle.x2_records.specs.declared.Kind.{Kind}
 use Rattle.x2_records.specs.declared.Kind.the-variants.{StartBoundary, EndBoundary, Turnout, Balise, Signal, Joint}
@@ -27,9 +26,6 @@ use Rattle.x2_links.specs.inner.Marks.{Targets}
 use Rattle.x2_verdict.specs.inner.Passes.{aims, LinkHolds, LinksHold, MemberHolds, RecordLinked, linkKind}
 
 -- ---- tests and facts
-
-pub tests-all : (fs : List Fact) → allTests fs ≡ true → AllHold fs
-tests-all fs e = judged-iff fs .0 (tests-hold Accepted fs e)
 
 pub all-tests : (fs : List Fact) → AllHold fs → true ≡ allTests fs
 unfolding AllHold
@@ -173,19 +169,3 @@ module _ (f : List ℕ) (l : Layout) (at : ℕ) where
     targets = h .targets;
     returns = subst (λ (b : Bool). AllHold (cond b (sameLinks f before at) (returns f l at [] (linkPlaces Balise at)))) (sym e) (h .alike);
   }
-
-  -- a member, from what was read: x and y are its links, a and b say that they aim right
-  pub member-holds :
-      (marks : List ℕ) → Targets f l marks → (before x y : ℕ) → x ≡ linkAt f (at + 1) → y ≡ linkAt f (at + 3) → x ≤ placeMost → y ≤ placeMost → (a b s : Bool) → a ≡ aims marks at x → b ≡ aims marks at y → s ≡ allTests (sameLinks f before at)
-      → ((a && b) && s) ≡ true → MemberHolds f l before at
-  unfolding AllHold
-  member-holds marks t before x y d e m n a b s p q r h =
-      let all = both-true (a && b) s h in
-      let two = both-true a b (all .0) in
-      record {
-        targets = (
-          subst (λ (z : ℕ). Holds (either (same z 0) (both (denied (same z at)) (isTarget f l z)))) d (aims-hold f l marks t at x m (sym p ∙ two .0)),
-          (subst (λ (z : ℕ). Holds (either (same z 0) (both (denied (same z at)) (isTarget f l z)))) e (aims-hold f l marks t at y n (sym q ∙ two .1)), tt),
-        );
-        alike = tests-all (sameLinks f before at) (sym r ∙ all .1);
-      }

@@ -4,12 +4,13 @@ ghost use mathlib.Core.Path.{_≡_};
 ghost use mathlib.Core.Bool.{true};
 ghost use Prim.Native.Nat.{_+_, _≤_, _<_};
 ghost use lib.ListN.{length};
-ghost use Rattle.octets.specs.Octets.{Is};
 ghost use Rattle.tables.specs.Rows.{RowObeys};
 ghost use Rattle.x2_records.specs.Places.{baliseSize};
 ghost use Rattle.x2_records.specs.Rows as row;
 ghost use Rattle.x2_verdict.specs.inner.Balises.{leading, FixedObeys, GroupObeys, MessageObeys};
-use tables::Field;
+use crate::inside::byte;
+use crate::inside::byte_of;
+use crate::inside::later_byte_of;
 use tables::bits_of;
 use x2_records::Balise;
 
@@ -28,30 +29,6 @@ const POSITION_TOP: usize = 0x80;
 
 // The byte that ends a balise's message.
 const MESSAGE_END: usize = 0xFF;
-
-// The byte at a place.
-fn byte(f: &[u8], place: usize) -> usize
-    requires { ⌜ place < length (now f) ⌝ }
-    ensures { λ r. ⌜ Is 1 (now (f .entry)) place r ⌝ }
-{
-    f[place] as usize
-}
-
-// The first byte of a field.
-pub fn byte_of(f: &[u8], at: usize, k: Field) -> usize
-    requires { ⌜ at + k .0 < length (now f) ⌝ }
-    ensures { λ r. ⌜ Is 1 (now (f .entry)) (at + k .0) r ⌝ }
-{
-    byte(f, at + k.0 as usize)
-}
-
-// The byte of a field that has so many bytes of the field before it.
-fn later_byte_of(f: &[u8], at: usize, k: Field, i: usize) -> usize
-    requires { ⌜ at + k .0 + i < length (now f) ⌝ }
-    ensures { λ r. ⌜ Is 1 (now (f .entry)) (at + k .0 + i) r ⌝ }
-{
-    byte(f, at + k.0 as usize + i)
-}
 
 // The number is not that which stands for no balise.
 fn number_passes(f: &[u8], at: usize) -> bool

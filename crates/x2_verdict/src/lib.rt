@@ -38,6 +38,7 @@ use x2_returns::check_returns;
 
 mod balise_pass;
 mod first_pass;
+mod inside;
 mod kind_passes;
 mod second_pass;
 mod starts;

@@ -97,3 +97,8 @@ LikePlain f l k = (before at : ℕ) → LinksHold f l at (linkPlaces Balise at) 
 pub record AllLinked (f : List ℕ) (l : Layout) : Type 0 where
   pub targets : Accepted ≡ judge Accepted (targetFacts f l)
   pub returns : Accepted ≡ judge Accepted (returnFacts f l)
+
+-- the link y of a record obeys that has the link x too: it is 0, or is another
+pub record NextHolds (f : List ℕ) (l : Layout) (at x y : ℕ) : Type 0 where
+  pub link : LinkHolds f l at y
+  pub another : Holds (either (same y 0) (denied (same x y)))

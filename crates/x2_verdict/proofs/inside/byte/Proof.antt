@@ -1,9 +1,9 @@
--- `x2_verdict::balise_pass::byte` meets its contract.
+-- `x2_verdict::inside::byte` meets its contract.
 use native.Mathlib.Omega.{arith}
 use Rattle.octets.proofs.Reading.{one}
 use borrow.Author.Needs.{needs}
-use Rattle.x2_verdict.proofs.balise_pass.byte.Statement.{statement}
-use Rattle.x2_verdict.proofs.balise_pass.byte.Tie as tie
+use Rattle.x2_verdict.proofs.inside.byte.Statement.{statement}
+use Rattle.x2_verdict.proofs.inside.byte.Tie as tie
 
 cast-result : tie.Need-cast-result
 cast-result c = omega (arith, c .shared-slice-known .given (c .before .args .place))
