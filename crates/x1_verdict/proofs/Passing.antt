@@ -8,6 +8,7 @@ use mathlib.Core.List.{List, [], _++_, flatMap}
 use mathlib.Core.Logic.{⊎-elim}
 use native.Mathlib.Omega.{arith}
 use lib.Dec.{ltb, leb, eqb}
+use lib.ListN.{length}
 use lib.IntN.{natAbs}
 use borrow.Author.Tests.{ltb-true, leb-true, eqb-true, le-leb, lt-ltb, le-ltb, eq-eqb, ne-eqb}
 use Rattle.octets.specs.Octets.{halfOf, signed, signedAt, Is}
@@ -26,9 +27,9 @@ use Rattle.x1_layout.specs.Layout.{endOf, pointsAt, firstOf, lastOf, entries}
 use Rattle.x1_fields.specs.Fields.{headerFields, entryFields, pointFields}
 use Rattle.x1_verdict.specs.declared.agreement.Frame.{Frame}
 use Rattle.x1_verdict.specs.Fields.{allPoints}
-use Rattle.x1_verdict.specs.Agreement.{opens, rises, stays, closes, numberAgrees, pointAgrees, trackAgrees, agreementFacts}
+use Rattle.x1_verdict.specs.Agreement.{FrameOf, opens, rises, stays, closes, numberAgrees, pointAgrees, trackAgrees, agreementFacts}
 use Rattle.x1_verdict.specs.inner.FirstOff.{pointsFrom, Later, LaterOff}
-use Rattle.x1_verdict.specs.inner.Pass.{fieldsFrom, FieldsIfSmall, PointPassed, EdgePassed, LastPassed, FieldsPassed, LaterPassed, TrackPassed, Passing, TracksPassed, AllPassed}
+use Rattle.x1_verdict.specs.inner.Pass.{fieldsFrom, FieldsIfSmall, PointPassed, EdgePassed, LastPassed, RoomyInside, FieldsPassed, LaterPassed, TrackPassed, Passing, TracksPassed, AllPassed}
 use Rattle.x1_verdict.proofs.Checks.{point-tested, later-tested, points-judged}
 use Rattle.x1_verdict.proofs.Tracks.{record-over, later-over, off-none, track-tested}
 
@@ -109,6 +110,27 @@ module _ (f : List ℕ) (size e p : ℕ) (x z : Bool) (a : x ≡ true → Fields
           };
           here = here ∙ l;
         }
+
+-- a track with room for every increment and more than one point, the last of which ends at n
+pub roomy-inside :
+    (f : List ℕ) (e : ℕ) (t : Frame) (n : ℕ) → FrameOf f e t → fieldPlace (t .last) near < n → (t .roomy && (ltb (t .first) (t .last) && leb n (length f))) ≡ true
+    → RoomyInside f e t
+roomy-inside f e t n frame l h =
+    let roomy = and-true (t .roomy) (ltb (t .first) (t .last) && leb n (length f)) h in
+    let whole = and-true (ltb (t .first) (t .last)) (leb n (length f)) (roomy .1) in
+    record { frame = frame; roomy = roomy .0; more = ltb-true (t .first) (t .last) (whole .0); inside = omega (arith, leb-true n (length f) (whole .1)) }
+
+-- a point of it, neither the first nor the last one: n is the point's position, m that of the point before it, k its heading without sign, b
+-- its near flag
+pub roomy-passed :
+    (f : List ℕ) (size e p : ℕ) (t : Frame) → t .roomy ≡ true → Later f size e t p
+    → (m n : ℕ) → m ≡ valueOf f (p - size) position → n ≡ valueOf f p position → m < n
+    → (k : ℕ) → Is 2 f (fieldPlace p heading) k → (leb k headingMost || leb (headingLeast) k) ≡ true
+    → (b : ℕ) → Is 1 f (fieldPlace p near) b → b ≤ 1 → PointPassed f size e p
+roomy-passed f size e p t roomy l m n i j rises k a heads b c low =
+    let flag = (tested (liesBetween 0 1 (valueOf f p near))) .1 (omega arith, omega (arith, c .is)) in
+    later-passed f size e p true true (λ _. fields-passed f p k a true (sym flag) (simp (bool.and-true, heads))) (sym (l .frame .roomy roomy p)) m n i j t l
+    (simp (bool.and-true, lt-ltb m n rises))
 
 module _ (f : List ℕ) (size e p : ℕ) where
   -- what the tests of a point say of its position: it is not above the limit, and above that of the point before it

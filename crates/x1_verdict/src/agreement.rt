@@ -1,17 +1,18 @@
 // The agreement of X.1 (01, 'Agreement' and 'Agreement in X.1'): 7 in 01's table.
 ghost use mathlib.Core.Path.{_≡_};
-ghost use mathlib.Core.Bool.{cond};
+ghost use mathlib.Core.Bool.{true, cond};
 ghost use mathlib.Core.List.{[], _∷_, flatMap};
 ghost use Prim.Native.Nat.{_+_, _^_, _<_};
 ghost use lib.Dec.{ltb, eqb};
 ghost use lib.IntN.{natAbs, _+ℤ_, _-ℤ_};
 ghost use lib.Signed.{mag};
-ghost use Rattle.octets.specs.Octets.{bytesOf};
+ghost use Rattle.octets.specs.Octets.{bytesOf, halfOf};
 ghost use Rattle.verdict.specs.Facts.{same, atMost, test, allTests, also, judge};
 ghost use Rattle.rules.specs.Rules.{zeroAt, sameAs, above};
 ghost use Rattle.tables.specs.Table.{signedOf};
+ghost use Rattle.x1_records.specs.Places.{latitudeMost, longitudeMost};
 ghost use Rattle.x1_layout.specs.Layout.{firstOf, lastOf};
-ghost use Rattle.x1_verdict.specs.Agreement.{SumOf, Roomy, FrameOf, fieldRow, pointMark, sumWithin, sumIs, numberAgrees, opens, rises, stays, closes, pointAgrees, pointsOf, trackAgrees, agreementFacts};
+ghost use Rattle.x1_verdict.specs.Agreement.{SumOf, FrameOf, fieldRow, pointMark, sumWithin, sumIs, numberAgrees, opens, rises, stays, closes, pointAgrees, pointsOf, trackAgrees, agreementFacts};
 ghost use Rattle.x1_verdict.specs.inner.FirstOff.{Later, LaterOff, FirstOff};
 use crate::pass::tracks_reached;
 use octets::byte_at;
@@ -21,7 +22,6 @@ use rules::same_as;
 use rules::zero_at;
 use tables::Field;
 use tables::equals;
-use tables::lies_within;
 use tables::number_of;
 use tables::place_of;
 use tables::signed_of;
@@ -154,12 +154,12 @@ pub struct Frame {
 // An increment has three bytes, and no number of three bytes reaches so far.
 const BEYOND: usize = 0x100_0000;
 
-// The track of the entry at e starts so far inside both ranges that no increment leads out of them.
-fn is_roomy(f: &[u8], e: u32) -> bool
-    ensures { λ r. ⌜ Roomy (now (f .entry)) e r ⌝ }
+// A track that starts there starts so far inside both ranges that no increment leads out of them.
+pub fn is_roomy(latitude: i64, longitude: i64) -> bool
+    ensures { λ r. ⌜ (r ≡ true → (natAbs latitude + halfOf 3 < latitudeMost) × (natAbs longitude + halfOf 3 < longitudeMost)) ⌝ }
 {
-    let north = lies_within(f, e, Track::START_LATITUDE, LATITUDE_MOST - BEYOND);
-    let east = lies_within(f, e, Track::START_LONGITUDE, LONGITUDE_MOST - BEYOND);
+    let north = distance(latitude) <= LATITUDE_MOST - BEYOND;
+    let east = distance(longitude) <= LONGITUDE_MOST - BEYOND;
     north & east
 }
 
@@ -167,12 +167,14 @@ fn is_roomy(f: &[u8], e: u32) -> bool
 pub fn frame_of(f: &[u8], e: u32) -> Frame
     ensures { λ r. ⌜ FrameOf (now (f .entry)) e r ⌝ }
 {
+    let latitude = signed_of(f, e, Track::START_LATITUDE);
+    let longitude = signed_of(f, e, Track::START_LONGITUDE);
     Frame {
         first: number_of(f, e, Track::FIRST) as u16,
         last: number_of(f, e, Track::LAST) as u16,
-        latitude: signed_of(f, e, Track::START_LATITUDE),
-        longitude: signed_of(f, e, Track::START_LONGITUDE),
-        roomy: is_roomy(f, e),
+        latitude: latitude,
+        longitude: longitude,
+        roomy: is_roomy(latitude, longitude),
     }
 }
 

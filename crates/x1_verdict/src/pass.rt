@@ -4,19 +4,23 @@
 ghost use mathlib.Core.Path.{_≡_};
 ghost use mathlib.Core.Bool.{true};
 ghost use Prim.Native.Nat.{_+_, _-_, _^_, _≤_, _<_};
+ghost use lib.ListN.{length};
+ghost use Rattle.octets.specs.Octets.{Is, IsSigned};
 ghost use Rattle.tables.specs.Table.{valueOf};
+ghost use Rattle.x1_records.specs.Places.{entrySize};
 ghost use Rattle.x1_records.specs.Rows.{position};
 ghost use Rattle.x1_verdict.specs.Agreement.{FrameOf};
 ghost use Rattle.x1_verdict.specs.inner.FirstOff.{Later};
-ghost use Rattle.x1_verdict.specs.inner.Pass.{FieldsIfSmall, PointPassed, EdgePassed, LastPassed, LaterPassed, TrackPassed, Passing, TracksPassed, AllPassed};
+ghost use Rattle.x1_verdict.specs.inner.Pass.{FieldsIfSmall, PointPassed, EdgePassed, LastPassed, LaterPassed, RoomyInside, TrackPassed, Passing, TracksPassed, AllPassed};
 use crate::agreement::Frame;
 use crate::agreement::closing_obeys;
-use crate::agreement::frame_of;
+use crate::agreement::is_roomy;
 use crate::agreement::number_obeys;
 use crate::agreement::opening_obeys;
 use crate::agreement::stay_obeys;
 use crate::fields::entries_fields;
 use envelope::end_of;
+use octets::Width;
 use tables::lies_between;
 use tables::number_of;
 use verdict::Judged;
@@ -43,6 +47,65 @@ pub struct Reached {
     pub entry: u32,
     pub due: u32,
 }
+
+// ---- what lies inside the file, read with no test of where it ends
+
+// The byte at a place inside the file.
+fn byte_inside(f: &[u8], at: usize) -> usize
+    requires { ⌜ at < length (now f) ⌝ }
+    ensures { λ r. ⌜ Is 1 (now (f .entry)) at r ⌝ }
+{
+    f[at] as usize
+}
+
+// The number of two bytes that lie inside the file.
+fn two_inside(f: &[u8], at: usize) -> usize
+    requires { ⌜ at + 2 ≤ length (now f) ⌝ }
+    ensures { λ r. ⌜ Is 2 (now (f .entry)) at r ⌝ }
+{
+    byte_inside(f, at) + 256 * byte_inside(f, at + 1)
+}
+
+// The number of four bytes that lie inside the file.
+fn four_inside(f: &[u8], at: usize) -> usize
+    requires { ⌜ at + 4 ≤ length (now f) ⌝ }
+    ensures { λ r. ⌜ Is 4 (now (f .entry)) at r ⌝ }
+{
+    byte_inside(f, at) + 256 * (byte_inside(f, at + 1) + 256 * two_inside(f, at + 2))
+}
+
+// The signed number of four bytes that lie inside the file.
+fn signed_inside(f: &[u8], at: usize) -> i64
+    requires { ⌜ at + 4 ≤ length (now f) ⌝ }
+    ensures { λ r. ⌜ IsSigned 4 (now (f .entry)) at r ⌝ }
+{
+    let n = four_inside(f, at);
+    let half = Width::Four.half();
+    if n < half {
+        n as i64
+    } else {
+        -1 - (half + half - 1 - n) as i64
+    }
+}
+
+// The frame of the entry at e, which lies inside the file.
+fn frame_inside(f: &[u8], e: u32) -> Frame
+    requires { ⌜ e + entrySize ≤ length (now f) ⌝ }
+    ensures { λ r. ⌜ FrameOf (now (f .entry)) e r ⌝ }
+{
+    let at = e as usize;
+    let latitude = signed_inside(f, at + Track::START_LATITUDE.0 as usize);
+    let longitude = signed_inside(f, at + Track::START_LONGITUDE.0 as usize);
+    Frame {
+        first: two_inside(f, at + Track::FIRST.0 as usize) as u16,
+        last: two_inside(f, at + Track::LAST.0 as usize) as u16,
+        latitude: latitude,
+        longitude: longitude,
+        roomy: is_roomy(latitude, longitude),
+    }
+}
+
+// ---- the pass
 
 // The point at p obeys by its fields, but for the limit of its position.
 fn fields_pass(f: &[u8], p: u32) -> bool
@@ -99,6 +162,35 @@ fn last_passes(f: &[u8], size: u8, e: u32, t: Frame, p: u32) -> bool
     last & ((before < here) & ((here <= POSITION_MOST) & (fields & (stays & closes))))
 }
 
+// How far the pass comes over the points of the entry at e after its first one and before its last, where no increment leads out of the
+// ranges and the last one lies inside the file, so that nothing is asked but what is tested here. It stops where one does not pass. The
+// second point's place is handed over.
+fn roomy_pass(f: &[u8], size: u8, e: u32, t: Frame, second: usize) -> u32
+    requires { ⌜ RoomyInside (now f) e t × (0 < size) × (second ≡ t .first + size) ⌝ }
+    ensures { λ r. ⌜ LaterPassed (now (f .entry)) size e r ⌝ }
+{
+    let step = size as usize;
+    let last = t.last as usize;
+    let mut before = four_inside(f, second - step + Point::POSITION.0 as usize);
+    let mut p = second;
+    while p < last {
+        let here = four_inside(f, p + Point::POSITION.0 as usize);
+        if here <= before {
+            return p as u32;
+        }
+        let heading = two_inside(f, p + Point::HEADING.0 as usize);
+        if !((heading <= HEADING_MOST) | (HEADING_LEAST <= heading)) {
+            return p as u32;
+        }
+        if byte_inside(f, p + Point::NEAR.0 as usize) > 1 {
+            return p as u32;
+        }
+        before = here;
+        p = p + step;
+    }
+    p as u32
+}
+
 // How far the pass comes over the points of the entry at e after its first one and before its last. It stops where one does not pass, or
 // where the file ends inside it.
 fn later_pass(f: &[u8], size: u8, e: u32, t: Frame) -> u32
@@ -107,6 +199,11 @@ fn later_pass(f: &[u8], size: u8, e: u32, t: Frame) -> u32
 {
     let step = size as u32;
     let last = t.last as u32;
+    let inside = last as usize + Point::SIZE as usize <= f.len();
+    if t.roomy & ((t.first < t.last) & inside) {
+        let second = t.first as usize + size as usize;
+        return roomy_pass(f, size, e, t, second);
+    }
     let mut before = number_of(f, t.first as u32, Point::POSITION);
     let mut p = t.first as u32 + step;
     while p < last {
@@ -136,7 +233,7 @@ fn track_passes(f: &[u8], size: u8, e: u32, due: u32) -> Passed
             next: 0,
         };
     }
-    let t = frame_of(f, e);
+    let t = frame_inside(f, e);
     let first = t.first as u32;
     let number = number_obeys(f, e);
     let opens = first_passes(f, size, e, t);

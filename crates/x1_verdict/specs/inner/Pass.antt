@@ -4,17 +4,19 @@ use Prim.Native.Nat.{ℕ, _+_, _-_, _^_, _≤_, _<_}
 use mathlib.Core.Path.{_≡_}
 use mathlib.Core.Bool.{true}
 use mathlib.Core.List.{List, flatMap}
+use lib.ListN.{length}
 use Rattle.verdict.specs.declared.Judged.{Judged}
 use Rattle.verdict.specs.declared.Judged.the-variants.{Accepted}
 use Rattle.verdict.specs.Facts.{Fact, allTests, judge}
 use Rattle.verdict.specs.Walk.{startsFrom}
-use Rattle.tables.specs.Table.{valueOf}
+use Rattle.tables.specs.Table.{fieldPlace, valueOf}
 use Rattle.x1_records.specs.Places.{entrySize, positionMost}
-use Rattle.x1_records.specs.Rows.{position}
+use Rattle.x1_records.specs.Rows.{position, near}
 use Rattle.x1_layout.specs.Layout.{endOf, pointsAt, firstOf, lastOf}
 use Rattle.x1_fields.specs.Fields.{pointFields}
+use Rattle.x1_verdict.specs.declared.agreement.Frame.{Frame}
 use Rattle.x1_verdict.specs.Fields.{allPoints, fieldFacts}
-use Rattle.x1_verdict.specs.Agreement.{pointAgrees, trackAgrees, agreementFacts}
+use Rattle.x1_verdict.specs.Agreement.{FrameOf, pointAgrees, trackAgrees, agreementFacts}
 use Rattle.x1_verdict.specs.inner.FirstOff.{pointsFrom}
 
 -- the facts of the fields of the points from p on
@@ -43,6 +45,13 @@ pub record EdgePassed (f : List ℕ) (size e p : ℕ) : Type 0 where
 pub record LastPassed (f : List ℕ) (size e p : ℕ) : Type 0 where
   pub edge : EdgePassed f size e p
   pub here : p ≡ lastOf f e
+
+-- t is what the entry at e has: room for every increment, more than one point, and the last of them inside f
+pub record RoomyInside (f : List ℕ) (e : ℕ) (t : Frame) : Type 0 where
+  pub frame : FrameOf f e t
+  pub roomy : t .roomy ≡ true
+  pub more : t .first < t .last
+  pub inside : fieldPlace (t .last) near < length f
 
 -- the fields of the points from one place on and before another obey
 pub record FieldsPassed (f : List ℕ) (size from p : ℕ) : Type 0 where

@@ -18,7 +18,7 @@ returns c =
 
 last-passes-requires : tie.Need-last-passes-requires
 last-passes-requires c κs =
-    let frame = c .before .before .before .before .frame-of .ensures in
+    let frame = c .before .before .before .before .frame-inside .ensures in
     (frame, omega (arith, frame .first, c .later-pass .ensures .after))
 
 returns-2 : tie.Need-returns-2
@@ -27,7 +27,7 @@ returns-2 c =
     let later = c .before .later-pass in
     let opens = c .before .before .first-passes in
     let number = c .before .before .before .number-obeys in
-    let frame = c .before .before .before .before .before .frame-of in
+    let frame = c .before .before .before .before .before .frame-inside in
     let s = c .before .before .before .before .before .before .before .before in
     let a = s .args in (
       λ h.
