@@ -1,5 +1,7 @@
 // What lies ahead, for a cab unit (02, ticket 9): the objects ahead of the one that was last passed, in order, by the lies of the turnouts, and
 // why the list stops. A layer above the pair and the graph of X.2: the pair is judged once, and then links are followed.
+#![tactic(auto)]
+
 ghost use Rattle.std.specs.Prelude.{◌≡◌, length};
 ghost use Rattle.verdict.specs.Answers.{answer_number, answer_place};
 ghost use Rattle.ahead.specs.Ahead.{stop_number};
@@ -30,7 +32,7 @@ pub const UNKNOWN: u8 = 2;
 pub const ROOM_LEAST: usize = 128;
 
 // Why a list stops, in the order in which the ticket says it.
-#[derive(Drop)]
+#[derive(Clone, Copy)]
 pub enum Stop {
     // at a boundary, which stands last
     Boundary,
@@ -47,14 +49,14 @@ pub enum Stop {
 }
 
 // How many objects are listed, and why no more.
-#[derive(Drop)]
+#[derive(Clone, Copy)]
 pub struct Sight {
     pub objects: usize,
     pub stop: Stop,
 }
 
 // The answer.
-#[derive(Drop)]
+#[derive(Clone, Copy)]
 pub enum AheadAnswer {
     Listed(Sight),
     // the pair's own fault, with its file

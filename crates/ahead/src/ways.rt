@@ -7,7 +7,7 @@ use crate::{LIES, NORMAL, REVERSE, Stop, UNKNOWN};
 use route_graph::{Object, TurnoutLinks};
 
 // On by a link, or no further.
-#[derive(Drop)]
+#[derive(Clone, Copy)]
 pub enum Way {
     On(u16),
     Stops(Stop),

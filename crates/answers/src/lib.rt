@@ -1,6 +1,8 @@
 // What the programs print for each question: `answer NUMBER PLACE` (for a pair, and for what lies ahead, `answer NUMBER PLACE FILE`), and after an
 // answer its values, a name and a value to a line (the objects ahead all on one line), numbers in decimal and a binary64 by its bits; after a
 // refusal nothing. Each function returns the answer's number, 0 where it was answered.
+#![tactic(auto)]
+
 mod ahead_answers;
 mod degrees_answers;
 mod geography_answers;

@@ -2,6 +2,8 @@
 // bytes a step, by tables of what each byte makes of an empty register once some empty bytes have followed. Of a turn's bytes the first four
 // meet the register, and twelve empty bytes follow them; the other twelve enter an empty register and need not wait for the first four.
 // What both make, joined, is what the sixteen make. Of a long file only few bytes go so: reach.rt says how all others are taken away first.
+#![tactic(auto)]
+
 mod reach;
 mod table;
 mod terms;

@@ -1,4 +1,6 @@
 // The number that a text is in decimal digits.
+#![tactic(auto)]
+
 ghost use Rattle.std.specs.Prelude.{◌≡◌, ◌+◌, ◌*◌, min, ◌≤◌, ◌<◌};
 ghost use Rattle.decimal.specs.Decimal.{is_digit, number_in};
 

@@ -1,5 +1,7 @@
 // Degrees for a drawing program (02, ticket 14): whole milliarcseconds as a binary64 number of degrees, by one division, and such a number's
 // bits.
+#![tactic(auto)]
+
 ghost use Rattle.std.specs.Prelude.{◌≡◌};
 ghost use Rattle.std.specs.Float.{binary64};
 ghost use Rattle.std.specs.Float.Ieee.{to_bits};
@@ -12,7 +14,7 @@ const DEGREE: f64 = 3600000.0;
 const NOT_A_NUMBER: u64 = 0x7ff8_0000_0000_0000;
 
 // A latitude and a longitude in degrees.
-#[derive(Drop)]
+#[derive(Clone, Copy)]
 pub struct Degrees {
     pub latitude: f64,
     pub longitude: f64,

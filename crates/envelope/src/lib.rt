@@ -1,5 +1,7 @@
 // What both files have alike (01, 'Bytes and checksum' and 'Verdicts and their order'): how long they are at most, End, the first fields
 // of the header, and the checks of the checksum, the file type and the structure version, 2 to 4 in 01's table.
+#![tactic(auto)]
+
 ghost use Rattle.std.specs.Prelude.{◌≡◌};
 ghost use Rattle.verdict.specs.Facts.{judge};
 ghost use Rattle.envelope.specs.Seal.{end_of, structure_of, seal_facts};
@@ -34,7 +36,7 @@ const FIRST_STRUCTURE: usize = 1;
 pub const CHECKSUM_SIZE: usize = 4;
 
 // The fields that follow the file type in the header of both files: the structure version, the data version and the station.
-#[derive(Drop)]
+#[derive(Clone, Copy)]
 pub struct Header {
     pub structure: usize,
     pub data: usize,

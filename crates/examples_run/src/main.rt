@@ -1,6 +1,8 @@
 // The examples of 01 that are not marked P, run: yard Y and the X.1 file with one track and two points, each with some bytes changed and
 // the checksum repaired, and the verdict of each; the routes of Y from 44 with some budgets and rooms; and what
 // yardlist prints of Y. The expected output is the paper's.
+#![tactic(auto)]
+
 ghost use Rattle.std.specs.Prelude.{◌≡◌, ◌<◌, length};
 
 use libc::STDOUT_FILENO;

@@ -1,5 +1,7 @@
 // The reader for other languages: verdicts, pair, questions and the loader as C functions with numbers and byte slices only. `include/yard.h`
 // says what each argument and each result means.
+#![tactic(auto)]
+
 ghost use Rattle.std.specs.Prelude.{◌≡◌, length};
 ghost use Rattle.checksum.specs.Checksum.{checksum_of};
 ghost use Rattle.x1_verdict.specs.Facts as geography;

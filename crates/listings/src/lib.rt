@@ -1,5 +1,7 @@
 // What the programs print about routes (01, 'Routes'): the answer to one question, and the list of a whole station. A route is a line with
 // the offsets of its objects. The answers are those of crate route_question; here they become text.
+#![tactic(auto)]
+
 ghost use Rattle.std.specs.Prelude.{◌≡◌, min};
 ghost use Rattle.verdict.specs.Reasons.{number_in};
 ghost use Rattle.verdict.specs.Answers.{answer_number};

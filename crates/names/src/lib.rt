@@ -1,5 +1,7 @@
 // Names (01, 'X.2, fixed application'; of objects by 02, ticket 10): the 8 bytes of an object's name and the 16 bytes of a station's name.
 // `place` is the first byte of the name, `start` where its record starts. A byte past the end of the file counts as 0.
+#![tactic(auto)]
+
 ghost use Rattle.std.specs.Prelude.{◌≡◌, [], ◌∷◌, ◌+◌, ◌*◌, ◌-◌, min, ◌≤◌, length};
 ghost use Rattle.verdict.specs.Facts.{judge, test};
 ghost use Rattle.names.specs.Names.{object_bytes, station_codes, byte_after, zeros, lead, Counted, code_count, station_bytes, station_name_length, is_code, codes, naming_of, name_at, object_name, object_name_fact, station_name_fact};
@@ -45,14 +47,14 @@ const AFTER_GAP: usize = 0x80;
 const SECOND_GREATEST: usize = 0xFE;
 
 // What the 8 bytes of a field are: a name of so many bytes, 0 where it is empty, or no name.
-#[derive(Drop)]
+#[derive(Clone, Copy)]
 pub enum Naming {
     Bytes(usize),
     NoName,
 }
 
 // The name of an object in a file: where its first byte stands, and how many bytes it has, 0 for none.
-#[derive(Drop)]
+#[derive(Clone, Copy)]
 pub struct Name {
     pub place: usize,
     pub bytes: usize,

@@ -1,10 +1,12 @@
 // Numbers from bytes, little-endian, at a place of a slice (01, 'Bytes and checksum'). A byte past the end counts as 0, so that every
 // function answers for every place and reads no byte outside the slice.
+#![tactic(auto)]
+
 ghost use Rattle.std.specs.Prelude.{◌≡◌, ◌+◌, ◌-◌, min, ◌≤◌, ◌<◌, length, nat_abs};
 ghost use Rattle.octets.specs.Octets.{bytes_of, half_of, Is, IsSigned, signed, signed_at};
 
 // How many bytes a number has.
-#[derive(Drop)]
+#[derive(Clone, Copy)]
 pub enum Width {
     One,
     Two,

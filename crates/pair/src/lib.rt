@@ -1,4 +1,6 @@
 // The station pair (01, 'The pair'): X.1 and X.2 held against each other, 10 to 12 in 01's table.
+#![tactic(auto)]
+
 mod pass;
 mod spots;
 mod tracks;

@@ -1,4 +1,6 @@
 // A line of the engineer's plan (docs/PLAN.md): what it says, by the words before its comment. A line that is a route has the offsets of its objects.
+#![tactic(auto)]
+
 ghost use Rattle.std.specs.Prelude.{◌≡◌, true, ◌++◌, ◌≤◌, length, drop};
 ghost use Rattle.plan_lines.specs.Lines.{is_blank, before, word, blanks, words_in, is_offset, all_offsets, offsets_of, is_from, count_of, from_by, route_by, line_by, line_of, left_by};
 
@@ -24,7 +26,7 @@ const CARRIAGE_RETURN: u8 = 0x0D;
 const FROM_BYTES: usize = 4;
 
 // What a line says.
-#[derive(Drop)]
+#[derive(Clone, Copy)]
 pub enum Line {
     // nothing
     Empty,
@@ -39,7 +41,7 @@ pub enum Line {
 }
 
 // What is wrong with a line.
-#[derive(Drop)]
+#[derive(Clone, Copy)]
 pub enum Slip {
     // `from` without one offset after it
     From,
@@ -58,7 +60,7 @@ pub enum Slip {
 }
 
 // How many words a text has, and whether all of them are offsets.
-#[derive(Drop)]
+#[derive(Clone, Copy)]
 pub struct Words {
     pub count: usize,
     pub offsets: bool,

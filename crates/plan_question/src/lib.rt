@@ -1,5 +1,7 @@
 // The routes of an X.2 file from a start, laid beside a plan (docs/PLAN.md): first what the question routes is refused by; else the list, and
 // how many routes of the plan it has not, and how many it has that the plan has not.
+#![tactic(auto)]
+
 ghost use Rattle.std.specs.Prelude.{◌≡◌, ◌≤◌, ◌++◌, length, drop};
 ghost use Rattle.route_walks.specs.Lent.{room_of};
 ghost use Rattle.plan_routes.specs.Routes.{routes_in};
@@ -19,7 +21,7 @@ pub const MOST_ROOM: usize = 65535;
 const MOST_BYTES: usize = WORD_SIZE * MOST_ROOM;
 
 // The words and the routes of a list; how many routes of the plan are missing in it, and how many of its own are extra.
-#[derive(Drop)]
+#[derive(Clone, Copy)]
 pub struct Compared {
     pub words: usize,
     pub routes: usize,
@@ -27,7 +29,7 @@ pub struct Compared {
     pub extra: usize,
 }
 
-#[derive(Drop)]
+#[derive(Clone, Copy)]
 pub enum PlanAnswer {
     Compared(Compared),
     Refused(Fault),

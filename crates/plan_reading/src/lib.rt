@@ -1,4 +1,6 @@
 // A plan, read line by line (docs/PLAN.md): the start that holds, the routes of the lines above, and what the next line says with them.
+#![tactic(auto)]
+
 ghost use Rattle.std.specs.Prelude.{◌≡◌, suc, ◌+◌, ◌≤◌, ◌<◌, length};
 ghost use Rattle.plan_lines.specs.Lines.{route_most};
 ghost use Rattle.plan_reading.specs.Reading.{is_elsewhere, laid, wrong_by, route_taken, route_left, taken_of, plan_after};
@@ -11,14 +13,14 @@ use plan_routes::stands;
 pub const NO_START: usize = 65536;
 
 // How far a plan is read: the start that the last line `from` has set, and how many words the routes take.
-#[derive(Drop)]
+#[derive(Clone, Copy)]
 pub struct Reading {
     pub start: usize,
     pub words: usize,
 }
 
 // What a line says with those above it.
-#[derive(Drop)]
+#[derive(Clone, Copy)]
 pub enum Said {
     Nothing,
     // it names this start
@@ -29,7 +31,7 @@ pub enum Said {
 }
 
 // What a line says, and how far the plan is read after it.
-#[derive(Drop)]
+#[derive(Clone, Copy)]
 pub struct Taken {
     pub said: Said,
     pub reading: Reading,

@@ -1,5 +1,7 @@
 // Routes in words, as the list has them that the question routes answers (01, 'Routes'): per route its object count, and then the offsets.
 // Here is which of them stand among others, so that a plan can be laid beside a list (docs/PLAN.md).
+#![tactic(auto)]
+
 ghost use Rattle.std.specs.Prelude.{◌≡◌};
 ghost use Rattle.plan_routes.specs.Routes.{routes_in, route_end, same_route, among, is_apart, apart};
 

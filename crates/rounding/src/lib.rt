@@ -1,5 +1,7 @@
 // The coordinate between two points (01, 'Coordinate at a position'): linear, the nearest whole number, a half going up (north, east).
 // `coordinate` answers for all numbers; what it needs so that no step leaves the machine's range are limits that hold all that 01 allows.
+#![tactic(auto)]
+
 ghost use Rattle.std.specs.Prelude.{◌≡◌, ◌*◌, ◌^◌, ◌≤◌, ◌<◌, nat_abs};
 ghost use Rattle.std.specs.Int.Signed.{shr_z};
 ghost use Rattle.rounding.specs.Nearest.{nearest_of, exact_of};
@@ -12,7 +14,7 @@ const FARTHEST: usize = 0x8000_0000;
 const LONGEST: usize = 0x7FFF_FFFF;
 
 // A coordinate on a way, or that what was asked is outside the limits.
-#[derive(Drop)]
+#[derive(Clone, Copy)]
 pub enum Way {
     At(i64),
     Outside,

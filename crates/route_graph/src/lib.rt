@@ -1,6 +1,8 @@
 // What stands at a place of a fixed application file, as far as its links go (01, 'X.2, fixed application' and 'Routes'): the file as a
 // graph. The kind follows from the region that the place lies in, and a number past the end of the file counts as 0, so everything here
 // answers for every file, every layout and every place.
+#![tactic(auto)]
+
 ghost use Rattle.std.specs.Prelude.{◌≡◌, [], ◌∷◌, length, get_or};
 ghost use Rattle.octets.specs.Octets.{num_at};
 ghost use Rattle.route_graph.specs.Objects.{link_at, view_of, object_at, boundary_starts, links_of, edge_link, is_boundary};
@@ -16,14 +18,14 @@ mod regions;
 pub use regions::{Ends, ends_of, kind_in, object_in};
 
 // The links of a balise, a signal or a joint, which are plain objects.
-#[derive(Drop)]
+#[derive(Clone, Copy)]
 pub struct PlainLinks {
     pub previous: u16,
     pub next: u16,
 }
 
 // The links of a turnout, and its number, by which its lie is told.
-#[derive(Drop)]
+#[derive(Clone, Copy)]
 pub struct TurnoutLinks {
     pub number: u8,
     pub front: u16,
@@ -32,7 +34,7 @@ pub struct TurnoutLinks {
 }
 
 // What stands at a place. A link of 0 is none.
-#[derive(Drop)]
+#[derive(Clone, Copy)]
 pub enum Object {
     // a boundary, with its link
     Boundary(u16),

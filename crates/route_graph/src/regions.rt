@@ -7,7 +7,7 @@ use x2_layout::Layout;
 use x2_records::Kind;
 
 // Where the boundaries, the turnouts and the plain objects end.
-#[derive(Drop)]
+#[derive(Clone, Copy)]
 pub struct Ends {
     pub boundaries: usize,
     pub turnouts: usize,

@@ -9,7 +9,7 @@ use route_graph::{Object, TurnoutLinks};
 use route_walks::LIMIT_MOST;
 
 // The walk of the first objects of the path, and a link by which it may go on.
-#[derive(Drop)]
+#[derive(Clone, Copy)]
 pub struct Choice {
     pub objects: u16,
     pub link: u16,

@@ -1,6 +1,8 @@
 // Every route from a boundary (01, 'Routes'), over what stands at each place of the file (crate route_graph): each once, in order, with the
 // number of all partial walks. Which walks are legal, and in which order they stand, is defined in crate route_walks. There are two listers (02,
 // ticket 12) with one contract: the functions of `lister` call each other, and `flat` holds the open choices in an array.
+#![tactic(auto)]
+
 ghost use Rattle.std.specs.Prelude.{◌≡◌};
 ghost use Rattle.verdict.specs.Answers.{answer_number, answer_place};
 ghost use Rattle.route_lister.specs.Answered.{routes_answer};
@@ -23,7 +25,7 @@ pub use lister::list;
 pub const DEFAULT_LIMIT: usize = 160;
 
 // The answer to the question for routes.
-#[derive(Drop)]
+#[derive(Clone, Copy)]
 pub enum RoutesAnswer {
     Listed(Tally),
     Refused(Fault),

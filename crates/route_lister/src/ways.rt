@@ -5,7 +5,7 @@ ghost use Rattle.route_lister.specs.inner.Ways.{turnout_way, way_of};
 use route_graph::{Object, TurnoutLinks};
 
 // How a walk goes on.
-#[derive(Drop)]
+#[derive(Clone, Copy)]
 pub enum Way {
     // not at all: a boundary is reached, and the walk is a route
     Arrives,

@@ -1,5 +1,7 @@
 // The question 'routes' about an X.2 file (01, 'A question ..' and 'Routes'): first the file's own fault, then 13, 14 and 15, else every
 // route from a boundary. Either of the two listers finds them (02, ticket 12), and what is answered and left is the same.
+#![tactic(auto)]
+
 ghost use Rattle.std.specs.Prelude.{◌≡◌};
 ghost use Rattle.route_walks.specs.Lent.{room_of};
 ghost use Rattle.route_question.specs.Routes.{routes_asked, left_asked};
@@ -10,7 +12,7 @@ use x2_layout::layout_of;
 use x2_verdict::verdict_of;
 
 // Which lister finds the routes.
-#[derive(Drop)]
+#[derive(Clone, Copy)]
 pub enum Engine {
     // the one whose functions call each other
     First,

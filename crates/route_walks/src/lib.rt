@@ -1,5 +1,7 @@
 // Partial walks and routes (01, 'Routes'): what they are, all of them in order, and the words that they take in the bytes lent. That is
 // defined in specs/; here stand the limits, the numbers that a lister counts, and the search for an object in a walk.
+#![tactic(auto)]
+
 ghost use Rattle.std.specs.Prelude.{◌≡◌};
 ghost use Rattle.route_walks.specs.Walks.{has};
 
@@ -19,7 +21,7 @@ pub const WORD_SIZE: usize = 2;
 pub const BYTE_VALUES: u16 = 256;
 
 // The partial walks opened, the routes among them, and the words that these take.
-#[derive(Drop)]
+#[derive(Clone, Copy)]
 pub struct Tally {
     pub walks: usize,
     pub routes: usize,

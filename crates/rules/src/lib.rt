@@ -1,6 +1,8 @@
 // The shapes of rules (01, 'Verdicts and their order'). One function for each shape that both files have: the verdict so far, then the
 // one fact that the constructor of the same name in specs/ makes. `start` is where the record starts, `place` the byte place that a
 // refusal reports.
+#![tactic(auto)]
+
 ghost use Rattle.std.specs.Prelude.{◌≡◌, [], ◌∷◌, ◌/◌, ◌%◌};
 ghost use Rattle.verdict.specs.Facts.{judge};
 ghost use Rattle.rules.specs.Rules.{length_between, is_number, between, fits, whole, ends_at, zero_at, same_as, above};

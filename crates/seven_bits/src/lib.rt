@@ -1,5 +1,7 @@
 // Numbers in groups of seven bits, low group first, the top bit set on all groups but the last, shortest form only. Each number fits 32
 // bits (02, ticket 6).
+#![tactic(auto)]
+
 ghost use Rattle.std.specs.Prelude.{◌≡◌, ◌+◌, ◌≤◌, ◌<◌, length};
 ghost use Rattle.std.proofs.Math.Seq.{paste};
 ghost use Rattle.seven_bits.specs.Numbers.{group_values, bad, found, joined, groups_at, number_at, groups_of, put_in, put_next};
@@ -19,7 +21,7 @@ const GROUP_VALUES: usize = 128;
 const REST_LIMIT: usize = NUMBER_LIMIT / GROUP_VALUES;
 
 // What is read at a place: a number, and the place behind its groups; where it is bad, 0 and the place itself.
-#[derive(Drop)]
+#[derive(Clone, Copy)]
 pub struct Number {
     pub good: bool,
     pub value: usize,

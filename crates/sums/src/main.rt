@@ -1,5 +1,7 @@
 // Reads cases from standard input until it ends, each a length in four bytes, low byte first, and that many bytes, and prints the
 // length and the checksum of each, one line a case. A case that is too long or cut short ends the run with a line on standard error.
+#![tactic(auto)]
+
 ghost use Rattle.std.specs.Prelude.{◌≤◌, ◌<◌};
 
 use libc::{STDERR_FILENO, STDIN_FILENO, STDOUT_FILENO};

@@ -2,6 +2,8 @@
 // bytes it has. For each sort of values that a row of a table allows there are two functions here: one tests the field, and one is the
 // verdict so far, then the facts of that row. A check tests a record as a whole, and goes fact by fact only where that fails. `at` is
 // where the record starts, a number of 32 bits, so that a field's place never overflows and nothing is asked of a caller.
+#![tactic(auto)]
+
 ghost use Rattle.std.specs.Prelude.{◌≡◌, [], ◌∷◌, ◌+◌, ◌/◌, ◌%◌, nat_abs};
 ghost use Rattle.octets.specs.Octets.{bytes_of, num_at, signed_at, Is, IsSigned};
 ghost use Rattle.verdict.specs.Facts.{same, at_most, test, also, judge};
@@ -16,15 +18,15 @@ use rules::{quotient, rest};
 use verdict::{Judged, Reason, Rule, also_fact};
 
 // A number's field: its place in the record, and its width.
-#[derive(Drop)]
+#[derive(Clone, Copy)]
 pub struct Field(pub u8, pub Width);
 
 // The field of an object's name, which has 8 bytes: its place in the record.
-#[derive(Drop)]
+#[derive(Clone, Copy)]
 pub struct NameField(pub u8);
 
 // Some bits of a byte: the byte divided by the first, modulo the second.
-#[derive(Drop)]
+#[derive(Clone, Copy)]
 pub struct Bits(pub usize, pub usize);
 
 // ---- what stands in a field

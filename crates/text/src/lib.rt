@@ -1,4 +1,6 @@
 // Lines of text on standard output. What is written no contract can say; that a function answers nothing, and for every input, it can.
+#![tactic(auto)]
+
 ghost use Rattle.std.specs.Prelude.{◌≡◌, ◌<◌};
 
 use libc::STDOUT_FILENO;

@@ -9,7 +9,7 @@ use seven_bits::put_number;
 pub const HEAD_MOST: usize = 35;
 
 // The numbers, in the first `length` of these bytes. The others are 0.
-#[derive(Drop)]
+#[derive(Clone, Copy)]
 pub struct Head {
     pub bytes: [u8; HEAD_MOST],
     pub length: usize,

@@ -1,5 +1,7 @@
 // A loader that cannot join two versions (02, ticket 6). A transfer is opened with an identity, every piece repeats it, and finishing runs the
 // reader on the whole. The state goes in by value and comes back by value; the room that the file is gathered in is lent.
+#![tactic(auto)]
+
 ghost use Rattle.std.specs.Prelude.{◌≡◌};
 ghost use Rattle.transfer.specs.Calls.{refused_for, same, identity_of};
 
@@ -14,7 +16,7 @@ pub mod opening;
 pub mod pieces;
 
 // What a file is known by: five plain numbers. The trailer is the number of its last four bytes.
-#[derive(Drop)]
+#[derive(Clone, Copy)]
 pub struct Identity {
     pub station: usize,
     pub kind: usize,
@@ -24,7 +26,7 @@ pub struct Identity {
 }
 
 // The state of a loader: whether a transfer is open, its identity, and the next byte due.
-#[derive(Drop)]
+#[derive(Clone, Copy)]
 pub struct State {
     pub opened: bool,
     pub identity: Identity,
@@ -32,7 +34,7 @@ pub struct State {
 }
 
 // What a call answers, and the state after it.
-#[derive(Drop)]
+#[derive(Clone, Copy)]
 pub struct Step {
     pub verdict: Verdict,
     pub state: State,

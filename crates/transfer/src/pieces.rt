@@ -9,7 +9,7 @@ use verdict::{Reason, Verdict};
 
 // What a piece states: its identity, its start, its byte count and where its bytes begin. Good: no number is bad, there are bytes, and as many as
 // it says.
-#[derive(Drop)]
+#[derive(Clone, Copy)]
 pub struct Stated {
     pub good: bool,
     pub identity: Identity,

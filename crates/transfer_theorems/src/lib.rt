@@ -1,1 +1,2 @@
 // Theorems about the loader (02, ticket 6); there is no code here.
+#![tactic(auto)]

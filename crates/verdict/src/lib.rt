@@ -1,4 +1,6 @@
 // Reasons, faults and verdicts (01, 'Verdicts and their order'), and the one step that every check is made of.
+#![tactic(auto)]
+
 ghost use Rattle.std.specs.Prelude.{◌≡◌};
 ghost use Rattle.verdict.specs.Reasons.{number_of, file_of, shown_of, number_in, place_in, pair_number_in, pair_place_in, pair_file_in};
 ghost use Rattle.verdict.specs.Answers.{refusal, fault_in};
@@ -7,7 +9,7 @@ ghost use Rattle.verdict.specs.inner.Accepted.{is_accepted};
 
 // Why an answer is refused, in the order of 01's table: 6 comes before 5. Those after 15 are 02's: a bad list of kinds is ticket 4's, which is to
 // come, and the last three are a loader's, ticket 6.
-#[derive(Drop)]
+#[derive(Clone, Copy)]
 pub enum Reason {
     Length,
     Checksum,
@@ -31,28 +33,28 @@ pub enum Reason {
 }
 
 // A reason, with the byte place that it is reported at.
-#[derive(Drop)]
+#[derive(Clone, Copy)]
 pub struct Fault {
     pub reason: Reason,
     pub place: usize,
 }
 
 // The verdict of a file.
-#[derive(Drop)]
+#[derive(Clone, Copy)]
 pub enum Verdict {
     Accepted,
     Refused(Fault),
 }
 
 // The file of a pair that is at fault.
-#[derive(Drop)]
+#[derive(Clone, Copy)]
 pub enum File {
     First,
     Second,
 }
 
 // The verdict of a pair.
-#[derive(Drop)]
+#[derive(Clone, Copy)]
 pub enum PairVerdict {
     Accepted,
     Refused(File, Fault),
@@ -60,7 +62,7 @@ pub enum PairVerdict {
 
 // The shape of a rule, with its numbers. Where nothing else is said, it speaks of the number at the mark's place.
 // A field or another field is given by its byte place.
-#[derive(Drop)]
+#[derive(Clone, Copy)]
 pub enum Rule {
     // the file's length lies between two numbers
     LengthBetween(usize, usize),
@@ -122,7 +124,7 @@ pub enum Rule {
 
 // What a fact is about: the reason it refuses for, the start of its record, the place that is reported, how many bytes the field has that
 // stands there, and the rule. Of 0 bytes: what is reported is the start or the end of a record, and the rule has the field.
-#[derive(Drop)]
+#[derive(Clone, Copy)]
 pub struct Mark {
     pub reason: Reason,
     pub start: usize,
@@ -132,7 +134,7 @@ pub struct Mark {
 }
 
 // The verdict of the checks so far, with the mark of the first fact that failed.
-#[derive(Drop)]
+#[derive(Clone, Copy)]
 pub enum Judged {
     Accepted,
     Refused(Mark),

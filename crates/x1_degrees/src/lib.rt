@@ -1,5 +1,7 @@
 // Degrees for the plan room (02, ticket 14): the coordinate of a point, and that at a position. The milliarcseconds remain the record, and beside
 // them stand the degrees.
+#![tactic(auto)]
+
 ghost use Rattle.std.specs.Prelude.{◌≡◌};
 ghost use Rattle.x1_questions.specs.Coordinate.{CoordinateRange};
 ghost use Rattle.x1_degrees.specs.Answers.{coordinate_in, degrees_in};
@@ -11,14 +13,14 @@ use verdict::Fault;
 use x1_questions::{Coordinate, CoordinateAnswer};
 
 // A coordinate in milliarcseconds, and beside it in degrees.
-#[derive(Drop)]
+#[derive(Clone, Copy)]
 pub struct Surveyed {
     pub coordinate: Coordinate,
     pub degrees: Degrees,
 }
 
 // A coordinate, or why there is none.
-#[derive(Drop)]
+#[derive(Clone, Copy)]
 pub enum DegreesAnswer {
     Surveyed(Surveyed),
     Refused(Fault),

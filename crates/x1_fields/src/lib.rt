@@ -1,6 +1,8 @@
 // The fields of X.1's header, of a track's entry and of a point (01, 'Fields'): 5 in 01's table. For an entry and for a point there are two
 // functions: one tests it, and one is the verdict so far, then its facts. `e` and `p` are where it starts. A test asks once whether the
 // file ends inside the record, and then goes fact by fact, so that its reads need not ask it again.
+#![tactic(auto)]
+
 ghost use Rattle.std.specs.Prelude.{◌≡◌};
 ghost use Rattle.verdict.specs.Facts.{all_tests, judge};
 ghost use Rattle.x1_fields.specs.Fields.{header_fields, entry_fields, point_fields};

@@ -1,4 +1,6 @@
 // The layout of X.1 (01, 'Layout' and 'Layout faults in X.1'): 6 in 01's table.
+#![tactic(auto)]
+
 ghost use Rattle.std.specs.Prelude.{◌≡◌, ◌+◌, ◌-◌, ◌≤◌};
 ghost use mathlib.Core.List.{[], ◌∷◌, flat_map};
 ghost use Rattle.octets.specs.Octets.{bytes_of};

@@ -1,5 +1,7 @@
 // Where the entry of a track of X.1 stands, by the track's number (01: a coordinate's track, and the tracks that the pair looks up): by a
 // search among the entries, and by the count of present numbers below it.
+#![tactic(auto)]
+
 ghost use Rattle.std.specs.Prelude.{◌≡◌};
 ghost use Rattle.x1_lookup.specs.Lookup.{find_track};
 
@@ -12,7 +14,7 @@ mod presence;
 pub use presence::Presence;
 
 // Where what was looked for starts, or that it is nowhere.
-#[derive(Drop)]
+#[derive(Clone, Copy)]
 pub enum Found {
     At(u32),
     Absent,

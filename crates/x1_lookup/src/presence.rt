@@ -11,7 +11,7 @@ use x1_layout::points_at;
 use x1_records::{ENTRIES, Track};
 
 // The words of the numbers 0 to 63, 64 to 127, 128 to 191 and 192 to 255. A number's bit is set where a track has the number.
-#[derive(Drop)]
+#[derive(Clone, Copy)]
 pub struct Presence {
     pub first: u64,
     pub second: u64,

@@ -4,35 +4,35 @@ use verdict::Fault;
 use x1_records::{Point, Track};
 
 // The header, or why there is none.
-#[derive(Drop)]
+#[derive(Clone, Copy)]
 pub enum HeaderAnswer {
     Header(Header),
     Refused(Fault),
 }
 
 // A track, or why there is none.
-#[derive(Drop)]
+#[derive(Clone, Copy)]
 pub enum TrackAnswer {
     Track(Track),
     Refused(Fault),
 }
 
 // A point, or why there is none.
-#[derive(Drop)]
+#[derive(Clone, Copy)]
 pub enum PointAnswer {
     Point(Point),
     Refused(Fault),
 }
 
 // A coordinate, in milliarcseconds.
-#[derive(Drop)]
+#[derive(Clone, Copy)]
 pub struct Coordinate {
     pub latitude: i64,
     pub longitude: i64,
 }
 
 // A coordinate, or why there is none.
-#[derive(Drop)]
+#[derive(Clone, Copy)]
 pub enum CoordinateAnswer {
     Coordinate(Coordinate),
     Refused(Fault),

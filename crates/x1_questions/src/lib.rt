@@ -1,5 +1,7 @@
 // The questions on an X.1 file, track geography (01: 'A question ..'): header, track, point, the coordinate of a point (02, ticket 14), and the
 // coordinate at a position. Each takes the verdict apart and returns the file's own fault at once.
+#![tactic(auto)]
+
 ghost use Rattle.std.specs.Prelude.{◌≡◌, ◌+◌, ◌*◌, ◌≤◌, ◌<◌};
 ghost use Rattle.envelope.specs.Seal.{most_length};
 ghost use Rattle.x1_verdict.specs.Facts.{verdict_of};
@@ -64,13 +66,13 @@ pub fn track(f: &[u8], index: usize) -> TrackAnswer
 }
 
 // Where a point stands, and the entry of its track.
-#[derive(Drop)]
+#[derive(Clone, Copy)]
 struct Standing {
     entry: u16,
     place: u16,
 }
 
-#[derive(Drop)]
+#[derive(Clone, Copy)]
 enum Sought {
     There(Standing),
     Nowhere,

@@ -1,6 +1,8 @@
 // The records of X.1, track geography (01, 'X.1, track geography'; tables 2 and 3 of the standard): a track's entry and a point, with their
 // sizes, their fields and their reading; where the entries start; the limits of the fields. A field is written once, with its place and its
 // width. From structure version 2 on a point has a height at its end (02, ticket 11): what depends on that is told the size of a point.
+#![tactic(auto)]
+
 ghost use Rattle.std.specs.Prelude.{◌≡◌, ◌+◌};
 ghost use Rattle.x1_records.specs.Tracks.{track_at, height_at, point_at, points_in};
 ghost use Rattle.x1_records.specs.Places.{point_size, least_length_in};
@@ -10,7 +12,7 @@ use rules::quotient;
 use tables::{Field, number_of, signed_of};
 
 // A track's entry, table 2, and the size of the track's points.
-#[derive(Drop)]
+#[derive(Clone, Copy)]
 pub struct Track {
     pub number: usize,
     pub property: usize,
@@ -26,14 +28,14 @@ pub struct Track {
 }
 
 // A point's height, or that its file has none.
-#[derive(Drop)]
+#[derive(Clone, Copy)]
 pub enum Height {
     Decimetres(i64),
     NoHeight,
 }
 
 // A point, table 3. The two increments are what is added to the track's start to give the point's latitude and longitude.
-#[derive(Drop)]
+#[derive(Clone, Copy)]
 pub struct Point {
     pub position: usize,
     pub latitude_increment: i64,
@@ -145,7 +147,7 @@ impl Point {
 }
 
 // One of a track's two coordinates: its start and its end, fields of the entry, and what a point adds to the start, a field of the point.
-#[derive(Drop)]
+#[derive(Clone, Copy)]
 pub struct Axis {
     pub start: Field,
     pub end: Field,

@@ -122,7 +122,7 @@ fn is_above(v: Judged, f: &[u8], at: u32, before: u32, k: Field, place: usize) -
 
 // The frame of a track, read once for all its points: where the first and the last of them stand, where the track starts, and whether it
 // starts so far inside both ranges that no increment leads out of them.
-#[derive(Drop)]
+#[derive(Clone, Copy)]
 pub struct Frame {
     pub first: u16,
     pub last: u16,

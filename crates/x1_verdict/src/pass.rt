@@ -24,7 +24,7 @@ use x1_records::{ENTRIES, HEADING_MOST, POSITION_MOST, Point, Track};
 const HEADING_LEAST: usize = 0x1_0000 - HEADING_MOST;
 
 // How far the pass came over the points of a track: whether each of them obeys and agrees, and where the next one is due.
-#[derive(Drop)]
+#[derive(Clone, Copy)]
 struct Passed {
     obeys: bool,
     next: u32,
@@ -32,7 +32,7 @@ struct Passed {
 
 // How far the pass came over the tracks: the entry of the first one that does not pass, or the place after them all, and where the points
 // are due from there on.
-#[derive(Drop)]
+#[derive(Clone, Copy)]
 pub struct Reached {
     pub entry: u32,
     pub due: u32,

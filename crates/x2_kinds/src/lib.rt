@@ -2,6 +2,8 @@
 // tests the record, and one is the verdict so far, then the facts of the table. `at` is where the record starts. A test asks once whether
 // the file ends before a byte of the record that may not be 0, a track or the signal byte: past the end a byte counts as 0, so that the
 // record does not obey. Reads of what stands before that byte need not ask again.
+#![tactic(auto)]
+
 ghost use Rattle.std.specs.Prelude.{◌≡◌, ◌++◌};
 ghost use Rattle.verdict.specs.Facts.{all_tests, judge};
 ghost use Rattle.tables.specs.Rows.{table_facts};

@@ -37,7 +37,7 @@ fn made_of(file: Grouping, i: usize) -> Made
 }
 
 // The next group: where its offset stands, and the offset.
-#[derive(Drop)]
+#[derive(Clone, Copy)]
 struct Next {
     field: usize,
     start: usize,

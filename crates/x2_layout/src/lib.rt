@@ -1,5 +1,7 @@
 // X.2's layout (01, 'X.2, fixed application' and 'Layout faults'): where the records of a file stand, the first fault of that, and the
 // records one after the other.
+#![tactic(auto)]
+
 use envelope::MOST_LENGTH;
 use octets::Width;
 use tables::Field;
@@ -17,7 +19,7 @@ pub use stream::{kind_at, size_of};
 
 // The two counts of a header, and where each sort of records starts, in stored order. Each starts where the one before it ends, so an empty
 // group starts where the next one does.
-#[derive(Drop)]
+#[derive(Clone, Copy)]
 pub struct Layout {
     // n: how many start boundaries the header names
     pub n: usize,
@@ -38,28 +40,28 @@ pub struct Layout {
 }
 
 // The layout of a file, or its first fault.
-#[derive(Drop)]
+#[derive(Clone, Copy)]
 pub enum Shape {
     Found(Layout),
     Faulty(Mark),
 }
 
 // What the records of a group are: of one size, or balises, each of its own size.
-#[derive(Drop)]
+#[derive(Clone, Copy)]
 pub enum Made {
     Fixed(usize),
     Balises,
 }
 
 // Whose groups they are: X.2's five, or X.3's, all of elements.
-#[derive(Drop)]
+#[derive(Clone, Copy)]
 pub enum Grouping {
     Yard,
     Elements,
 }
 
 // The group offsets of a header.
-#[derive(Drop)]
+#[derive(Clone, Copy)]
 pub struct Offsets {
     // whose groups they are
     pub file: Grouping,

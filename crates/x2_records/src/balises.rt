@@ -6,7 +6,7 @@ use octets::Width;
 use tables::{Bits, Field, bits_of, number_of};
 
 // 应答器属性: the low two bits of the attribute byte.
-#[derive(Drop)]
+#[derive(Clone, Copy)]
 pub enum Nature {
     // 0: 虚拟应答器, which stands in the data alone
     Virtual,
@@ -38,7 +38,7 @@ impl Nature {
 
 // 所在应答器组方向与位置坐标增加方向关系: the direction of the balise's group against that of rising positions, the top two bits of the
 // attribute byte.
-#[derive(Drop)]
+#[derive(Clone, Copy)]
 pub enum GroupDirection {
     // 1: 相反, against rising positions
     Opposite,
@@ -68,7 +68,7 @@ impl GroupDirection {
     }
 }
 
-#[derive(Drop)]
+#[derive(Clone, Copy)]
 pub struct Balise {
     // 上一个数据对象的字节偏移: the object before it on its track
     pub previous: usize,

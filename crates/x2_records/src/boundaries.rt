@@ -5,7 +5,7 @@ ghost use Rattle.x2_records.specs.Tables.{boundary_at};
 use octets::Width;
 use tables::{Field, number_of};
 
-#[derive(Drop)]
+#[derive(Clone, Copy)]
 pub struct Boundary {
     // 条目类型: the type byte as it stands: which line the boundary is on, and whether it starts or ends it
     pub entry: usize,

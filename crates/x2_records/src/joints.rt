@@ -6,7 +6,7 @@ use names::Name;
 use octets::Width;
 use tables::{Field, NameField, name_of, number_of};
 
-#[derive(Drop)]
+#[derive(Clone, Copy)]
 pub struct Joint {
     // 上一个数据对象的字节偏移: the object before it on its track
     pub previous: usize,

@@ -2,6 +2,8 @@
 // the bytes at a place mean, read as a record of a kind. The kind follows from the place in the file, so it is given and never taken from
 // the type byte. A place is a 16-bit number, as every offset in the file is, and a byte past the end counts as 0: each reading answers
 // for every file and every place.
+#![tactic(auto)]
+
 ghost use Rattle.std.specs.Prelude.{◌≡◌};
 ghost use Rattle.x2_records.specs.Records.{fixed_size, link_fields, record_at};
 
@@ -22,7 +24,7 @@ pub use signals::{Duty, Facing, Signal};
 pub use turnouts::{Direction, Turnout};
 
 // What a record is, in stored order.
-#[derive(Drop)]
+#[derive(Clone, Copy)]
 pub enum Kind {
     StartBoundary,
     EndBoundary,
@@ -84,7 +86,7 @@ impl Kind {
 pub const LINK_SIZE: usize = 2;
 
 // Where the links of a record stand, in the order of its fields (01, 'Links').
-#[derive(Drop)]
+#[derive(Clone, Copy)]
 pub enum Links {
     Nothing,
     One(usize),
@@ -93,7 +95,7 @@ pub enum Links {
 }
 
 // A record, decoded.
-#[derive(Drop)]
+#[derive(Clone, Copy)]
 pub enum Record {
     StartBoundary(Boundary),
     EndBoundary(Boundary),

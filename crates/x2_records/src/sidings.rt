@@ -6,7 +6,7 @@ use names::Name;
 use octets::Width;
 use tables::{Field, NameField, name_of, number_of};
 
-#[derive(Drop)]
+#[derive(Clone, Copy)]
 pub struct Siding {
     // 股道名称: its name
     pub name: Name,

@@ -7,7 +7,7 @@ use octets::Width;
 use tables::{Bits, Field, NameField, bits_of, name_of, number_of};
 
 // 信号机方向: the direction that a signal is for, the top two bits of the signal byte.
-#[derive(Drop)]
+#[derive(Clone, Copy)]
 pub enum Facing {
     // 0: 无方向, for no direction
     Neither,
@@ -42,7 +42,7 @@ impl Facing {
 }
 
 // 信号机类型: what a signal is for, the low four bits of the signal byte.
-#[derive(Drop)]
+#[derive(Clone, Copy)]
 pub enum Duty {
     // 1: 进站信号机, for entering the station
     Entry,
@@ -84,7 +84,7 @@ impl Duty {
     }
 }
 
-#[derive(Drop)]
+#[derive(Clone, Copy)]
 pub struct Signal {
     // 上一个数据对象的字节偏移: the object before it on its track
     pub previous: usize,

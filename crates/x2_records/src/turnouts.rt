@@ -6,7 +6,7 @@ use octets::Width;
 use tables::{Field, number_of};
 
 // 方向: the direction in which a turnout opens, on the track of its tip.
-#[derive(Drop)]
+#[derive(Clone, Copy)]
 pub enum Direction {
     // 0: with falling positions
     Decreasing,
@@ -36,7 +36,7 @@ impl Direction {
     }
 }
 
-#[derive(Drop)]
+#[derive(Clone, Copy)]
 pub struct Turnout {
     // 道岔编号: the turnout's number in the station
     pub number: usize,

@@ -1,5 +1,7 @@
 // The returns of X.2's links, doubled links (01, 'Links') and the links of a group's later balises (02, ticket 2): check 9 of a file whose
 // layout was found. The definitions are those of crate x2_links.
+#![tactic(auto)]
+
 ghost use Rattle.std.specs.Prelude.{◌≡◌, [], ◌∷◌};
 ghost use Rattle.verdict.specs.Facts.{test, all_tests, also, judge};
 ghost use Rattle.x2_records.specs.Records.{places_in};

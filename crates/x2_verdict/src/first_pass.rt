@@ -17,7 +17,7 @@ use x2_links::{CELL, CELLS, mark_if, may_link};
 use x2_records::{Balise, Kind};
 
 // How far a pass came over the records of a kind: whether each of them obeys, and where the last record starts.
-#[derive(Drop)]
+#[derive(Clone, Copy)]
 pub struct Passed {
     pub obeys: bool,
     pub last: u32,

@@ -1,5 +1,7 @@
 // X.2, fixed application (01, 'X.2, fixed application' and 'Verdicts and their order'): the verdict of a file, the checks in 01's order,
 // and the questions 'header' and 'record at an offset'.
+#![tactic(auto)]
+
 ghost use Rattle.std.specs.Prelude.{◌≡◌, true};
 ghost use Rattle.verdict.specs.Facts.{first_fault};
 ghost use Rattle.verdict.specs.declared.Judged.TheVariants.{Accepted};
@@ -38,7 +40,7 @@ pub const FILE_TYPE: usize = 2;
 pub const NEWEST_VERSION: usize = 1;
 
 // The header: what both files have alike, and the station's name, by its place and how many bytes it has without its closing zeros.
-#[derive(Drop)]
+#[derive(Clone, Copy)]
 pub struct NamedHeader {
     pub header: Header,
     pub name: usize,
@@ -46,14 +48,14 @@ pub struct NamedHeader {
 }
 
 // The header, or why there is none.
-#[derive(Drop)]
+#[derive(Clone, Copy)]
 pub enum NamedHeaderAnswer {
     Header(NamedHeader),
     Refused(Fault),
 }
 
 // The answer to 'record at an offset'.
-#[derive(Drop)]
+#[derive(Clone, Copy)]
 pub enum RecordAnswer {
     Record(Record),
     Refused(Fault),

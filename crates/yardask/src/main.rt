@@ -1,6 +1,8 @@
 // A question about station map files that are named on the command line, answered on standard output. What is wrong with the command is
 // said in one line on standard error, and then nothing stands on standard output. The answers are those of the library; here words become
 // questions, numbers and files.
+#![tactic(auto)]
+
 ghost use Rattle.std.specs.Prelude.{◌≤◌};
 
 use ahead::{LIES, ROOM_LEAST, UNKNOWN};

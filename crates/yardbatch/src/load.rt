@@ -39,7 +39,7 @@ const ROOM_MOST: usize = 65536;
 const FILLED: u8 = 0xA5;
 
 // How far a case has come: the loader's state, how many bytes of the calls are left, and whether all was right.
-#[derive(Drop)]
+#[derive(Clone, Copy)]
 struct Loaded {
     state: State,
     left: usize,

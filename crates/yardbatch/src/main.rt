@@ -8,6 +8,8 @@
 // the room. Input that ends inside a case, an unknown question, a case of ahead with more lies than its second byte string has bytes, a case of
 // load with a larger room or with a call that is none, or a list of routes that does not fit the 65,535 words that are here where the case lends
 // more, is a line on standard error and ends the run.
+#![tactic(auto)]
+
 ghost use Rattle.std.specs.Prelude.{◌≤◌};
 
 use ahead::LIES;

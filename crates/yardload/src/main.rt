@@ -2,6 +2,8 @@
 // with, and standard input is a sequence of pieces, each after its length in 4 bytes, low byte first. Every call of the loader that is refused is
 // a line on standard error, and the last line there says how many pieces were taken and whether the file is printed. A piece that the input cuts
 // off is handed on as it came, and an input that ends inside a length is a piece of no bytes: the loader refuses both.
+#![tactic(auto)]
+
 ghost use Rattle.std.specs.Prelude.{◌≡◌, length};
 
 use decimal::number_in;
@@ -44,7 +46,7 @@ const LENGTH: usize = 4;
 
 // How far a run has come: the loader's state, how many pieces there were, how many of them were taken, how many bytes of a piece that cannot be
 // held are still to be passed over, and whether the input may go on.
-#[derive(Drop)]
+#[derive(Clone, Copy)]
 struct Run {
     state: State,
     pieces: usize,
@@ -54,7 +56,7 @@ struct Run {
 }
 
 // What became of the file.
-#[derive(Drop)]
+#[derive(Clone, Copy)]
 enum End {
     Printed,
     PrintedInPart,

@@ -1,6 +1,8 @@
 // The routes of a station beside the signal engineer's plan: lists the routes of an X.2 file from each start that the plan names, and says where
 // list and plan differ. docs/PLAN.md has what a plan is and what is printed. What is wrong with the command, or with a line of the plan,
 // is said on standard error.
+#![tactic(auto)]
+
 ghost use Rattle.std.specs.Prelude.{◌≡◌, ◌≤◌, length};
 ghost use Rattle.plan_reading.specs.ReadPlan.{plan_read, named_by, named_in};
 
@@ -65,7 +67,7 @@ const STARTS: usize = 65536;
 const LINE_END: u8 = 0x0A;
 
 // What the routes are asked with.
-#[derive(Drop)]
+#[derive(Clone, Copy)]
 struct Question {
     engine: Engine,
     limit: usize,

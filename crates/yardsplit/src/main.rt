@@ -2,6 +2,8 @@
 // byte first. The identity, where no number of bytes is given, is one line of five decimals, which are the words that yardload takes. The file is
 // not judged by the reader: any file is split that a loader could open. What is wrong with the command, or the number by which a loader would refuse
 // to open the file, is one line on standard error, and then nothing stands on standard output.
+#![tactic(auto)]
+
 ghost use Rattle.std.specs.Prelude.{◌≤◌};
 
 use decimal::number_in;
