@@ -100,9 +100,9 @@ first-at p (fact c n ∷ fs) rest m a e = go (test c) (agrees c) e (first-at p f
 fault_after : (f : List ℕ) (at from end : ℕ) (t : List Row) → Tiled from t end → (q : ℕ) → RowAtFault f at t q → at + from ≤ q
 fault_after f at from end t d q x = go x.which x.there d x.stands
   where
-    go : {from : ℕ} {t : List Row} (r : Row) → Memᴰ r t → Tiled from t end → q ≡ at + r.offset → at + from ≤ q
+    go : {from end : ℕ} {t : List Row} (r : Row) → Memᴰ r t → Tiled from t end → q ≡ at + r.offset → at + from ≤ q
     go r m done e = absurd (mathlib.Core.List.Memᴰ.not-nil m)
-    go {from} {t} r m (next {r = s} {rs = rs} p d) e =
+    go {from} {end} {t} r m (next {r = s} {rs = rs} p d) e =
         ⊎_elim (λ (z : r ≡ s). let y : r.offset ≡ s.offset = ap (λ (u : Row). u.offset) z in omega arith) (λ (n : Memᴰ r rs). let y = go r n d e in omega arith) (mathlib.Core.List.Memᴰ.cases_cons m)
 
 -- LAW: for any table that leaves no gap
