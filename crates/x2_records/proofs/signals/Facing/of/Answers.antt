@@ -1,0 +1,17 @@
+-- `x2_records::signals::Facing::of` meets its contract.
+use borrow.Author.Rules.{rules}
+use borrow.Author.Tests.{ne_eqb}
+use Rattle.x2_records.specs.Tables.{facing_of}
+use Rattle.x2_records.proofs.signals.Facing.of.Goals as goal
+
+pub returns-in-0 : goal.returns-in-0
+unfolding facing_of
+returns-in-0 c = simp (← c.bits_of.ensures, c.in-0.is)
+
+pub returns-in-1 : goal.returns-in-1
+unfolding facing_of
+returns-in-1 c = simp (← c.bits_of.ensures, c.in-1.is)
+
+pub returns-in_default : goal.returns-in_default
+unfolding facing_of
+returns-in_default c = simp (← c.bits_of.ensures, ne_eqb _ _ c.in_default.in_default-own.rest.0.1, ne_eqb _ _ c.in_default.in_default-own.rest.1)
