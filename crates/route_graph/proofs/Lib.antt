@@ -1,5 +1,5 @@
 pub mod Ways
 pub mod Places
 pub mod Read
-pub mod Ends
+pub mod EndsLaws
 pub mod Indexed

@@ -19,7 +19,7 @@ use Rattle.route_graph.specs.declared.regions.Ends.{Ends}
 use Rattle.route_graph.specs.Objects.{object_at, edge_link, offset_most, boundary_starts}
 use Rattle.route_graph.specs.inner.Ends.{ends_of, object_in}
 use Rattle.route_graph.proofs.Places.{boundary_facts}
-use Rattle.route_graph.proofs.Ends.{same_objects}
+use Rattle.route_graph.proofs.EndsLaws.{same_objects}
 use Rattle.route_walks.specs.declared.Tally.{Tally}
 use Rattle.route_walks.specs.Walks.{walks, all_walks, is_route, all_routes, words_of}
 use Rattle.route_walks.specs.Lent.{room_of, lays}

@@ -1,0 +1,8 @@
+-- `route_graph::ends_of` meets its contract.
+use borrow.Author.Rules.{rules}
+use Rattle.route_graph.specs.inner.Ends.{ends_of}
+use Rattle.route_graph.proofs.regions.ends_of.Goals as goal
+
+pub returns : goal.returns
+unfolding ends_of
+returns c = simp (c.later_of-2.ensures, c.later_of.ensures, c.later_of-before_joints.ensures)

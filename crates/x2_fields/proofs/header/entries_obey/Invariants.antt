@@ -1,0 +1,20 @@
+-- `x2_fields::header::entries_obey` meets its contract. The invariant: what was found, and the tests of the entries from i on, make the tests
+-- of all entries.
+use Prim.Native.Nat.{◌-◌}
+use mathlib.Core.Path.{◌≡◌, ◌∙◌, refl, sym}
+use mathlib.Core.Bool.{◌&&◌, and-true}
+use mathlib.Core.List.{flat_map}
+use native.Mathlib.Omega.{arith}
+use Rattle.verdict.specs.Facts.{all_tests}
+use Rattle.verdict.specs.Walk.{starts_from}
+use Rattle.verdict.proofs.Checks.{tests_step, tests_stop}
+use Rattle.x2_layout.specs.Facts.{indexes}
+use Rattle.x2_fields.specs.Fields.{entry_fields, entries_fields}
+use borrow.Author.Rules.{rules}
+use Rattle.x2_fields.proofs.header.entries_obey.Given as goal
+
+abbrev pub invariant-loop-i : goal.invariant-loop-i
+invariant-loop-i l = (l.ok && all_tests (flat_map (entry_fields l.f l.entries) (starts_from (λ _. 1) l.count l.i))) ≡ all_tests (entries_fields l.f l.entries l.count)
+
+abbrev pub decreases-loop-i : goal.decreases-loop-i
+decreases-loop-i l = l.count - l.i
