@@ -1,0 +1,7 @@
+-- `route_lister::put_choice` meets its contract.
+use borrow.Author.Rules.{rules}
+use Rattle.route_lister.proofs.Opening.{one_put}
+use Rattle.route_lister.proofs.choices.put_choice.Goals as goal
+
+pub returns : goal.returns
+returns c = one_put _ _ _ _ _ c.requires.0 c.requires.2

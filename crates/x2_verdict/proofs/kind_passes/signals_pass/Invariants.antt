@@ -1,0 +1,18 @@
+-- `x2_verdict::kind_passes::signals_pass` meets its contract. The invariant: the records before `at` are passed over, and `at` lies among the
+-- signals, or where they end.
+use Prim.Native.Nat.{◌-◌}
+use mathlib.Core.Path.{sym}
+use mathlib.Core.Bool.{true≢false}
+use Rattle.x2_records.specs.declared.Kind.TheVariants.{Signal}
+use Rattle.x2_verdict.proofs.Passes.{signal_sort}
+use Rattle.x2_verdict.proofs.KindTurns.{Among, among_first, among_next, among_last, signal_plain}
+use borrow.Author.Rules.{rules}
+use mathlib.Core.Path.{ap}
+use mathlib.Core.Bool.{not}
+use Rattle.x2_verdict.proofs.kind_passes.signals_pass.Given as goal
+
+abbrev pub invariant-loop-at : goal.invariant-loop-at
+invariant-loop-at l = Among l.f l.l Signal l.l.signals l.l.joints l.marks l.last l.at
+
+abbrev pub decreases-loop-at : goal.decreases-loop-at
+decreases-loop-at l = l.l.joints - l.at
