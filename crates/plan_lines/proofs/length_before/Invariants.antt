@@ -1,0 +1,16 @@
+-- `plan_lines::length_before` meets its contract. The loop's invariant: none of the k bytes passed is the mark.
+use mathlib.Core.Path.{ap}
+use Prim.Native.Nat.{◌-◌, ◌≤◌}
+use borrow.Author.Rules.{rules}
+use mathlib.Core.Bool.{not}
+use borrow.Author.Tests.{eq-eqb, ne_eqb}
+use lib.ListN.{length}
+use Rattle.plan_lines.specs.Lines.{is_not}
+use Rattle.plan_lines.proofs.Fronts.{Counted, count_more, count_stop, count_end}
+use Rattle.plan_lines.proofs.length_before.Given as goal
+
+abbrev pub invariant-loop-k : goal.invariant-loop-k
+invariant-loop-k l = (l.k ≤ length l.text) × Counted (is_not l.mark) l.text l.k
+
+abbrev pub decreases-loop-k : goal.decreases-loop-k
+decreases-loop-k l = length l.text - l.k
