@@ -6,7 +6,7 @@ use native.Mathlib.Omega.{arith}
 use mathlib.Core.Path.{◌≡◌, sym, subst, subst⁻¹}
 use mathlib.Core.Bool.{Bool, true, false, not, ◌&&◌, ◌||◌, beq, true≢false, false≢true}
 use lib.Dec.{T, ltb, ltb→lt, lt→ltb, eqb, eqb→eq, eqb_refl}
-use lib.Ieee.{Float, inf, fin, up, down, below, level, neg, lt, le}
+use lib.Ieee.{Float, inf, fin, up, down, below, level, neg, lt, le, nan}
 use lib.Ieee.Exact.{HasValue}
 use lib.Ieee.Fits.{and_l, and_r, and_i, down_pos}
 use lib.Ieee.Order.{transfer}
@@ -45,6 +45,12 @@ lt_neg (inf false) (inf t) h = absurd h
 lt_neg (inf false) (fin t n d) h = absurd h
 lt_neg (fin s m e) (inf false) h = tt
 lt_neg (fin s m e) (fin t n d) h = below_neg s (m * up e * down d) t (n * up d * down e) h
+lt_neg nan y h = elim h [ ]
+lt_neg (inf false) nan h = elim h [ ]
+lt_neg (inf true) nan h = elim h [ ]
+lt_neg (inf true) (inf true) h = elim h [ ]
+lt_neg (fin s m e) nan h = elim h [ ]
+lt_neg (fin s m e) (inf true) h = elim h [ ]
 
 pub le_neg : (x y : Float) → T (le x y) → T (le (neg y) (neg x))
 unfolding le neg
@@ -58,6 +64,12 @@ le_neg (fin s m e) (fin t n d) h =
     let a = m * up e * down d in
     let b = n * up d * down e in
     either (below s a t b) (level s a t b) (below (not t) b (not s) a) (level (not t) b (not s) a) (below_neg s a t b) (level_neg s a t b) h
+le_neg nan y h = elim h [ ]
+le_neg (inf false) nan h = elim h [ ]
+le_neg (inf false) (inf true) h = elim h [ ]
+le_neg (inf true) nan h = elim h [ ]
+le_neg (fin s m e) nan h = elim h [ ]
+le_neg (fin s m e) (inf true) h = elim h [ ]
 
 -- ---- a number that is not above 0, and one that is not below it
 
@@ -65,6 +77,10 @@ pub le_across : (x y : Float) (a c b d : ℕ) → HasValue x true a c → HasVal
 unfolding le
 le_across (fin false m e) y a c b d h k = absurd (false≢true h.0)
 le_across (fin true m e) (fin true n g) a c b d h k = absurd (true≢false k.0)
+le_across nan y a c b d h k = elim h [ ]
+le_across (inf _) y a c b d h k = elim h [ ]
+le_across (fin true m e) nan a c b d h k = elim k [ ]
+le_across (fin true m e) (inf _) a c b d h k = elim k [ ]
 le_across (fin true m e) (fin false n g) a c b d h k = go (m * up e * down g) (n * up g * down e)
   where
     left : (p q : ℕ) → 0 < p + q → T (ltb 0 (p + q) || (eqb p q && (false || eqb p 0)))
@@ -82,6 +98,10 @@ lt_across (fin true m e) (fin true n g) a c b d h k some = absurd (true≢false 
 lt_across (fin true m e) (fin false n g) a c b d h k some =
     let size : 0 < m * up e = first_pos (m * up e) c (subst⁻¹ (λ (i : ℕ). 0 < i) h.1 (mul-pos some (down_pos e))) in
     lt→ltb 0 (m * up e * down g + n * up g * down e) (omega (arith, mul-pos size (down_pos g)))
+lt_across nan y a c b d h k some = elim h [ ]
+lt_across (inf _) y a c b d h k some = elim h [ ]
+lt_across (fin true m e) nan a c b d h k some = elim k [ ]
+lt_across (fin true m e) (inf _) a c b d h k some = elim k [ ]
 
 -- ---- two that are not below 0
 
@@ -93,6 +113,10 @@ lt_of_values (fin false m e) (fin false n g) a c b d h k l =
     lt→ltb (m * up e * down g) (n * up g * down e)
     (lt_of_not-le (λ (q : n * up g * down e ≤ m * up e * down g).
     not-le_of_lt l (transfer b a d c (n * up g) (m * up e) (down g) (down e) (down_pos g) (down_pos e) (sym k.1) (sym h.1) q)))
+lt_of_values nan y a c b d h k l = elim h [ ]
+lt_of_values (inf _) y a c b d h k l = elim h [ ]
+lt_of_values (fin false m e) nan a c b d h k l = elim k [ ]
+lt_of_values (fin false m e) (inf _) a c b d h k l = elim k [ ]
 
 pub lt_itself : (x : Float) → T (lt x x) → ⊥
 unfolding lt
@@ -100,3 +124,4 @@ lt_itself (inf true) h = h
 lt_itself (inf false) h = h
 lt_itself (fin true m e) h = lt_irrefl (m * up e * down e) (ltb→lt (m * up e * down e) (m * up e * down e) h)
 lt_itself (fin false m e) h = lt_irrefl (m * up e * down e) (ltb→lt (m * up e * down e) (m * up e * down e) h)
+lt_itself nan h = elim h [ ]

@@ -2,10 +2,10 @@
 use Prim.Native.Nat.{ℕ, ◌*◌, ◌^◌, ◌≤◌, ◌<◌}
 use native.Mathlib.Omega.{arith}
 use mathlib.Core.Path.{subst⁻¹}
-use mathlib.Core.Bool.{false, not}
+use mathlib.Core.Bool.{false, not, true}
 use lib.IntN.{ℤ, pos, nat_abs}
 use lib.Dec.{T, ltb→lt, lit<, lit≤}
-use lib.Ieee.{Float, inf, fin, Format, binary64, low, up, down, is_nan, fits, round, of_int, div}
+use lib.Ieee.{Float, inf, fin, Format, binary64, low, up, down, is_nan, fits, round, of_int, div, nan}
 use lib.Ieee.Exact.{HasValue}
 use lib.Ieee.Fits.{div-fits}
 use lib.Ieee.Back.{round_whole}
@@ -27,6 +27,13 @@ unfolding div is_nan
 div_number f (inf s) (fin false n g) p q = tt
 div_number f (fin s m e) (fin false n g) p q =
     subst⁻¹ (λ (v : Float). T (not (is_nan v))) (div_is f s m e n g (ltb→lt 0 n q)) (round_number f s (m * up e * down g) (n * up g * down e))
+div_number f nan y p q = elim p [ ]
+div_number f (inf s) nan p q = elim q [ ]
+div_number f (inf s) (inf _) p q = elim q [ ]
+div_number f (inf s) (fin true n g) p q = elim q [ ]
+div_number f (fin s m e) nan p q = elim q [ ]
+div_number f (fin s m e) (inf _) p q = elim q [ ]
+div_number f (fin s m e) (fin true n g) p q = elim q [ ]
 
 pub degrees_number : (z : ℤ) → T (not (is_nan (degrees_of z)))
 unfolding degrees_of

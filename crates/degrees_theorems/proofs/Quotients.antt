@@ -5,7 +5,7 @@ use mathlib.Core.Path.{◌≡◌, sym, ap, ap₂, ◌∙◌}
 use mathlib.Core.Bool.{Bool, true, false, true≢false}
 use lib.IntN.{ℤ}
 use lib.Dec.{ltb→lt, eqb-suc-zero}
-use lib.Ieee.{Float, fin, Format, up, down, round, div}
+use lib.Ieee.{Float, fin, Format, up, down, round, div, inf, nan}
 use lib.Ieee.Exact.{HasValue}
 use lib.Ieee.Fits.{up_pos, down_pos}
 use lib.Ieee.Positive.{positive_of_value}
@@ -36,3 +36,7 @@ div_at f (fin t m e) (fin false n g) s a c b d C B D h k =
     ∙ round_same f t (m * up e * down g) (n * up g * down e) (a * d) (b * c) (mul-pos (mul-pos some (up_pos g)) (down_pos e)) (mul-pos B C)
     (cross (m * up e) (down e) (n * up g) (down g) a c b d h.1 k.1)
     ∙ ap (λ (z : Bool). round f z (a * d) (b * c)) h.0
+div_at f nan y s a c b d C B D h k = elim h [ ]
+div_at f (inf _) y s a c b d C B D h k = elim h [ ]
+div_at f (fin t m e) nan s a c b d C B D h k = elim k [ ]
+div_at f (fin t m e) (inf _) s a c b d C B D h k = elim k [ ]

@@ -4,7 +4,7 @@ use Prim.Native.Nat.{ℕ, zero, suc, ◌*◌, ◌^◌, ◌<◌}
 use mathlib.Core.Path.{◌≡◌, refl, sym, ap, ◌∙◌, subst⁻¹, subst}
 use mathlib.Core.Bool.{Bool, true, false, not, cond}
 use lib.Dec.{T, ltb, ltb→lt}
-use lib.Ieee.{Float, inf, fin, Format, prec, low, is_nan, odd, units, round, neg, le}
+use lib.Ieee.{Float, inf, fin, Format, prec, low, is_nan, odd, units, round, neg, le, nan}
 use lib.Ieee.Exact.{HasValue, units_val}
 use lib.Ieee.Fits.{round_is}
 use lib.Ieee.Order.{kept, drop}
@@ -40,6 +40,8 @@ units_under f q k (fin t n d) p = go (ltb (q * 2 ^ k) (overflow f)) (ltb→lt (q
     go : (b : Bool) → (T b → q * 2 ^ k < overflow f) → T (le (cond b (odd (suc (prec f)) false q k (low f)) (inf false)) (fin t n d)) → q * 2 ^ k < overflow f
     go true h l = h tt
     go false h l = absurd l
+units_under f q k nan p = elim p [ ]
+units_under f q k (inf _) p = elim p [ ]
 
 pub under_of_le : (f : Format) (a c : ℕ) (y : Float) → T (finite y) → T (le (round f false a c) y) → grid f a c < overflow f
 under_of_le f a c y p h =
@@ -53,6 +55,8 @@ round_value f s a c h =
 
 pub value_finite : (x : Float) (s : Bool) (a c : ℕ) → HasValue x s a c → T (finite x)
 value_finite (fin t m e) s a c h = tt
+value_finite nan s a c h = elim h [ ]
+value_finite (inf _) s a c h = elim h [ ]
 
 -- ---- the opposite of a fraction, rounded
 
