@@ -1,5 +1,5 @@
-// The reader for other languages: verdicts, pair, questions and the loader as C functions with numbers and byte slices only. `include/yard.h`
-// says what each argument and each result means.
+// The reader for other languages: verdicts, pair, questions and the loader as functions with numbers and byte slices only. `exports_c` has
+// each under its C name, and `include/yard.h` says what each argument and each result means.
 #![tactic(auto)]
 
 ghost use Rattle.std.specs.Prelude.{◌≡◌, length};
@@ -37,8 +37,7 @@ use x1_questions::{CoordinateAnswer, HeaderAnswer, PointAnswer, TrackAnswer};
 use x2_verdict::{NamedHeaderAnswer, RecordAnswer};
 
 // The checksum of some bytes.
-#[unsafe(no_mangle)]
-pub extern "C" fn yard_checksum(bytes: &[u8]) -> u32
+pub fn yard_checksum(bytes: &[u8]) -> u32
     ensures { result ≡ checksum_of bytes.now }
 {
     checksum::of(bytes) as u32
@@ -52,32 +51,28 @@ fn judged(v: Verdict) -> u64
 }
 
 // The verdict of an X.1.
-#[unsafe(no_mangle)]
-pub extern "C" fn yard_x1(file: &[u8]) -> u64
+pub fn yard_x1(file: &[u8]) -> u64
     ensures { result ≡ verdict_shown (geography.verdict_of file.now) }
 {
     judged(x1_verdict::verdicts::verdict_of(file))
 }
 
 // The verdict of an X.1 by a reader that knows structure version 1 alone.
-#[unsafe(no_mangle)]
-pub extern "C" fn yard_x1_version_1(file: &[u8]) -> u64
+pub fn yard_x1_version_1(file: &[u8]) -> u64
     ensures { result ≡ verdict_shown (geography.verdict_by 1 file.now) }
 {
     judged(x1_verdict::verdicts::version_1_verdict(file))
 }
 
 // The verdict of an X.2.
-#[unsafe(no_mangle)]
-pub extern "C" fn yard_x2(file: &[u8]) -> u64
+pub fn yard_x2(file: &[u8]) -> u64
     ensures { result ≡ verdict_shown (application.verdict_of file.now) }
 {
     judged(x2_verdict::verdict_of(file))
 }
 
 // The verdict of a station's two files, the X.1 first.
-#[unsafe(no_mangle)]
-pub extern "C" fn yard_pair(first: &[u8], second: &[u8]) -> u64
+pub fn yard_pair(first: &[u8], second: &[u8]) -> u64
     ensures { result ≡ pair_shown (pair_of first.now second.now) }
 {
     let v = pair::pair_verdict(first, second);
@@ -85,8 +80,7 @@ pub extern "C" fn yard_pair(first: &[u8], second: &[u8]) -> u64
 }
 
 // The header of an X.1.
-#[unsafe(no_mangle)]
-pub extern "C" fn yard_header1(file: &[u8], out: &mut [u8]) -> u64
+pub fn yard_header1(file: &[u8], out: &mut [u8]) -> u64
     ensures value { result ≡ shown (header_answer (header_of file.now)) out.old }
     ensures out_after { out.new ≡ leaves (header_answer (header_of file.now)) out.old }
 {
@@ -97,8 +91,7 @@ pub extern "C" fn yard_header1(file: &[u8], out: &mut [u8]) -> u64
 }
 
 // The header of an X.2.
-#[unsafe(no_mangle)]
-pub extern "C" fn yard_header2(file: &[u8], out: &mut [u8]) -> u64
+pub fn yard_header2(file: &[u8], out: &mut [u8]) -> u64
     ensures value { result ≡ shown (named_header_answer (named_header_of file.now)) out.old }
     ensures out_after { out.new ≡ leaves (named_header_answer (named_header_of file.now)) out.old }
 {
@@ -109,8 +102,7 @@ pub extern "C" fn yard_header2(file: &[u8], out: &mut [u8]) -> u64
 }
 
 // The track of an index.
-#[unsafe(no_mangle)]
-pub extern "C" fn yard_track(file: &[u8], index: usize, out: &mut [u8]) -> u64
+pub fn yard_track(file: &[u8], index: usize, out: &mut [u8]) -> u64
     ensures value { result ≡ shown (track_answer (track_of file.now index)) out.old }
     ensures out_after { out.new ≡ leaves (track_answer (track_of file.now index)) out.old }
 {
@@ -121,8 +113,7 @@ pub extern "C" fn yard_track(file: &[u8], index: usize, out: &mut [u8]) -> u64
 }
 
 // The point of an index in the track of an index.
-#[unsafe(no_mangle)]
-pub extern "C" fn yard_point(file: &[u8], track: usize, index: usize, out: &mut [u8]) -> u64
+pub fn yard_point(file: &[u8], track: usize, index: usize, out: &mut [u8]) -> u64
     ensures value { result ≡ shown (point_answer (point_of file.now track index)) out.old }
     ensures out_after { out.new ≡ leaves (point_answer (point_of file.now track index)) out.old }
 {
@@ -133,13 +124,7 @@ pub extern "C" fn yard_point(file: &[u8], track: usize, index: usize, out: &mut 
 }
 
 // The coordinate at a position of the track with a number.
-#[unsafe(no_mangle)]
-pub extern "C" fn yard_coordinate(
-    file: &[u8],
-    number: usize,
-    position: usize,
-    out: &mut [u8],
-) -> u64
+pub fn yard_coordinate(file: &[u8], number: usize, position: usize, out: &mut [u8]) -> u64
     ensures value { result ≡ shown (coordinate_answer (coordinate_asked file.now number position)) out.old }
     ensures out_after { out.new ≡ leaves (coordinate_answer (coordinate_asked file.now number position)) out.old }
 {
@@ -161,8 +146,7 @@ fn show_degrees(a: DegreesAnswer, out: &mut [u8]) -> u64
 }
 
 // The coordinate at a position of the track with a number, in degrees too.
-#[unsafe(no_mangle)]
-pub extern "C" fn yard_degrees(file: &[u8], number: usize, position: usize, out: &mut [u8]) -> u64
+pub fn yard_degrees(file: &[u8], number: usize, position: usize, out: &mut [u8]) -> u64
     ensures value { result ≡ shown (degrees_laid (degrees_asked file.now number position)) out.old }
     ensures out_after { out.new ≡ leaves (degrees_laid (degrees_asked file.now number position)) out.old }
 {
@@ -170,8 +154,7 @@ pub extern "C" fn yard_degrees(file: &[u8], number: usize, position: usize, out:
 }
 
 // The coordinate of the point of an index in the track of an index, in degrees too.
-#[unsafe(no_mangle)]
-pub extern "C" fn yard_point_degrees(file: &[u8], track: usize, index: usize, out: &mut [u8]) -> u64
+pub fn yard_point_degrees(file: &[u8], track: usize, index: usize, out: &mut [u8]) -> u64
     ensures value { result ≡ shown (degrees_laid (point_degrees_of file.now track index)) out.old }
     ensures out_after { out.new ≡ leaves (degrees_laid (point_degrees_of file.now track index)) out.old }
 {
@@ -179,8 +162,7 @@ pub extern "C" fn yard_point_degrees(file: &[u8], track: usize, index: usize, ou
 }
 
 // The record that starts at a place.
-#[unsafe(no_mangle)]
-pub extern "C" fn yard_record(file: &[u8], offset: usize, out: &mut [u8]) -> u64
+pub fn yard_record(file: &[u8], offset: usize, out: &mut [u8]) -> u64
     ensures value { result ≡ shown (record_answer (record_of file.now offset)) out.old }
     ensures out_after { out.new ≡ leaves (record_answer (record_of file.now offset)) out.old }
 {
@@ -203,8 +185,7 @@ fn show_counts(a: RoutesAnswer, counts: &mut [u8]) -> u64
 
 // Every route from a boundary. Where the counts have no room the list is made over a scrap, so that the words keep every byte and every
 // other refusal comes first.
-#[unsafe(no_mangle)]
-pub extern "C" fn yard_routes(
+pub fn yard_routes(
     file: &[u8],
     start: usize,
     limit: usize,
@@ -226,8 +207,7 @@ pub extern "C" fn yard_routes(
 }
 
 // The same, by the second lister, for a host with a small stack.
-#[unsafe(no_mangle)]
-pub extern "C" fn yard_routes_flat(
+pub fn yard_routes_flat(
     file: &[u8],
     start: usize,
     limit: usize,
@@ -249,8 +229,7 @@ pub extern "C" fn yard_routes_flat(
 }
 
 // What lies ahead of the object at an offset of the X.2 of a pair, which is left by the link of an index.
-#[unsafe(no_mangle)]
-pub extern "C" fn yard_ahead(
+pub fn yard_ahead(
     first: &[u8],
     second: &[u8],
     offset: usize,
@@ -277,8 +256,7 @@ fn show_state(step: Step, state: &mut [u8]) -> u64
 }
 
 // Opens a transfer of the file with an identity.
-#[unsafe(no_mangle)]
-pub extern "C" fn yard_load_open(
+pub fn yard_load_open(
     state: &mut [u8],
     station: usize,
     kind: usize,
@@ -302,8 +280,7 @@ pub extern "C" fn yard_load_open(
 }
 
 // Takes a piece.
-#[unsafe(no_mangle)]
-pub extern "C" fn yard_load_piece(state: &mut [u8], piece: &[u8], room: &mut [u8]) -> u64
+pub fn yard_load_piece(state: &mut [u8], piece: &[u8], room: &mut [u8]) -> u64
     ensures value { result ≡ piece_shown state.old piece.now (length room.old) }
     ensures state_after { state.new ≡ piece_leaves state.old piece.now (length room.old) }
     ensures room_after { room.new ≡ piece_room (state_in state.old) piece.now room.old }
@@ -313,8 +290,7 @@ pub extern "C" fn yard_load_piece(state: &mut [u8], piece: &[u8], room: &mut [u8
 }
 
 // Finishes a transfer.
-#[unsafe(no_mangle)]
-pub extern "C" fn yard_load_finish(state: &[u8], room: &[u8]) -> u64
+pub fn yard_load_finish(state: &[u8], room: &[u8]) -> u64
     ensures { result ≡ finish_shown state.now room.now }
 {
     judged(transfer::finishing::finish(state_in(state), room))

@@ -6,7 +6,5 @@ use borrow.Author.Rules.{rules}
 use Rattle.seven_bits.proofs.Groups.{at_past, read_none, read-last, read_more}
 use Rattle.seven_bits.proofs.+groups_at.Given as goal
 
-
-
 abbrev pub decreases-groups_at : goal.decreases-groups_at
 decreases-groups_at l = l.left

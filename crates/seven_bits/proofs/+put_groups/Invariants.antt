@@ -7,7 +7,5 @@ use borrow.Author.Rules.{rules}
 use Rattle.seven_bits.proofs.Groups.{put_none, put_last, put_more}
 use Rattle.seven_bits.proofs.+put_groups.Given as goal
 
-
-
 abbrev pub decreases-put_groups : goal.decreases-put_groups
 decreases-put_groups l = l.left

@@ -6,11 +6,11 @@ use Rattle.c_values.proofs.load.state_in.Goals as goal
 pub returns : goal.returns
 unfolding state_in
 returns c = simp (
-      c.u32_at-7.ensures.is,
-      c.u32_at-6.ensures.is,
-      c.u32_at-5.ensures.is,
-      c.u32_at-4.ensures.is,
-      c.u32_at-3.ensures.is,
-      c.u32_at-2.ensures.is,
-      c.u32_at.ensures.is,
-    )
+  c.u32_at-7.ensures.is,
+  c.u32_at-6.ensures.is,
+  c.u32_at-5.ensures.is,
+  c.u32_at-4.ensures.is,
+  c.u32_at-3.ensures.is,
+  c.u32_at-2.ensures.is,
+  c.u32_at.ensures.is,
+)

@@ -24,10 +24,13 @@ returns c = let closes = c.last_passes-closes in
     let opens = c.first_passes-opens in
     let number = c.number_obeys-number in
     let frame = c.frame_inside-t in
-    let a = c.args in record { track_passed = λ h.
+    let a = c.args in record {
+      track_passed = λ h.
           let due = and-true (eqb frame.result.first a.due) (number.result && (opens.result && closes.result)) h in
           let numbered = and-true number.result (opens.result && closes.result) due.1 in
           let edges = and-true opens.result closes.result numbered.1 in
           let last = closes.ensures edges.1 in
           track_passed a.f.now a.size a.e c.requires later.result later.ensures (omega (arith, last.here)) a.due frame.result.first frame.ensures.first
-          (eqb-true frame.result.first a.due due.0) number.result number.ensures numbered.0 (opens.ensures edges.0) last.edge; next_bound = omega (arith, later.ensures.small) }
+          (eqb-true frame.result.first a.due due.0) number.result number.ensures numbered.0 (opens.ensures edges.0) last.edge;
+      next_bound = omega (arith, later.ensures.small);
+    }
