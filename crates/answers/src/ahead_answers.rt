@@ -1,5 +1,5 @@
 // The answer about what lies ahead (02, ticket 9): why the list stops, and the offsets of its objects on one line.
-ghost use Rattle.std.specs.Prelude.{◌≡◌, min, length};
+ghost use Rattle.std.specs.Prelude.{◌≡◌, min, length, IfOk};
 ghost use Rattle.verdict.specs.Answers.{answer_number};
 ghost use Rattle.ahead.specs.Asked.{ahead_asked, ahead_answer};
 
@@ -7,75 +7,79 @@ use crate::pair_answers::pair_head;
 use ahead::{AheadAnswer, OBJECTS_MOST, ROOM_LEAST, Sight, Stop};
 use octets::{least, u16_at};
 use route_walks::WORD_SIZE;
+use std::io;
+use std::io::Write;
 use text::{text_line, write, write_number};
 
 // Why the list stops.
-fn stop_line(stop: Stop) {
+fn stop_line(out: &mut impl Write, stop: Stop) -> io::Result<()> {
     match stop {
-        Stop::Boundary => text_line(b"stop", b"boundary"),
-        Stop::NoLink => text_line(b"stop", b"no-link"),
-        Stop::UnknownLie => text_line(b"stop", b"unknown-lie"),
-        Stop::Repeated => text_line(b"stop", b"repeated"),
-        Stop::AgainstLie => text_line(b"stop", b"against-lie"),
-        Stop::Full => text_line(b"stop", b"full"),
+        Stop::Boundary => text_line(out, b"stop", b"boundary"),
+        Stop::NoLink => text_line(out, b"stop", b"no-link"),
+        Stop::UnknownLie => text_line(out, b"stop", b"unknown-lie"),
+        Stop::Repeated => text_line(out, b"stop", b"repeated"),
+        Stop::AgainstLie => text_line(out, b"stop", b"against-lie"),
+        Stop::Full => text_line(out, b"stop", b"full"),
     }
 }
 
 // The offsets of n objects, of which there are no more than a list may have.
-fn objects_line(lent: &[u8], n: usize) {
-    write(b"objects");
+fn objects_line(out: &mut impl Write, lent: &[u8], n: usize) -> io::Result<()> {
+    write(out, b"objects")?;
     for k in 0..least(n, OBJECTS_MOST) {
-        write(b" ");
-        write_number(u16_at(lent, WORD_SIZE * k));
+        write(out, b" ")?;
+        write_number(out, u16_at(lent, WORD_SIZE * k))?;
     }
-    write(b"\n");
+    write(out, b"\n")
 }
 
 // The values of an answer.
-fn sight_lines(s: Sight, lent: &[u8]) {
+fn sight_lines(out: &mut impl Write, s: Sight, lent: &[u8]) -> io::Result<()> {
     let stop = s.stop;
-    stop_line(stop);
-    objects_line(lent, s.objects);
+    stop_line(out, stop)?;
+    objects_line(out, lent, s.objects)
 }
 
 // An answer with its objects, which stand in the bytes lent.
-fn answer_lines(answer: AheadAnswer, lent: &[u8]) {
-    pair_head(answer.number(), answer.place(), answer.file());
+fn answer_lines(out: &mut impl Write, answer: AheadAnswer, lent: &[u8]) -> io::Result<()> {
+    pair_head(out, answer.number(), answer.place(), answer.file())?;
     match answer {
-        AheadAnswer::Listed(s) => sight_lines(s, lent),
-        AheadAnswer::Faulty(_, _) => {}
-        AheadAnswer::Refused(_) => {}
+        AheadAnswer::Listed(s) => sight_lines(out, s, lent),
+        AheadAnswer::Faulty(_, _) => Ok(()),
+        AheadAnswer::Refused(_) => Ok(()),
     }
 }
 
 // The question ahead, with the bytes that are lent.
 fn told(
+    out: &mut impl Write,
     first: &[u8],
     second: &[u8],
     offset: usize,
     link: usize,
     lies: &[u8],
     lent: &mut [u8],
-) -> usize
-    ensures { result ≡ answer_number (ahead_answer (ahead_asked first.now second.now offset link lies.now (length lent.old))) }
+) -> io::Result<usize>
+    ensures { IfOk result (λ n. n ≡ answer_number (ahead_answer (ahead_asked first.now second.now offset link lies.now (length lent.old)))) }
 {
     let answer = ahead::ahead(first, second, offset, link, lies, lent);
-    answer_lines(answer, lent);
-    answer.number()
+    answer_lines(out, answer, lent)?;
+    Ok(answer.number())
 }
 
 // The question ahead, with room for as many bytes. More than the objects can take are not needed.
 pub fn ahead(
+    out: &mut impl Write,
     first: &[u8],
     second: &[u8],
     offset: usize,
     link: usize,
     lies: &[u8],
     room: usize,
-) -> usize
-    ensures { result ≡ answer_number (ahead_answer (ahead_asked first.now second.now offset link lies.now (min room 128))) }
+) -> io::Result<usize>
+    ensures { IfOk result (λ n. n ≡ answer_number (ahead_answer (ahead_asked first.now second.now offset link lies.now (min room 128)))) }
 {
     let mut bytes = [0u8; ROOM_LEAST];
     let lent = least(room, ROOM_LEAST);
-    told(first, second, offset, link, lies, &mut bytes[..lent])
+    told(out, first, second, offset, link, lies, &mut bytes[..lent])
 }

@@ -1,30 +1,32 @@
 // The answer about a pair of files.
-ghost use Rattle.std.specs.Prelude.{◌≡◌};
+ghost use Rattle.std.specs.Prelude.{◌≡◌, IfOk};
 ghost use Rattle.verdict.specs.Reasons.{pair_number_in};
 ghost use Rattle.pair.specs.Pair.{pair_of};
 
+use std::io;
+use std::io::Write;
 use text::{write, write_number};
 
 // A text, and a number.
-fn write_with(text: &[u8], n: usize) {
-    write(text);
-    write_number(n);
+fn write_with(out: &mut impl Write, text: &[u8], n: usize) -> io::Result<()> {
+    write(out, text)?;
+    write_number(out, n)
 }
 
 // The first line of an answer about a pair.
-pub fn pair_head(number: usize, place: usize, file: usize) {
-    write_with(b"answer ", number);
-    write_with(b" ", place);
-    write_with(b" ", file);
-    write(b"\n");
+pub fn pair_head(out: &mut impl Write, number: usize, place: usize, file: usize) -> io::Result<()> {
+    write_with(out, b"answer ", number)?;
+    write_with(out, b" ", place)?;
+    write_with(out, b" ", file)?;
+    write(out, b"\n")
 }
 
 // The question pair.
-pub fn pair(first: &[u8], second: &[u8]) -> usize
-    ensures { result ≡ pair_number_in (pair_of first.now second.now) }
+pub fn pair(out: &mut impl Write, first: &[u8], second: &[u8]) -> io::Result<usize>
+    ensures { IfOk result (λ n. n ≡ pair_number_in (pair_of first.now second.now)) }
 {
     let v = pair::pair_verdict(first, second);
     let n = v.number();
-    pair_head(n, v.place(), v.file());
-    n
+    pair_head(out, n, v.place(), v.file())?;
+    Ok(n)
 }

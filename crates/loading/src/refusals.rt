@@ -28,7 +28,10 @@ fn say_meaning(err: &mut impl Write, reason: Reason) -> io::Result<()> {
         Reason::Identity => say(err, b"nothing opened, or another identity"),
         Reason::Order => say(err, b"not the next byte due"),
         Reason::Piece => {
-            say(err, b"a bad number, no bytes, a wrong byte count or bytes beyond the total")
+            say(
+                err,
+                b"a bad number, no bytes, a wrong byte count or bytes beyond the total",
+            )
         }
     }
 }

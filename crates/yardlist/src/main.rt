@@ -2,11 +2,15 @@
 // 'Routes').
 #![tactic(auto)]
 
-use libc::STDIN_FILENO;
+use intake::read_full;
+use std::io;
 
-// The room is a byte more than the longest file: a file that fills it is too long, whatever follows.
-fn main() {
-    let mut room = io::large_buffer();
-    let n = io::read_full(STDIN_FILENO, &mut room);
-    listings::list(&room[..n]);
+// A byte more than the longest file: a file that fills the room is too long, whatever follows.
+const ROOM: usize = 65536;
+
+fn main(rt: HostRuntime) -> io::Result<()> {
+    let mut room = [0u8; ROOM];
+    let n = read_full(&mut rt.stdin(), &mut room)?;
+    listings::list(&mut rt.stdout(), &room[..n])?;
+    Ok(())
 }
