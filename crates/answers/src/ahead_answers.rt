@@ -8,11 +8,10 @@ use ahead::{AheadAnswer, OBJECTS_MOST, ROOM_LEAST, Sight, Stop};
 use octets::{least, u16_at};
 use route_walks::WORD_SIZE;
 use std::io;
-use std::io::Write;
 use text::{text_line, write, write_number};
 
 // Why the list stops.
-fn stop_line(out: &mut impl Write, stop: Stop) -> io::Result<()> {
+fn stop_line(out: &impl Print, stop: Stop) -> io::Result<()> {
     match stop {
         Stop::Boundary => text_line(out, b"stop", b"boundary"),
         Stop::NoLink => text_line(out, b"stop", b"no-link"),
@@ -24,7 +23,7 @@ fn stop_line(out: &mut impl Write, stop: Stop) -> io::Result<()> {
 }
 
 // The offsets of n objects, of which there are no more than a list may have.
-fn objects_line(out: &mut impl Write, lent: &[u8], n: usize) -> io::Result<()> {
+fn objects_line(out: &impl Print, lent: &[u8], n: usize) -> io::Result<()> {
     write(out, b"objects")?;
     for k in 0..least(n, OBJECTS_MOST) {
         write(out, b" ")?;
@@ -34,14 +33,14 @@ fn objects_line(out: &mut impl Write, lent: &[u8], n: usize) -> io::Result<()> {
 }
 
 // The values of an answer.
-fn sight_lines(out: &mut impl Write, s: Sight, lent: &[u8]) -> io::Result<()> {
+fn sight_lines(out: &impl Print, s: Sight, lent: &[u8]) -> io::Result<()> {
     let stop = s.stop;
     stop_line(out, stop)?;
     objects_line(out, lent, s.objects)
 }
 
 // An answer with its objects, which stand in the bytes lent.
-fn answer_lines(out: &mut impl Write, answer: AheadAnswer, lent: &[u8]) -> io::Result<()> {
+fn answer_lines(out: &impl Print, answer: AheadAnswer, lent: &[u8]) -> io::Result<()> {
     pair_head(out, answer.number(), answer.place(), answer.file())?;
     match answer {
         AheadAnswer::Listed(s) => sight_lines(out, s, lent),
@@ -52,7 +51,7 @@ fn answer_lines(out: &mut impl Write, answer: AheadAnswer, lent: &[u8]) -> io::R
 
 // The question ahead, with the bytes that are lent.
 fn told(
-    out: &mut impl Write,
+    out: &impl Print,
     first: &[u8],
     second: &[u8],
     offset: usize,
@@ -69,7 +68,7 @@ fn told(
 
 // The question ahead, with room for as many bytes. More than the objects can take are not needed.
 pub fn ahead(
-    out: &mut impl Write,
+    out: &impl Print,
     first: &[u8],
     second: &[u8],
     offset: usize,

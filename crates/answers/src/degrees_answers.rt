@@ -7,11 +7,10 @@ ghost use Rattle.x1_degrees.specs.Questions.{degrees_asked, point_degrees_of};
 use crate::geography_answers::{coordinate_lines, refused};
 use degrees::bits_of;
 use std::io;
-use std::io::Write;
 use text::bits_line;
 use x1_degrees::{DegreesAnswer, Surveyed, degrees_at};
 
-fn surveyed_lines(out: &mut impl Write, s: Surveyed) -> io::Result<()> {
+fn surveyed_lines(out: &impl Print, s: Surveyed) -> io::Result<()> {
     let coordinate = s.coordinate;
     let degrees = s.degrees;
     coordinate_lines(out, coordinate)?;
@@ -20,7 +19,7 @@ fn surveyed_lines(out: &mut impl Write, s: Surveyed) -> io::Result<()> {
 }
 
 // An answer in degrees.
-fn told(out: &mut impl Write, a: DegreesAnswer) -> io::Result<usize>
+fn told(out: &impl Print, a: DegreesAnswer) -> io::Result<usize>
     ensures { IfOk result (λ n. n ≡ answer_number (degrees_answer a)) }
 {
     match a {
@@ -33,19 +32,14 @@ fn told(out: &mut impl Write, a: DegreesAnswer) -> io::Result<usize>
 }
 
 // The question degrees.
-pub fn degrees(out: &mut impl Write, f: &[u8], number: usize, position: usize) -> io::Result<usize>
+pub fn degrees(out: &impl Print, f: &[u8], number: usize, position: usize) -> io::Result<usize>
     ensures { IfOk result (λ n. n ≡ answer_number (degrees_answer (degrees_asked f.now number position))) }
 {
     told(out, degrees_at(f, number, position))
 }
 
 // The question point_degrees.
-pub fn point_degrees(
-    out: &mut impl Write,
-    f: &[u8],
-    track: usize,
-    index: usize,
-) -> io::Result<usize>
+pub fn point_degrees(out: &impl Print, f: &[u8], track: usize, index: usize) -> io::Result<usize>
     ensures { IfOk result (λ n. n ≡ answer_number (degrees_answer (point_degrees_of f.now track index))) }
 {
     told(out, x1_degrees::point_degrees(f, track, index))

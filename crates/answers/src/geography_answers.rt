@@ -7,14 +7,13 @@ ghost use Rattle.x1_questions.specs.Questions.{track_of, point_of, coordinate_as
 ghost use Rattle.x1_questions.specs.Answers.{track_answer, point_answer, coordinate_answer};
 
 use std::io;
-use std::io::Write;
 use text::{head, line, lines, signed_line, text_line};
 use verdict::{Fault, Verdict};
 use x1_questions::{Coordinate, CoordinateAnswer, PointAnswer, TrackAnswer};
 use x1_records::{Height, Point, Track};
 
 // A refusal.
-pub fn refused(out: &mut impl Write, fault: Fault) -> io::Result<usize>
+pub fn refused(out: &impl Print, fault: Fault) -> io::Result<usize>
     ensures { IfOk result (λ n. n ≡ number_of fault.reason) }
 {
     let reason = fault.reason;
@@ -24,12 +23,12 @@ pub fn refused(out: &mut impl Write, fault: Fault) -> io::Result<usize>
 }
 
 // The first line of what is answered and not refused.
-pub fn answered(out: &mut impl Write) -> io::Result<()> {
+pub fn answered(out: &impl Print) -> io::Result<()> {
     head(out, b"answer", 0, 0)
 }
 
 // A verdict.
-pub fn judged(out: &mut impl Write, v: Verdict) -> io::Result<usize>
+pub fn judged(out: &impl Print, v: Verdict) -> io::Result<usize>
     ensures { IfOk result (λ n. n ≡ number_in v) }
 {
     let n = v.number();
@@ -38,32 +37,32 @@ pub fn judged(out: &mut impl Write, v: Verdict) -> io::Result<usize>
 }
 
 // The question x1.
-pub fn x1(out: &mut impl Write, f: &[u8]) -> io::Result<usize>
+pub fn x1(out: &impl Print, f: &[u8]) -> io::Result<usize>
     ensures { IfOk result (λ n. n ≡ number_in (verdict_of f.now)) }
 {
     judged(out, x1_verdict::verdicts::verdict_of(f))
 }
 
 // The question x1-version-1.
-pub fn x1_version_1(out: &mut impl Write, f: &[u8]) -> io::Result<usize>
+pub fn x1_version_1(out: &impl Print, f: &[u8]) -> io::Result<usize>
     ensures { IfOk result (λ n. n ≡ number_in (verdict_by 1 f.now)) }
 {
     judged(out, x1_verdict::verdicts::version_1_verdict(f))
 }
 
-fn start_lines(out: &mut impl Write, t: Track) -> io::Result<()> {
+fn start_lines(out: &impl Print, t: Track) -> io::Result<()> {
     line(out, b"start_position", t.start_position)?;
     signed_line(out, b"start_latitude", t.start_latitude)?;
     signed_line(out, b"start_longitude", t.start_longitude)
 }
 
-fn end_lines(out: &mut impl Write, t: Track) -> io::Result<()> {
+fn end_lines(out: &impl Print, t: Track) -> io::Result<()> {
     line(out, b"end_position", t.end_position)?;
     signed_line(out, b"end_latitude", t.end_latitude)?;
     signed_line(out, b"end_longitude", t.end_longitude)
 }
 
-fn track_lines(out: &mut impl Write, t: Track) -> io::Result<()> {
+fn track_lines(out: &impl Print, t: Track) -> io::Result<()> {
     answered(out)?;
     let name = [t.number, t.property];
     lines(out, b"number property", &name)?;
@@ -74,7 +73,7 @@ fn track_lines(out: &mut impl Write, t: Track) -> io::Result<()> {
 }
 
 // The question track.
-pub fn track(out: &mut impl Write, f: &[u8], index: usize) -> io::Result<usize>
+pub fn track(out: &impl Print, f: &[u8], index: usize) -> io::Result<usize>
     ensures { IfOk result (λ n. n ≡ answer_number (track_answer (track_of f.now index))) }
 {
     match x1_questions::track(f, index) {
@@ -87,14 +86,14 @@ pub fn track(out: &mut impl Write, f: &[u8], index: usize) -> io::Result<usize>
 }
 
 // A point's height; a dash for none.
-fn height_line(out: &mut impl Write, h: Height) -> io::Result<()> {
+fn height_line(out: &impl Print, h: Height) -> io::Result<()> {
     match h {
         Height::Decimetres(z) => signed_line(out, b"height", z),
         Height::NoHeight => text_line(out, b"height", b"-"),
     }
 }
 
-fn point_lines(out: &mut impl Write, p: Point) -> io::Result<()> {
+fn point_lines(out: &impl Print, p: Point) -> io::Result<()> {
     answered(out)?;
     line(out, b"position", p.position)?;
     signed_line(out, b"latitude_increment", p.latitude_increment)?;
@@ -106,7 +105,7 @@ fn point_lines(out: &mut impl Write, p: Point) -> io::Result<()> {
 }
 
 // The question point.
-pub fn point(out: &mut impl Write, f: &[u8], track: usize, index: usize) -> io::Result<usize>
+pub fn point(out: &impl Print, f: &[u8], track: usize, index: usize) -> io::Result<usize>
     ensures { IfOk result (λ n. n ≡ answer_number (point_answer (point_of f.now track index))) }
 {
     match x1_questions::point(f, track, index) {
@@ -119,19 +118,14 @@ pub fn point(out: &mut impl Write, f: &[u8], track: usize, index: usize) -> io::
 }
 
 // A coordinate.
-pub fn coordinate_lines(out: &mut impl Write, c: Coordinate) -> io::Result<()> {
+pub fn coordinate_lines(out: &impl Print, c: Coordinate) -> io::Result<()> {
     answered(out)?;
     signed_line(out, b"latitude", c.latitude)?;
     signed_line(out, b"longitude", c.longitude)
 }
 
 // The question coordinate.
-pub fn coordinate(
-    out: &mut impl Write,
-    f: &[u8],
-    number: usize,
-    position: usize,
-) -> io::Result<usize>
+pub fn coordinate(out: &impl Print, f: &[u8], number: usize, position: usize) -> io::Result<usize>
     ensures { IfOk result (λ n. n ≡ answer_number (coordinate_answer (coordinate_asked f.now number position))) }
 {
     match x1_questions::coordinate(f, number, position) {

@@ -9,19 +9,18 @@ ghost use Rattle.x2_verdict.specs.Questions.{named_header_of};
 use crate::geography_answers::{answered, refused};
 use envelope::Header;
 use std::io;
-use std::io::Write;
 use text::{lines, message_line};
 use x1_questions::HeaderAnswer;
 use x2_verdict::{NamedHeader, NamedHeaderAnswer};
 
-fn header_lines(out: &mut impl Write, h: Header) -> io::Result<()> {
+fn header_lines(out: &impl Print, h: Header) -> io::Result<()> {
     answered(out)?;
     let values = [h.structure, h.data, h.station];
     lines(out, b"structure data station", &values)
 }
 
 // The question header1.
-pub fn header1(out: &mut impl Write, f: &[u8]) -> io::Result<usize>
+pub fn header1(out: &impl Print, f: &[u8]) -> io::Result<usize>
     ensures { IfOk result (λ n. n ≡ answer_number (header_answer (header_of f.now))) }
 {
     match x1_questions::header(f) {
@@ -33,14 +32,14 @@ pub fn header1(out: &mut impl Write, f: &[u8]) -> io::Result<usize>
     }
 }
 
-fn named_header_lines(out: &mut impl Write, f: &[u8], h: NamedHeader) -> io::Result<()> {
+fn named_header_lines(out: &impl Print, f: &[u8], h: NamedHeader) -> io::Result<()> {
     let header = h.header;
     header_lines(out, header)?;
     message_line(out, b"name", f, h.name, h.name_bytes)
 }
 
 // The question header2.
-pub fn header2(out: &mut impl Write, f: &[u8]) -> io::Result<usize>
+pub fn header2(out: &impl Print, f: &[u8]) -> io::Result<usize>
     ensures { IfOk result (λ n. n ≡ answer_number (named_header_answer (named_header_of f.now))) }
 {
     match x2_verdict::header(f) {

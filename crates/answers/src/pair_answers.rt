@@ -4,17 +4,16 @@ ghost use Rattle.verdict.specs.Reasons.{pair_number_in};
 ghost use Rattle.pair.specs.Pair.{pair_of};
 
 use std::io;
-use std::io::Write;
 use text::{write, write_number};
 
 // A text, and a number.
-fn write_with(out: &mut impl Write, text: &[u8], n: usize) -> io::Result<()> {
+fn write_with(out: &impl Print, text: &[u8], n: usize) -> io::Result<()> {
     write(out, text)?;
     write_number(out, n)
 }
 
 // The first line of an answer about a pair.
-pub fn pair_head(out: &mut impl Write, number: usize, place: usize, file: usize) -> io::Result<()> {
+pub fn pair_head(out: &impl Print, number: usize, place: usize, file: usize) -> io::Result<()> {
     write_with(out, b"answer ", number)?;
     write_with(out, b" ", place)?;
     write_with(out, b" ", file)?;
@@ -22,7 +21,7 @@ pub fn pair_head(out: &mut impl Write, number: usize, place: usize, file: usize)
 }
 
 // The question pair.
-pub fn pair(out: &mut impl Write, first: &[u8], second: &[u8]) -> io::Result<usize>
+pub fn pair(out: &impl Print, first: &[u8], second: &[u8]) -> io::Result<usize>
     ensures { IfOk result (λ n. n ≡ pair_number_in (pair_of first.now second.now)) }
 {
     let v = pair::pair_verdict(first, second);

@@ -9,7 +9,6 @@ ghost use Rattle.x2_verdict.specs.Answers.{record_answer};
 use crate::geography_answers::{answered, judged, refused};
 use names::Name;
 use std::io;
-use std::io::Write;
 use text::{line, lines, message_line, name_line, text_line};
 use x2_records::{
     Balise, Boundary, Facing, GroupDirection, Joint, Nature, Record, Siding, Signal, Turnout,
@@ -17,35 +16,35 @@ use x2_records::{
 use x2_verdict::RecordAnswer;
 
 // The question x2.
-pub fn x2(out: &mut impl Write, f: &[u8]) -> io::Result<usize>
+pub fn x2(out: &impl Print, f: &[u8]) -> io::Result<usize>
     ensures { IfOk result (λ n. n ≡ number_in (verdict_of f.now)) }
 {
     judged(out, x2_verdict::verdict_of(f))
 }
 
 // What every record's answer begins with.
-fn kind_line(out: &mut impl Write, kind: &[u8]) -> io::Result<()> {
+fn kind_line(out: &impl Print, kind: &[u8]) -> io::Result<()> {
     answered(out)?;
     text_line(out, b"kind", kind)
 }
 
 // The two links of a record that lies in a track.
-fn link_lines(out: &mut impl Write, previous: usize, next: usize) -> io::Result<()> {
+fn link_lines(out: &impl Print, previous: usize, next: usize) -> io::Result<()> {
     line(out, b"previous", previous)?;
     line(out, b"next", next)
 }
 
 // Where a record lies.
-fn place_lines(out: &mut impl Write, position: usize, track: usize) -> io::Result<()> {
+fn place_lines(out: &impl Print, position: usize, track: usize) -> io::Result<()> {
     line(out, b"position", position)?;
     line(out, b"track", track)
 }
 
-fn direction_line(out: &mut impl Write, direction: &[u8]) -> io::Result<()> {
+fn direction_line(out: &impl Print, direction: &[u8]) -> io::Result<()> {
     text_line(out, b"direction", direction)
 }
 
-fn boundary_lines(out: &mut impl Write, kind: &[u8], b: Boundary) -> io::Result<()> {
+fn boundary_lines(out: &impl Print, kind: &[u8], b: Boundary) -> io::Result<()> {
     kind_line(out, kind)?;
     let values = [
         b.entry,
@@ -63,15 +62,15 @@ fn boundary_lines(out: &mut impl Write, kind: &[u8], b: Boundary) -> io::Result<
     )
 }
 
-fn start_boundary_lines(out: &mut impl Write, b: Boundary) -> io::Result<()> {
+fn start_boundary_lines(out: &impl Print, b: Boundary) -> io::Result<()> {
     boundary_lines(out, b"start_boundary", b)
 }
 
-fn end_boundary_lines(out: &mut impl Write, b: Boundary) -> io::Result<()> {
+fn end_boundary_lines(out: &impl Print, b: Boundary) -> io::Result<()> {
     boundary_lines(out, b"end_boundary", b)
 }
 
-fn turnout_lines(out: &mut impl Write, t: Turnout) -> io::Result<()> {
+fn turnout_lines(out: &impl Print, t: Turnout) -> io::Result<()> {
     kind_line(out, b"turnout")?;
     let direction = t.direction;
     let values = [
@@ -95,14 +94,14 @@ fn turnout_lines(out: &mut impl Write, t: Turnout) -> io::Result<()> {
     )
 }
 
-fn nature_line(out: &mut impl Write, nature: Nature) -> io::Result<()> {
+fn nature_line(out: &impl Print, nature: Nature) -> io::Result<()> {
     match nature {
         Nature::Virtual => text_line(out, b"nature", b"virtual"),
         Nature::Physical => text_line(out, b"nature", b"physical"),
     }
 }
 
-fn group_direction_line(out: &mut impl Write, d: GroupDirection) -> io::Result<()> {
+fn group_direction_line(out: &impl Print, d: GroupDirection) -> io::Result<()> {
     match d {
         GroupDirection::Opposite => direction_line(out, b"opposite"),
         GroupDirection::Same => direction_line(out, b"same"),
@@ -119,7 +118,7 @@ fn message_bytes(size: usize) -> usize {
 }
 
 // What a balise is: its number and size, and its attribute byte.
-fn balise_attributes(out: &mut impl Write, b: Balise) -> io::Result<()> {
+fn balise_attributes(out: &impl Print, b: Balise) -> io::Result<()> {
     let nature = b.nature;
     let direction = b.direction;
     line(out, b"number", b.number)?;
@@ -128,7 +127,7 @@ fn balise_attributes(out: &mut impl Write, b: Balise) -> io::Result<()> {
     group_direction_line(out, direction)
 }
 
-fn balise_lines(out: &mut impl Write, f: &[u8], b: Balise) -> io::Result<()> {
+fn balise_lines(out: &impl Print, f: &[u8], b: Balise) -> io::Result<()> {
     kind_line(out, b"balise")?;
     link_lines(out, b.previous, b.next)?;
     balise_attributes(out, b)?;
@@ -137,7 +136,7 @@ fn balise_lines(out: &mut impl Write, f: &[u8], b: Balise) -> io::Result<()> {
     message_line(out, b"message", f, b.message, message_bytes(b.size))
 }
 
-fn facing_line(out: &mut impl Write, facing: Facing) -> io::Result<()> {
+fn facing_line(out: &impl Print, facing: Facing) -> io::Result<()> {
     match facing {
         Facing::Neither => direction_line(out, b"none"),
         Facing::Down => direction_line(out, b"down"),
@@ -146,12 +145,12 @@ fn facing_line(out: &mut impl Write, facing: Facing) -> io::Result<()> {
 }
 
 // An object's own name, and how many bytes it has; a name of no bytes is a dash, and so is one that is a dash.
-fn named_lines(out: &mut impl Write, f: &[u8], name: Name) -> io::Result<()> {
+fn named_lines(out: &impl Print, f: &[u8], name: Name) -> io::Result<()> {
     name_line(out, b"name", f, name)?;
     line(out, b"name_bytes", name.bytes)
 }
 
-fn signal_lines(out: &mut impl Write, f: &[u8], s: Signal) -> io::Result<()> {
+fn signal_lines(out: &impl Print, f: &[u8], s: Signal) -> io::Result<()> {
     kind_line(out, b"signal")?;
     link_lines(out, s.previous, s.next)?;
     let name = s.name;
@@ -163,7 +162,7 @@ fn signal_lines(out: &mut impl Write, f: &[u8], s: Signal) -> io::Result<()> {
     line(out, b"type", duty.number())
 }
 
-fn joint_lines(out: &mut impl Write, f: &[u8], j: Joint) -> io::Result<()> {
+fn joint_lines(out: &impl Print, f: &[u8], j: Joint) -> io::Result<()> {
     kind_line(out, b"joint")?;
     link_lines(out, j.previous, j.next)?;
     let name = j.name;
@@ -172,7 +171,7 @@ fn joint_lines(out: &mut impl Write, f: &[u8], j: Joint) -> io::Result<()> {
 }
 
 // An exit balise; a dash for none.
-fn exit_line(out: &mut impl Write, name: &[u8], n: usize) -> io::Result<()> {
+fn exit_line(out: &impl Print, name: &[u8], n: usize) -> io::Result<()> {
     if n == Balise::NONE {
         text_line(out, name, b"-")
     } else {
@@ -180,7 +179,7 @@ fn exit_line(out: &mut impl Write, name: &[u8], n: usize) -> io::Result<()> {
     }
 }
 
-fn siding_lines(out: &mut impl Write, f: &[u8], s: Siding) -> io::Result<()> {
+fn siding_lines(out: &impl Print, f: &[u8], s: Siding) -> io::Result<()> {
     kind_line(out, b"siding")?;
     let name = s.name;
     named_lines(out, f, name)?;
@@ -195,7 +194,7 @@ fn siding_lines(out: &mut impl Write, f: &[u8], s: Siding) -> io::Result<()> {
     line(out, b"down_signal_bytes", down.bytes)
 }
 
-fn record_lines(out: &mut impl Write, f: &[u8], r: Record) -> io::Result<()> {
+fn record_lines(out: &impl Print, f: &[u8], r: Record) -> io::Result<()> {
     match r {
         Record::StartBoundary(b) => start_boundary_lines(out, b),
         Record::EndBoundary(b) => end_boundary_lines(out, b),
@@ -208,7 +207,7 @@ fn record_lines(out: &mut impl Write, f: &[u8], r: Record) -> io::Result<()> {
 }
 
 // The question record.
-pub fn record(out: &mut impl Write, f: &[u8], offset: usize) -> io::Result<usize>
+pub fn record(out: &impl Print, f: &[u8], offset: usize) -> io::Result<usize>
     ensures { IfOk result (λ n. n ≡ answer_number (record_answer (record_of f.now offset))) }
 {
     match x2_verdict::record_at(f, offset) {

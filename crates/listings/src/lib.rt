@@ -15,7 +15,6 @@ use route_lister::RoutesAnswer;
 use route_question::{Engine, routes_by};
 use route_walks::{Tally, WORD_SIZE};
 use std::io;
-use std::io::Write;
 use tables::number_of;
 use text::{head, line, lines, write, write_number};
 use verdict::{Fault, Verdict};
@@ -49,7 +48,7 @@ fn word_at(lent: &[u8], at: usize) -> usize {
 
 // Prints the next word of a listing, of whose route `left` offsets are still to come, and answers how many are then. Where none are, the
 // word is not printed: it is the object count of the next route.
-fn word_printed(out: &mut impl Write, left: usize, word: usize) -> io::Result<usize> {
+fn word_printed(out: &impl Print, left: usize, word: usize) -> io::Result<usize> {
     if left == 0 {
         return Ok(word);
     }
@@ -63,7 +62,7 @@ fn word_printed(out: &mut impl Write, left: usize, word: usize) -> io::Result<us
 }
 
 // The routes in the first n words, each on a line.
-fn route_lines(out: &mut impl Write, lent: &[u8], n: usize) -> io::Result<()> {
+fn route_lines(out: &impl Print, lent: &[u8], n: usize) -> io::Result<()> {
     let mut left = 0;
     for k in 0..n {
         left = word_printed(out, left, word_at(lent, k))?;
@@ -72,14 +71,14 @@ fn route_lines(out: &mut impl Write, lent: &[u8], n: usize) -> io::Result<()> {
 }
 
 // The values of an answer, and its routes.
-fn tally_lines(out: &mut impl Write, t: Tally, lent: &[u8]) -> io::Result<()> {
+fn tally_lines(out: &impl Print, t: Tally, lent: &[u8]) -> io::Result<()> {
     let values = [t.routes, t.words, t.walks];
     lines(out, b"routes words walks", &values)?;
     route_lines(out, lent, t.words)
 }
 
 // Prints an answer with its routes.
-fn answer_lines(out: &mut impl Write, answer: RoutesAnswer, lent: &[u8]) -> io::Result<()> {
+fn answer_lines(out: &impl Print, answer: RoutesAnswer, lent: &[u8]) -> io::Result<()> {
     head(out, b"answer", answer.number(), answer.place())?;
     match answer {
         RoutesAnswer::Listed(t) => tally_lines(out, t, lent),
@@ -89,7 +88,7 @@ fn answer_lines(out: &mut impl Write, answer: RoutesAnswer, lent: &[u8]) -> io::
 
 // The same for a question with as much room; nothing where that is more than is here and the list does not fit what is here.
 fn answer_within(
-    out: &mut impl Write,
+    out: &impl Print,
     answer: RoutesAnswer,
     room: usize,
     lent: &[u8],
@@ -102,7 +101,7 @@ fn answer_within(
 
 // The question routes, by an engine, with the bytes that are lent of its room. It answers the number of the answer.
 fn answered(
-    out: &mut impl Write,
+    out: &impl Print,
     engine: Engine,
     f: &[u8],
     start: usize,
@@ -122,7 +121,7 @@ fn answered(
 // the question has more words than are here and the list does not fit those that are, it answers 15 and prints nothing: what the answer is, it
 // cannot say.
 pub fn routes(
-    out: &mut impl Write,
+    out: &impl Print,
     engine: Engine,
     f: &[u8],
     start: usize,
@@ -147,7 +146,7 @@ pub fn routes(
 }
 
 // How many routes there are from a start boundary, how many partial walks, and the routes.
-fn listed_lines(out: &mut impl Write, t: Tally, lent: &[u8]) -> io::Result<()> {
+fn listed_lines(out: &impl Print, t: Tally, lent: &[u8]) -> io::Result<()> {
     write(out, b" routes ")?;
     write_number(out, t.routes)?;
     line(out, b" walks", t.walks)?;
@@ -155,18 +154,18 @@ fn listed_lines(out: &mut impl Write, t: Tally, lent: &[u8]) -> io::Result<()> {
 }
 
 // Why routes are refused.
-fn refused_line(out: &mut impl Write, fault: Fault) -> io::Result<()> {
+fn refused_line(out: &impl Print, fault: Fault) -> io::Result<()> {
     let reason = fault.reason;
     line(out, b" refused", reason.number())
 }
 
-fn start_line(out: &mut impl Write, start: usize) -> io::Result<()> {
+fn start_line(out: &impl Print, start: usize) -> io::Result<()> {
     write(out, b"from ")?;
     write_number(out, start)
 }
 
 // The routes from a start boundary, or why they are refused.
-fn start_lines(out: &mut impl Write, f: &[u8], l: Layout, start: usize) -> io::Result<()> {
+fn start_lines(out: &impl Print, f: &[u8], l: Layout, start: usize) -> io::Result<()> {
     start_line(out, start)?;
     let mut bytes = [0u8; LIST_BYTES];
     let answer = route_lister::list(f, l, start, LIST_LIMIT, LIST_BUDGET, &mut bytes);
@@ -177,7 +176,7 @@ fn start_lines(out: &mut impl Write, f: &[u8], l: Layout, start: usize) -> io::R
 }
 
 // The routes from each start boundary, in the header's order.
-fn every_start(out: &mut impl Write, f: &[u8]) -> io::Result<()> {
+fn every_start(out: &impl Print, f: &[u8]) -> io::Result<()> {
     let l = layout_of(f);
     let n = l.n;
     for i in 0..n {
@@ -189,7 +188,7 @@ fn every_start(out: &mut impl Write, f: &[u8]) -> io::Result<()> {
 
 // The list of a station: the verdict of its X.2 file and, where that is accepted, the routes from each start boundary. It answers the number of
 // the verdict.
-pub fn list(out: &mut impl Write, f: &[u8]) -> io::Result<usize>
+pub fn list(out: &impl Print, f: &[u8]) -> io::Result<usize>
     ensures { IfOk result (λ n. n ≡ number_in (verdict_of f.now)) }
 {
     let v = x2_verdict::verdict_of(f);

@@ -3,11 +3,10 @@ ghost use Rattle.std.specs.Prelude.{◌≡◌, IfOk};
 
 use crate::said::{say, say_number};
 use std::io;
-use std::io::Write;
 use verdict::{Fault, Reason};
 
 // What a reason means, in the words of 01's table and of 02's tickets 4 and 6.
-fn say_meaning(err: &mut impl Write, reason: Reason) -> io::Result<()> {
+fn say_meaning(err: &impl Print, reason: Reason) -> io::Result<()> {
     match reason {
         Reason::Length => say(err, b"length out of range"),
         Reason::Checksum => say(err, b"the checksum differs"),
@@ -37,7 +36,7 @@ fn say_meaning(err: &mut impl Write, reason: Reason) -> io::Result<()> {
 }
 
 // The same, of a finishing: two of its reasons mean something else than a piece's.
-fn say_finishing_meaning(err: &mut impl Write, reason: Reason) -> io::Result<()> {
+fn say_finishing_meaning(err: &impl Print, reason: Reason) -> io::Result<()> {
     match reason {
         Reason::Identity => say(err, b"the file is another one than was opened"),
         Reason::Order => say(err, b"nothing opened, or bytes still due"),
@@ -46,13 +45,13 @@ fn say_finishing_meaning(err: &mut impl Write, reason: Reason) -> io::Result<()>
 }
 
 // That a call is refused, and the number.
-fn say_refused(err: &mut impl Write, reason: Reason) -> io::Result<()> {
+fn say_refused(err: &impl Print, reason: Reason) -> io::Result<()> {
     say(err, b" refused ")?;
     say_number(err, reason.number())
 }
 
 // A refused opening.
-pub fn opening_refused(err: &mut impl Write, fault: Fault) -> io::Result<()>
+pub fn opening_refused(err: &impl Print, fault: Fault) -> io::Result<()>
     ensures { IfOk result (λ nothing. nothing ≡ tt) }
 {
     let reason = fault.reason;
@@ -64,7 +63,7 @@ pub fn opening_refused(err: &mut impl Write, fault: Fault) -> io::Result<()>
 }
 
 // A refused piece, by its number among all pieces, from 1.
-pub fn piece_refused(err: &mut impl Write, number: usize, fault: Fault) -> io::Result<()>
+pub fn piece_refused(err: &impl Print, number: usize, fault: Fault) -> io::Result<()>
     ensures { IfOk result (λ nothing. nothing ≡ tt) }
 {
     let reason = fault.reason;
@@ -77,7 +76,7 @@ pub fn piece_refused(err: &mut impl Write, number: usize, fault: Fault) -> io::R
 }
 
 // A refused finishing.
-pub fn finishing_refused(err: &mut impl Write, fault: Fault) -> io::Result<()>
+pub fn finishing_refused(err: &impl Print, fault: Fault) -> io::Result<()>
     ensures { IfOk result (λ nothing. nothing ≡ tt) }
 {
     let reason = fault.reason;

@@ -1,30 +1,29 @@
-// Standard error, which is any writer here: text, numbers, and what is wrong with a command. Of what is written no contract here speaks; that a
-// function answers nothing but the error of a write that failed, and for every input, it says.
+// Standard error: text, numbers, and what is wrong with a command. What is written no contract can say; that a function answers nothing but the
+// error of a write that failed, and for every input, it can.
 ghost use Rattle.std.specs.Prelude.{◌≡◌, IfOk};
 
 use std::io;
-use std::io::Write;
 use std::rt::Env;
 
 // The longest word of a command that is shown.
 const WORD_ROOM: usize = 4096;
 
 // Some text.
-pub fn say(err: &mut impl Write, text: &[u8]) -> io::Result<()>
+pub fn say(err: &impl Print, text: &[u8]) -> io::Result<()>
     ensures { IfOk result (λ nothing. nothing ≡ tt) }
 {
     err.write_all(text)
 }
 
 // A number, in decimal.
-pub fn say_number(err: &mut impl Write, n: usize) -> io::Result<()>
+pub fn say_number(err: &impl Print, n: usize) -> io::Result<()>
     ensures { IfOk result (λ nothing. nothing ≡ tt) }
 {
-    write!(err, "{n}")
+    print!(err; "{n}")
 }
 
 // What is wrong with the command of a program.
-pub fn wrong(err: &mut impl Write, program: &[u8], why: &[u8]) -> io::Result<()>
+pub fn wrong(err: &impl Print, program: &[u8], why: &[u8]) -> io::Result<()>
     ensures { IfOk result (λ nothing. nothing ≡ tt) }
 {
     say(err, program)?;
@@ -36,7 +35,7 @@ pub fn wrong(err: &mut impl Write, program: &[u8], why: &[u8]) -> io::Result<()>
 // What is wrong with a word of it, and the word.
 pub fn wrong_word(
     rt: &impl Env,
-    err: &mut impl Write,
+    err: &impl Print,
     program: &[u8],
     why: &[u8],
     i: usize,

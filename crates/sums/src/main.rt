@@ -2,11 +2,10 @@
 // length and the checksum of each, one line a case. A case that is too long or cut short ends the run with a line on standard error.
 #![tactic(auto)]
 
-ghost use Rattle.std.specs.Prelude.{◌≤◌, ◌<◌};
+ghost use Rattle.std.specs.Prelude.{◌≤◌, ◌<◌, length, IfOk};
 
-use intake::read_full;
 use std::io;
-use std::io::{Read, Write};
+use std::io::Read;
 
 // A file is at most 65,535 bytes.
 const LONGEST: usize = 65535;
@@ -15,7 +14,7 @@ const LONGEST: usize = 65535;
 const LENGTH: usize = 4;
 
 // Says why the run ends. It answers false: there is no next case.
-fn stop(err: &mut impl Write, why: &[u8]) -> io::Result<bool> {
+fn stop(err: &impl Print, why: &[u8]) -> io::Result<bool> {
     err.write_all(why)?;
     Ok(false)
 }
@@ -33,17 +32,32 @@ fn number(b: &[u8; LENGTH]) -> usize {
 }
 
 // Prints a case's line.
-fn print_line(out: &mut impl Write, s: &[u8]) -> io::Result<()> {
+fn print_line(out: &impl Print, s: &[u8]) -> io::Result<()> {
     let n = s.len();
     let sum = checksum::of(s);
-    writeln!(out, "{n} {sum}")
+    println!(out; "{n} {sum}")
+}
+
+// Reads until the room is full or the input ends. It answers how many bytes then stand at the front of the room.
+fn read_full(input: &mut impl Read, room: &mut [u8]) -> io::Result<usize>
+    ensures { IfOk result (λ n. n ≤ length room.new) }
+{
+    let mut got = 0;
+    while got < room.len() {
+        let n = input.read(&mut room[got..])?;
+        if n == 0 {
+            break;
+        }
+        got += n;
+    }
+    Ok(got)
 }
 
 // Reads a case's bytes, as many as there is room for, and prints its line. It answers whether there may be a next case.
 fn print_case(
     input: &mut impl Read,
-    out: &mut impl Write,
-    err: &mut impl Write,
+    out: &impl Print,
+    err: &impl Print,
     room: &mut [u8],
 ) -> io::Result<bool> {
     let got = read_full(input, room)?;
@@ -55,12 +69,7 @@ fn print_case(
 }
 
 // The same for a case of n bytes.
-fn case_of(
-    input: &mut impl Read,
-    out: &mut impl Write,
-    err: &mut impl Write,
-    n: usize,
-) -> io::Result<bool>
+fn case_of(input: &mut impl Read, out: &impl Print, err: &impl Print, n: usize) -> io::Result<bool>
     requires { n ≤ 65535 }
 {
     let mut buffer = [0u8; LONGEST];
@@ -68,11 +77,7 @@ fn case_of(
 }
 
 // Reads and prints a case. It answers whether there may be a next one.
-fn next_case(
-    input: &mut impl Read,
-    out: &mut impl Write,
-    err: &mut impl Write,
-) -> io::Result<bool> {
+fn next_case(input: &mut impl Read, out: &impl Print, err: &impl Print) -> io::Result<bool> {
     let mut length = [0u8; LENGTH];
     let got = read_full(input, &mut length)?;
     if got == 0 {
@@ -90,9 +95,9 @@ fn next_case(
 
 // A proved loop has to end, and nothing says that the input does: it stops after as many cases as no run has.
 fn main(rt: HostRuntime) -> io::Result<()> {
-    let (mut input, mut out, mut err) = (rt.stdin(), rt.stdout(), rt.stderr());
+    let mut input = rt.stdin();
     for _ in 0..u64::MAX {
-        if !next_case(&mut input, &mut out, &mut err)? {
+        if !next_case(&mut input, &rt, &rt.stderr())? {
             break;
         }
     }

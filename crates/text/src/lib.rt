@@ -1,5 +1,5 @@
-// Lines of text on an output, which is any writer. Of what is written no contract here speaks; that a function answers nothing but the error of a
-// write that failed, and for every input, it says.
+// Lines of text on an output. What is written no contract can say; that a function answers nothing but the error of a write that failed, and for
+// every input, it can.
 #![tactic(auto)]
 
 ghost use Rattle.std.specs.Prelude.{◌≡◌, ◌<◌, IfOk};
@@ -7,40 +7,39 @@ ghost use Rattle.std.specs.Prelude.{◌≡◌, ◌<◌, IfOk};
 use names::Name;
 use octets::{byte_after, byte_at, distance};
 use std::io;
-use std::io::Write;
 
 // What parts the names of several lines.
 const SPACE: usize = 0x20;
 
 // Some text.
-pub fn write(out: &mut impl Write, text: &[u8]) -> io::Result<()>
+pub fn write(out: &impl Print, text: &[u8]) -> io::Result<()>
     ensures { IfOk result (λ nothing. nothing ≡ tt) }
 {
     out.write_all(text)
 }
 
 // A number, in decimal.
-pub fn write_number(out: &mut impl Write, n: usize) -> io::Result<()>
+pub fn write_number(out: &impl Print, n: usize) -> io::Result<()>
     ensures { IfOk result (λ nothing. nothing ≡ tt) }
 {
-    write!(out, "{n}")
+    print!(out; "{n}")
 }
 
 // The last number of a line.
-fn end_line(out: &mut impl Write, n: usize) -> io::Result<()> {
-    writeln!(out, " {n}")
+fn end_line(out: &impl Print, n: usize) -> io::Result<()> {
+    println!(out; " {n}")
 }
 
 // A name, a number and a place.
-pub fn head(out: &mut impl Write, name: &[u8], number: usize, place: usize) -> io::Result<()>
+pub fn head(out: &impl Print, name: &[u8], number: usize, place: usize) -> io::Result<()>
     ensures { IfOk result (λ nothing. nothing ≡ tt) }
 {
     write(out, name)?;
-    writeln!(out, " {number} {place}")
+    println!(out; " {number} {place}")
 }
 
 // A name and a text.
-pub fn text_line(out: &mut impl Write, name: &[u8], text: &[u8]) -> io::Result<()>
+pub fn text_line(out: &impl Print, name: &[u8], text: &[u8]) -> io::Result<()>
     ensures { IfOk result (λ nothing. nothing ≡ tt) }
 {
     write(out, name)?;
@@ -50,7 +49,7 @@ pub fn text_line(out: &mut impl Write, name: &[u8], text: &[u8]) -> io::Result<(
 }
 
 // A name and a number.
-pub fn line(out: &mut impl Write, name: &[u8], n: usize) -> io::Result<()>
+pub fn line(out: &impl Print, name: &[u8], n: usize) -> io::Result<()>
     ensures { IfOk result (λ nothing. nothing ≡ tt) }
 {
     write(out, name)?;
@@ -68,7 +67,7 @@ fn name_end(names: &[u8], at: usize) -> usize {
 }
 
 // What stands between two places of a text.
-fn write_part(out: &mut impl Write, text: &[u8], from: usize, to: usize) -> io::Result<()> {
+fn write_part(out: &impl Print, text: &[u8], from: usize, to: usize) -> io::Result<()> {
     if from <= to && to <= text.len() {
         write(out, &text[from..to])?;
     }
@@ -76,7 +75,7 @@ fn write_part(out: &mut impl Write, text: &[u8], from: usize, to: usize) -> io::
 }
 
 // The name that begins at a place, and a number. It answers where the next name begins.
-fn next_line(out: &mut impl Write, names: &[u8], at: usize, n: usize) -> io::Result<usize> {
+fn next_line(out: &impl Print, names: &[u8], at: usize, n: usize) -> io::Result<usize> {
     let end = name_end(names, at);
     write_part(out, names, at, end)?;
     end_line(out, n)?;
@@ -84,7 +83,7 @@ fn next_line(out: &mut impl Write, names: &[u8], at: usize, n: usize) -> io::Res
 }
 
 // Names, with a space between each two, and as many numbers: a line for each.
-pub fn lines(out: &mut impl Write, names: &[u8], values: &[usize]) -> io::Result<()>
+pub fn lines(out: &impl Print, names: &[u8], values: &[usize]) -> io::Result<()>
     ensures { IfOk result (λ nothing. nothing ≡ tt) }
 {
     let mut at = 0;
@@ -95,7 +94,7 @@ pub fn lines(out: &mut impl Write, names: &[u8], values: &[usize]) -> io::Result
 }
 
 // A name and a signed number.
-pub fn signed_line(out: &mut impl Write, name: &[u8], z: i64) -> io::Result<()>
+pub fn signed_line(out: &impl Print, name: &[u8], z: i64) -> io::Result<()>
     ensures { IfOk result (λ nothing. nothing ≡ tt) }
 {
     write(out, name)?;
@@ -109,15 +108,15 @@ pub fn signed_line(out: &mut impl Write, name: &[u8], z: i64) -> io::Result<()>
 }
 
 // A name and 64 bits, in hexadecimal.
-pub fn bits_line(out: &mut impl Write, name: &[u8], bits: u64) -> io::Result<()>
+pub fn bits_line(out: &impl Print, name: &[u8], bits: u64) -> io::Result<()>
     ensures { IfOk result (λ nothing. nothing ≡ tt) }
 {
     write(out, name)?;
-    writeln!(out, " {bits:016x}")
+    println!(out; " {bits:016x}")
 }
 
 // A byte as text.
-fn write_byte(out: &mut impl Write, b: usize) -> io::Result<()>
+fn write_byte(out: &impl Print, b: usize) -> io::Result<()>
     requires { b < 256 }
 {
     let one = [b as u8; 1];
@@ -125,19 +124,19 @@ fn write_byte(out: &mut impl Write, b: usize) -> io::Result<()>
 }
 
 // The byte k places after another one, as text.
-fn write_at(out: &mut impl Write, f: &[u8], place: usize, k: usize) -> io::Result<()> {
+fn write_at(out: &impl Print, f: &[u8], place: usize, k: usize) -> io::Result<()> {
     let b = byte_after(f, place, k);
     write_byte(out, b)
 }
 
 // The byte k places after another one, in hexadecimal.
-fn write_hex_at(out: &mut impl Write, f: &[u8], place: usize, k: usize) -> io::Result<()> {
+fn write_hex_at(out: &impl Print, f: &[u8], place: usize, k: usize) -> io::Result<()> {
     let b = byte_after(f, place, k);
-    write!(out, "{b:02x}")
+    print!(out; "{b:02x}")
 }
 
 // An object's name in the file; a dash for one of no bytes.
-pub fn name_line(out: &mut impl Write, name: &[u8], f: &[u8], shown: Name) -> io::Result<()>
+pub fn name_line(out: &impl Print, name: &[u8], f: &[u8], shown: Name) -> io::Result<()>
     ensures { IfOk result (λ nothing. nothing ≡ tt) }
 {
     write(out, name)?;
@@ -155,7 +154,7 @@ pub fn name_line(out: &mut impl Write, name: &[u8], f: &[u8], shown: Name) -> io
 
 // A message of n bytes that stands at a place of the file, in hexadecimal; a dash for none.
 pub fn message_line(
-    out: &mut impl Write,
+    out: &impl Print,
     name: &[u8],
     f: &[u8],
     place: usize,

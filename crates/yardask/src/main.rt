@@ -7,14 +7,13 @@ ghost use Rattle.std.specs.Prelude.{◌≤◌, length, IsTrue, IfOk, IfSome};
 
 use ahead::{LIES, ROOM_LEAST, UNKNOWN};
 use decimal::number_in;
-use intake::{Unread, read_named, word_count};
 use listings::{MOST_ROOM, NO_ROOM};
 use octets::{byte_after, byte_at, u16_at};
 use route_question::Engine;
 use std::env::FillError;
-use std::io;
-use std::io::Write;
+use std::io::Read;
 use std::rt::{Env, Files};
+use std::{fs, io, str};
 
 // The questions, a line for each: the words of its command and, after two spaces or more, what it answers. Help is these lines; a question is
 // known by its word, and its number is that of its line.
@@ -97,7 +96,7 @@ const LINK: usize = 5;
 
 const LIES_WORD: usize = 6;
 
-// The longest word that is shown, that may be a question, and that may be a number.
+// The longest word that is shown or names a file, that may be a question, and that may be a number.
 const WORD_ROOM: usize = 4096;
 
 const QUESTION_ROOM: usize = 16;
@@ -118,13 +117,20 @@ const LIES_ROOM: usize = LIES + 1;
 // The character of the first lie; those of the others follow it.
 const NORMAL_CHARACTER: u8 = b'0';
 
+// Why a file is not read that a word names.
+#[derive(Clone, Copy)]
+enum Unread {
+    NotOpened,
+    NotRead,
+}
+
 // Some text on standard error.
-fn write(err: &mut impl Write, text: &[u8]) -> io::Result<()> {
+fn write(err: &impl Print, text: &[u8]) -> io::Result<()> {
     err.write_all(text)
 }
 
 // A word of the command line, in quotes.
-fn write_word(rt: &impl Env, err: &mut impl Write, i: usize) -> io::Result<()> {
+fn write_word(rt: &impl Env, err: &impl Print, i: usize) -> io::Result<()> {
     let mut word = [0u8; WORD_ROOM];
     let n = rt.arg(i, &mut word).unwrap_or(0);
     write(err, b" '")?;
@@ -133,19 +139,19 @@ fn write_word(rt: &impl Env, err: &mut impl Write, i: usize) -> io::Result<()> {
 }
 
 // Begins the line that says what is wrong, with which word.
-fn begin_wrong(rt: &impl Env, err: &mut impl Write, why: &[u8], i: usize) -> io::Result<()> {
+fn begin_wrong(rt: &impl Env, err: &impl Print, why: &[u8], i: usize) -> io::Result<()> {
     write(err, b"yardask: ")?;
     write(err, why)?;
     write_word(rt, err, i)
 }
 
 // Ends it with how to ask for help.
-fn end_wrong(err: &mut impl Write) -> io::Result<()> {
+fn end_wrong(err: &impl Print) -> io::Result<()> {
     write(err, b"; yardask help lists the questions\n")
 }
 
 // Says what is wrong, with which word.
-fn wrong(rt: &impl Env, err: &mut impl Write, why: &[u8], i: usize) -> io::Result<()> {
+fn wrong(rt: &impl Env, err: &impl Print, why: &[u8], i: usize) -> io::Result<()> {
     begin_wrong(rt, err, why, i)?;
     end_wrong(err)
 }
@@ -221,6 +227,16 @@ fn is_help(word: &[u8]) -> bool {
     is_word_at(b"help ", 0, word) || is_word_at(b"--help ", 0, word)
 }
 
+// How many words the command has, the program's own name being the first of them.
+fn word_count(rt: &impl Env) -> usize {
+    for i in 0..usize::MAX {
+        if let Err(FillError::NotPresent) = rt.arg(i, &mut []) {
+            return i;
+        }
+    }
+    usize::MAX
+}
+
 // How many words follow the program's own name.
 fn words_given(rt: &impl Env) -> usize {
     let n = word_count(rt);
@@ -245,7 +261,7 @@ fn question(rt: &impl Env, table: &[u8]) -> usize {
 }
 
 // Writes what stands between two places of the table.
-fn write_part(err: &mut impl Write, table: &[u8], from: usize, to: usize) -> io::Result<()> {
+fn write_part(err: &impl Print, table: &[u8], from: usize, to: usize) -> io::Result<()> {
     if from <= to && to <= table.len() {
         write(err, &table[from..to])?;
     }
@@ -255,7 +271,7 @@ fn write_part(err: &mut impl Write, table: &[u8], from: usize, to: usize) -> io:
 // Says that the command has too few or too many words, and how the question is asked.
 fn wrong_count(
     rt: &impl Env,
-    err: &mut impl Write,
+    err: &impl Print,
     table: &[u8],
     from: usize,
     to: usize,
@@ -272,12 +288,7 @@ fn wrong_count(
 }
 
 // Whether the command has as many words as its question takes; it is said where it has not.
-fn is_counted(
-    rt: &impl Env,
-    err: &mut impl Write,
-    table: &[u8],
-    question: usize,
-) -> io::Result<bool> {
+fn is_counted(rt: &impl Env, err: &impl Print, table: &[u8], question: usize) -> io::Result<bool> {
     let from = line_of(table, question);
     let to = form_end(table, from);
     let following = words_after(table, from, to);
@@ -299,7 +310,7 @@ fn number_at(rt: &impl Env, i: usize) -> usize {
 }
 
 // The same; it is said where the word is no number.
-fn number(rt: &impl Env, err: &mut impl Write, i: usize) -> io::Result<usize> {
+fn number(rt: &impl Env, err: &impl Print, i: usize) -> io::Result<usize> {
     let n = number_at(rt, i);
     if NO_NUMBER <= n {
         wrong(rt, err, b"no number below 4294967296:", i)?;
@@ -307,10 +318,52 @@ fn number(rt: &impl Env, err: &mut impl Write, i: usize) -> io::Result<usize> {
     Ok(n)
 }
 
+// Opens the file that a word names.
+fn opened<R: Env + Files>(rt: &R, i: usize) -> Option<R::File> {
+    let mut word = [0u8; WORD_ROOM];
+    let n = rt.arg(i, &mut word).ok()?;
+    let path = str::from_utf8(&word[..n]).ok()?;
+    fs::open(rt, path).ok()
+}
+
+// Whether a file can be read further or has ended, and reading it does not fail.
+fn reads_on(file: &mut impl Read) -> bool {
+    let mut next = [0u8; 1];
+    file.read(&mut next).is_ok()
+}
+
+// Reads until the room is full or the input ends. It answers how many bytes then stand at the front of the room.
+fn read_full(input: &mut impl Read, room: &mut [u8]) -> io::Result<usize>
+    ensures { IfOk result (λ n. n ≤ length room.new) }
+{
+    let mut got = 0;
+    while got < room.len() {
+        let n = input.read(&mut room[got..])?;
+        if n == 0 {
+            break;
+        }
+        got += n;
+    }
+    Ok(got)
+}
+
+// Reads the file that a word names, as far as there is room.
+fn read_named<R: Env + Files>(rt: &R, i: usize, room: &mut [u8]) -> Result<usize, Unread>
+    ensures { IfOk result (λ n. n ≤ length room.new) }
+{
+    let Some(mut file) = opened(rt, i) else {
+        return Err(Unread::NotOpened);
+    };
+    match read_full(&mut file, room) {
+        Ok(n) if reads_on(&mut file) => Ok(n),
+        _ => Err(Unread::NotRead),
+    }
+}
+
 // Reads the file that a word names, as far as there is room, and says it where it cannot be read.
 fn read_file<R: Env + Files>(
     rt: &R,
-    err: &mut impl Write,
+    err: &impl Print,
     i: usize,
     room: &mut [u8],
 ) -> io::Result<Option<usize>>
@@ -348,7 +401,7 @@ fn are_in_word(rt: &impl Env, i: usize, room: &mut [u8]) -> bool
 // Reads the lies, from a word or from the file that it names, as far as there is room, and says it where it is neither.
 fn read_lies<R: Env + Files>(
     rt: &R,
-    err: &mut impl Write,
+    err: &impl Print,
     i: usize,
     room: &mut [u8],
 ) -> io::Result<Option<usize>>
@@ -370,7 +423,7 @@ fn read_lies<R: Env + Files>(
 }
 
 // Answers a question about one file.
-fn answer(out: &mut impl Write, question: usize, f: &[u8], a: usize, b: usize) -> io::Result<()> {
+fn answer(out: &impl Print, question: usize, f: &[u8], a: usize, b: usize) -> io::Result<()> {
     if question == X1 {
         answers::x1(out, f)?;
     } else if question == X1_VERSION_1 {
@@ -398,10 +451,9 @@ fn answer(out: &mut impl Write, question: usize, f: &[u8], a: usize, b: usize) -
 }
 
 // The same, about the file that the command line names.
-fn ask<R: Env + Files>(
+fn ask<R: Env + Files + Print>(
     rt: &R,
-    out: &mut impl Write,
-    err: &mut impl Write,
+    err: &impl Print,
     question: usize,
     a: usize,
     b: usize,
@@ -410,14 +462,13 @@ fn ask<R: Env + Files>(
     let Some(n) = read_file(rt, err, FIRST, &mut room)? else {
         return Ok(());
     };
-    answer(out, question, &room[..n], a, b)
+    answer(rt, question, &room[..n], a, b)
 }
 
 // The same, once its numbers are numbers.
-fn ask_with_numbers<R: Env + Files>(
+fn ask_with_numbers<R: Env + Files + Print>(
     rt: &R,
-    out: &mut impl Write,
-    err: &mut impl Write,
+    err: &impl Print,
     question: usize,
 ) -> io::Result<()> {
     let a = number(rt, err, NUMBER)?;
@@ -428,14 +479,13 @@ fn ask_with_numbers<R: Env + Files>(
     if NO_NUMBER <= b {
         return Ok(());
     }
-    ask(rt, out, err, question, a, b)
+    ask(rt, err, question, a, b)
 }
 
 // Answers the question ahead about a pair of files, by the lies of the command line.
-fn look_ahead<R: Env + Files>(
+fn look_ahead<R: Env + Files + Print>(
     rt: &R,
-    out: &mut impl Write,
-    err: &mut impl Write,
+    err: &impl Print,
     first: &[u8],
     second: &[u8],
     offset: usize,
@@ -443,16 +493,15 @@ fn look_ahead<R: Env + Files>(
 ) -> io::Result<()> {
     let mut lies = [0u8; LIES_ROOM];
     if let Some(n) = read_lies(rt, err, LIES_WORD, &mut lies)? {
-        answers::ahead(out, first, second, offset, link, &lies[..n], ROOM_LEAST)?;
+        answers::ahead(rt, first, second, offset, link, &lies[..n], ROOM_LEAST)?;
     }
     Ok(())
 }
 
 // Answers a question about a pair of files.
-fn answer_pair<R: Env + Files>(
+fn answer_pair<R: Env + Files + Print>(
     rt: &R,
-    out: &mut impl Write,
-    err: &mut impl Write,
+    err: &impl Print,
     question: usize,
     first: &[u8],
     second: &[u8],
@@ -460,18 +509,17 @@ fn answer_pair<R: Env + Files>(
     link: usize,
 ) -> io::Result<()> {
     if question == PAIR {
-        answers::pair(out, first, second)?;
+        answers::pair(rt, first, second)?;
         Ok(())
     } else {
-        look_ahead(rt, out, err, first, second, offset, link)
+        look_ahead(rt, err, first, second, offset, link)
     }
 }
 
 // The same, about the files that the command line names.
-fn ask_pair<R: Env + Files>(
+fn ask_pair<R: Env + Files + Print>(
     rt: &R,
-    out: &mut impl Write,
-    err: &mut impl Write,
+    err: &impl Print,
     question: usize,
     offset: usize,
     link: usize,
@@ -484,23 +532,13 @@ fn ask_pair<R: Env + Files>(
     let Some(m) = read_file(rt, err, SECOND, &mut second)? else {
         return Ok(());
     };
-    answer_pair(
-        rt,
-        out,
-        err,
-        question,
-        &first[..n],
-        &second[..m],
-        offset,
-        link,
-    )
+    answer_pair(rt, err, question, &first[..n], &second[..m], offset, link)
 }
 
 // The same, once its numbers are numbers.
-fn ask_pair_with_numbers<R: Env + Files>(
+fn ask_pair_with_numbers<R: Env + Files + Print>(
     rt: &R,
-    out: &mut impl Write,
-    err: &mut impl Write,
+    err: &impl Print,
     question: usize,
 ) -> io::Result<()> {
     let offset = number(rt, err, OFFSET)?;
@@ -511,13 +549,13 @@ fn ask_pair_with_numbers<R: Env + Files>(
     if NO_NUMBER <= link {
         return Ok(());
     }
-    ask_pair(rt, out, err, question, offset, link)
+    ask_pair(rt, err, question, offset, link)
 }
 
 // Answers the question routes, by an engine, and says it where the list would fit the words that are asked for and not those that are here.
 fn answer_routes(
-    out: &mut impl Write,
-    err: &mut impl Write,
+    out: &impl Print,
+    err: &impl Print,
     engine: Engine,
     f: &[u8],
     start: usize,
@@ -536,10 +574,9 @@ fn answer_routes(
 }
 
 // The same, about the file that the command line names.
-fn list_routes<R: Env + Files>(
+fn list_routes<R: Env + Files + Print>(
     rt: &R,
-    out: &mut impl Write,
-    err: &mut impl Write,
+    err: &impl Print,
     engine: Engine,
     start: usize,
     limit: usize,
@@ -550,14 +587,13 @@ fn list_routes<R: Env + Files>(
     let Some(n) = read_file(rt, err, FIRST, &mut room)? else {
         return Ok(());
     };
-    answer_routes(out, err, engine, &room[..n], start, limit, budget, words)
+    answer_routes(rt, err, engine, &room[..n], start, limit, budget, words)
 }
 
 // The same, once the last two of its numbers are numbers.
-fn ask_within<R: Env + Files>(
+fn ask_within<R: Env + Files + Print>(
     rt: &R,
-    out: &mut impl Write,
-    err: &mut impl Write,
+    err: &impl Print,
     engine: Engine,
     start: usize,
     limit: usize,
@@ -570,16 +606,11 @@ fn ask_within<R: Env + Files>(
     if NO_NUMBER <= words {
         return Ok(());
     }
-    list_routes(rt, out, err, engine, start, limit, budget, words)
+    list_routes(rt, err, engine, start, limit, budget, words)
 }
 
 // The same, once the first two of its numbers are numbers.
-fn ask_routes<R: Env + Files>(
-    rt: &R,
-    out: &mut impl Write,
-    err: &mut impl Write,
-    engine: Engine,
-) -> io::Result<()> {
+fn ask_routes<R: Env + Files + Print>(rt: &R, err: &impl Print, engine: Engine) -> io::Result<()> {
     let start = number(rt, err, NUMBER)?;
     if NO_NUMBER <= start {
         return Ok(());
@@ -588,47 +619,37 @@ fn ask_routes<R: Env + Files>(
     if NO_NUMBER <= limit {
         return Ok(());
     }
-    ask_within(rt, out, err, engine, start, limit)
+    ask_within(rt, err, engine, start, limit)
 }
 
 // Answers a question whose command has the words that it takes.
-fn ask_question<R: Env + Files>(
-    rt: &R,
-    out: &mut impl Write,
-    err: &mut impl Write,
-    asked: usize,
-) -> io::Result<()> {
+fn ask_question<R: Env + Files + Print>(rt: &R, err: &impl Print, asked: usize) -> io::Result<()> {
     if asked == PAIR || asked == AHEAD {
-        ask_pair_with_numbers(rt, out, err, asked)
+        ask_pair_with_numbers(rt, err, asked)
     } else if asked == ROUTES {
-        ask_routes(rt, out, err, Engine::First)
+        ask_routes(rt, err, Engine::First)
     } else if asked == ROUTES2 {
-        ask_routes(rt, out, err, Engine::Second)
+        ask_routes(rt, err, Engine::Second)
     } else {
-        ask_with_numbers(rt, out, err, asked)
+        ask_with_numbers(rt, err, asked)
     }
 }
 
 // Answers the command, by the table of questions.
-fn command<R: Env + Files>(
-    rt: &R,
-    out: &mut impl Write,
-    err: &mut impl Write,
-    table: &[u8],
-) -> io::Result<()> {
+fn command<R: Env + Files + Print>(rt: &R, err: &impl Print, table: &[u8]) -> io::Result<()> {
     let asked = question(rt, table);
     if asked == HELP {
-        return out.write_all(table);
+        return rt.write_all(table);
     }
     if asked == NO_QUESTION {
         return wrong(rt, err, b"unknown question", QUESTION);
     }
     if is_counted(rt, err, table, asked)? {
-        ask_question(rt, out, err, asked)?;
+        ask_question(rt, err, asked)?;
     }
     Ok(())
 }
 
 fn main(rt: HostRuntime) -> io::Result<()> {
-    command(&rt, &mut rt.stdout(), &mut rt.stderr(), &QUESTIONS)
+    command(&rt, &rt.stderr(), &QUESTIONS)
 }

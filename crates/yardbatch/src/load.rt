@@ -3,11 +3,12 @@
 // since it may be longer than a file. The room is filled before the first call, and nothing is opened then.
 ghost use Rattle.std.specs.Prelude.{◌≤◌, ◌<◌, ◌≡◌, length, IfOk};
 
-use crate::{FIRST_LENGTH, NUMBER, NUMBERS, SECOND_LENGTH, passed_over, stop, stop_inside};
-use intake::read_full;
+use crate::{
+    FIRST_LENGTH, NUMBER, NUMBERS, SECOND_LENGTH, passed_over, read_full, stop, stop_inside,
+};
 use octets::{byte_at, least, u32_at};
 use std::io;
-use std::io::{Read, Write};
+use std::io::Read;
 use text::{line, write_number};
 use transfer::finishing::finish;
 use transfer::opening::{nothing_opened, opening};
@@ -96,14 +97,14 @@ fn called(state: State, call: usize, bytes: &[u8], room: &mut [u8]) -> Step {
 }
 
 // The number and the place of an answer, on a line.
-fn answer_line(out: &mut impl Write, verdict: Verdict) -> io::Result<()> {
+fn answer_line(out: &impl Print, verdict: Verdict) -> io::Result<()> {
     write_number(out, verdict.number())?;
     line(out, b"", verdict.place())
 }
 
 // Makes a call that is lent so much of the room, or all of it where that is less, and prints its answer. It answers the state after it.
 fn call_answered(
-    out: &mut impl Write,
+    out: &impl Print,
     state: State,
     call: usize,
     lent: usize,
@@ -120,7 +121,7 @@ fn call_answered(
 // ---- the calls of a case
 
 // Says that a case ends inside a call, as `stop` does.
-fn stop_inside_call(err: &mut impl Write) -> io::Result<bool> {
+fn stop_inside_call(err: &impl Print) -> io::Result<bool> {
     stop(err, b"yardbatch: the calls of a case end inside a call\n")
 }
 
@@ -138,8 +139,8 @@ fn stopped(state: State, said: bool) -> Loaded
 // Reads the bytes of the call that begins with a head, and answers it. So many bytes of the calls are left after it.
 fn call_with(
     input: &mut impl Read,
-    out: &mut impl Write,
-    err: &mut impl Write,
+    out: &impl Print,
+    err: &impl Print,
     state: State,
     head: &[u8],
     left: usize,
@@ -172,8 +173,8 @@ fn call_with(
 // The same, where so many bytes of the calls are left after the head.
 fn call_of(
     input: &mut impl Read,
-    out: &mut impl Write,
-    err: &mut impl Write,
+    out: &impl Print,
+    err: &impl Print,
     state: State,
     head: &[u8],
     left: usize,
@@ -207,8 +208,8 @@ fn call_of(
 // Reads and answers the next call, where some bytes of the calls are left.
 fn next_call(
     input: &mut impl Read,
-    out: &mut impl Write,
-    err: &mut impl Write,
+    out: &impl Print,
+    err: &impl Print,
     state: State,
     left: usize,
     bytes: &mut [u8],
@@ -230,8 +231,8 @@ fn next_call(
 // Reads and answers the calls of a case, of n bytes.
 fn calls_answered(
     input: &mut impl Read,
-    out: &mut impl Write,
-    err: &mut impl Write,
+    out: &impl Print,
+    err: &impl Print,
     n: usize,
     bytes: &mut [u8],
     room: &mut [u8],
@@ -250,7 +251,7 @@ fn calls_answered(
 // ---- a case
 
 // What is printed after the calls: the next byte due, the checksum of the room, and the empty line that ends a case.
-fn end_lines(out: &mut impl Write, state: State, room: &[u8]) -> io::Result<()> {
+fn end_lines(out: &impl Print, state: State, room: &[u8]) -> io::Result<()> {
     line(out, b"due", state.due)?;
     line(out, b"room", checksum::of(room))?;
     out.write_all(b"\n")
@@ -259,8 +260,8 @@ fn end_lines(out: &mut impl Write, state: State, room: &[u8]) -> io::Result<()> 
 // Answers a case, with room for the bytes of a call and for the file. It answers whether there may be a next case.
 fn case_in(
     input: &mut impl Read,
-    out: &mut impl Write,
-    err: &mut impl Write,
+    out: &impl Print,
+    err: &impl Print,
     head: &[u8],
     bytes: &mut [u8],
     room: &mut [u8],
@@ -279,8 +280,8 @@ fn case_in(
 // Answers the case of load that begins with a head. It answers whether there may be a next case.
 pub fn case_of(
     input: &mut impl Read,
-    out: &mut impl Write,
-    err: &mut impl Write,
+    out: &impl Print,
+    err: &impl Print,
     head: &[u8],
 ) -> io::Result<bool> {
     let size = u32_at(head, NUMBERS);

@@ -10,15 +10,14 @@
 // more, is a line on standard error and ends the run.
 #![tactic(auto)]
 
-ghost use Rattle.std.specs.Prelude.{◌≤◌};
+ghost use Rattle.std.specs.Prelude.{◌≤◌, length, IfOk};
 
 use ahead::LIES;
-use intake::read_full;
 use listings::{MOST_ROOM, NO_ROOM};
 use octets::{byte_at, least, u32_at};
 use route_question::Engine;
 use std::io;
-use std::io::{Read, Write};
+use std::io::Read;
 
 mod load;
 
@@ -78,14 +77,29 @@ const LIES_ROOM: usize = LIES + 1;
 const PART: usize = 4096;
 
 // Says why the run ends. It answers false: there is no next case.
-fn stop(err: &mut impl Write, why: &[u8]) -> io::Result<bool> {
+fn stop(err: &impl Print, why: &[u8]) -> io::Result<bool> {
     err.write_all(why)?;
     Ok(false)
 }
 
 // The same, where the input ends too early.
-fn stop_inside(err: &mut impl Write) -> io::Result<bool> {
+fn stop_inside(err: &impl Print) -> io::Result<bool> {
     stop(err, b"yardbatch: the input ends inside a case\n")
+}
+
+// Reads until the room is full or the input ends. It answers how many bytes then stand at the front of the room.
+fn read_full(input: &mut impl Read, room: &mut [u8]) -> io::Result<usize>
+    ensures { IfOk result (λ n. n ≤ length room.new) }
+{
+    let mut got = 0;
+    while got < room.len() {
+        let n = input.read(&mut room[got..])?;
+        if n == 0 {
+            break;
+        }
+        got += n;
+    }
+    Ok(got)
 }
 
 // Passes over n bytes of the input, no more than a part. It answers whether they were there.
@@ -125,7 +139,7 @@ fn read_file(input: &mut impl Read, room: &mut [u8], n: usize) -> io::Result<boo
 
 // The list of routes of a case that lends as many words, by an engine. It answers the number of the answer.
 fn listed(
-    out: &mut impl Write,
+    out: &impl Print,
     engine: Engine,
     head: &[u8],
     f: &[u8],
@@ -139,8 +153,8 @@ fn listed(
 
 // Answers the question routes, by an engine. It answers whether it could.
 fn routes_answered(
-    out: &mut impl Write,
-    err: &mut impl Write,
+    out: &impl Print,
+    err: &impl Print,
     engine: Engine,
     head: &[u8],
     f: &[u8],
@@ -158,7 +172,7 @@ fn routes_answered(
 
 // Answers a question about a whole file or a pair, and says whether it is one.
 fn file_answered(
-    out: &mut impl Write,
+    out: &impl Print,
     question: usize,
     first: &[u8],
     second: &[u8],
@@ -191,12 +205,7 @@ fn file_answered(
 }
 
 // Answers a question about what a file holds, by its numbers, and says whether it is one.
-fn part_answered(
-    out: &mut impl Write,
-    question: usize,
-    head: &[u8],
-    first: &[u8],
-) -> io::Result<bool> {
+fn part_answered(out: &impl Print, question: usize, head: &[u8], first: &[u8]) -> io::Result<bool> {
     let a = u32_at(head, NUMBERS);
     let b = u32_at(head, NUMBERS + NUMBER);
     if question == TRACK {
@@ -228,7 +237,7 @@ fn part_answered(
 
 // Answers the question ahead.
 fn ahead_answered(
-    out: &mut impl Write,
+    out: &impl Print,
     head: &[u8],
     first: &[u8],
     second: &[u8],
@@ -243,8 +252,8 @@ fn ahead_answered(
 
 // Answers the question of a case. It answers whether it could.
 fn answered(
-    out: &mut impl Write,
-    err: &mut impl Write,
+    out: &impl Print,
+    err: &impl Print,
     head: &[u8],
     first: &[u8],
     second: &[u8],
@@ -273,8 +282,8 @@ fn answered(
 // Reads the files and the lies of a case, of n, m and k bytes, and answers it. It answers whether there may be a next case.
 fn case_in(
     input: &mut impl Read,
-    out: &mut impl Write,
-    err: &mut impl Write,
+    out: &impl Print,
+    err: &impl Print,
     head: &[u8],
     first: &mut [u8],
     n: usize,
@@ -302,8 +311,8 @@ fn case_in(
 // The same, with room for the two files and the lies, where the second file has m bytes and there are k lies.
 fn case_with(
     input: &mut impl Read,
-    out: &mut impl Write,
-    err: &mut impl Write,
+    out: &impl Print,
+    err: &impl Print,
     head: &[u8],
     m: usize,
     k: usize,
@@ -340,8 +349,8 @@ fn lies_of(head: &[u8]) -> usize {
 // Answers the case that begins with a head. It answers whether there may be a next case.
 fn case_of(
     input: &mut impl Read,
-    out: &mut impl Write,
-    err: &mut impl Write,
+    out: &impl Print,
+    err: &impl Print,
     head: &[u8],
 ) -> io::Result<bool> {
     if byte_at(head, 0) == LOAD {
@@ -356,11 +365,7 @@ fn case_of(
 }
 
 // Reads and answers a case. It answers whether there may be a next one.
-fn next_case(
-    input: &mut impl Read,
-    out: &mut impl Write,
-    err: &mut impl Write,
-) -> io::Result<bool> {
+fn next_case(input: &mut impl Read, out: &impl Print, err: &impl Print) -> io::Result<bool> {
     let mut head = [0u8; HEAD];
     let got = read_full(input, &mut head)?;
     if got == 0 {
@@ -374,9 +379,9 @@ fn next_case(
 
 // A proved loop has to end, and nothing says that the input does: it stops after as many cases as no run has.
 fn main(rt: HostRuntime) -> io::Result<()> {
-    let (mut input, mut out, mut err) = (rt.stdin(), rt.stdout(), rt.stderr());
+    let mut input = rt.stdin();
     for _ in 0..u64::MAX {
-        if !next_case(&mut input, &mut out, &mut err)? {
+        if !next_case(&mut input, &rt, &rt.stderr())? {
             break;
         }
     }

@@ -4,15 +4,15 @@
 // off is handed on as it came, and an input that ends inside a length is a piece of no bytes: the loader refuses both.
 #![tactic(auto)]
 
-ghost use Rattle.std.specs.Prelude.{◌≡◌, length};
+ghost use Rattle.std.specs.Prelude.{◌≡◌, ◌≤◌, length, IfOk};
 
 use decimal::number_in;
-use intake::{read_full, word_count};
 use loading::refusals::{finishing_refused, opening_refused, piece_refused};
 use loading::said::{say, say_number, wrong, wrong_word};
 use octets::{least, less, u32_at};
+use std::env::FillError;
 use std::io;
-use std::io::{Read, Write};
+use std::io::Read;
 use std::rt::Env;
 use transfer::opening::nothing_opened;
 use transfer::{Identity, State};
@@ -78,7 +78,7 @@ fn piece_room() -> [u8; PIECE_ROOM]
 // ---- standard error
 
 // A piece that is longer than there is room for.
-fn long_line(err: &mut impl Write, number: usize, n: usize) -> io::Result<()> {
+fn long_line(err: &impl Print, number: usize, n: usize) -> io::Result<()> {
     say(err, b"piece ")?;
     say_number(err, number)?;
     say(err, b" has ")?;
@@ -87,7 +87,7 @@ fn long_line(err: &mut impl Write, number: usize, n: usize) -> io::Result<()> {
 }
 
 // What became of the file, as the end of a line.
-fn say_end(err: &mut impl Write, end: End) -> io::Result<()> {
+fn say_end(err: &impl Print, end: End) -> io::Result<()> {
     match end {
         End::Printed => say(err, b", file printed\n"),
         End::PrintedInPart => say(err, b", file not printed whole\n"),
@@ -97,7 +97,7 @@ fn say_end(err: &mut impl Write, end: End) -> io::Result<()> {
 
 // The last line: how many pieces were taken, how many bytes have come, and what became of the file.
 fn end_line(
-    err: &mut impl Write,
+    err: &impl Print,
     taken: usize,
     pieces: usize,
     due: usize,
@@ -117,6 +117,21 @@ fn end_line(
 }
 
 // ---- pieces
+
+// Reads until the room is full or the input ends. It answers how many bytes then stand at the front of the room.
+fn read_full(input: &mut impl Read, room: &mut [u8]) -> io::Result<usize>
+    ensures { IfOk result (λ n. n ≤ length room.new) }
+{
+    let mut got = 0;
+    while got < room.len() {
+        let n = input.read(&mut room[got..])?;
+        if n == 0 {
+            break;
+        }
+        got += n;
+    }
+    Ok(got)
+}
 
 // The run with one piece more, which is refused or cannot be held; of that so many bytes are to be passed over.
 fn not_taken(run: Run, left: usize) -> Run {
@@ -142,7 +157,7 @@ fn taken(run: Run, state: State) -> Run {
 }
 
 // Hands a piece to the loader. It is said where it is refused.
-fn handed(err: &mut impl Write, run: Run, piece: &[u8], room: &mut [u8]) -> io::Result<Run> {
+fn handed(err: &impl Print, run: Run, piece: &[u8], room: &mut [u8]) -> io::Result<Run> {
     let step = transfer::pieces::piece(run.state, piece, room);
     let verdict = step.verdict;
     match verdict {
@@ -155,7 +170,7 @@ fn handed(err: &mut impl Write, run: Run, piece: &[u8], room: &mut [u8]) -> io::
 }
 
 // Says that a piece of n bytes cannot be held.
-fn not_held(err: &mut impl Write, run: Run, n: usize) -> io::Result<Run> {
+fn not_held(err: &impl Print, run: Run, n: usize) -> io::Result<Run> {
     long_line(err, run.pieces.wrapping_add(1), n)?;
     Ok(not_taken(run, n))
 }
@@ -189,7 +204,7 @@ fn ended(run: Run) -> Run {
 // Reads a piece that has just the room that it takes, as far as the input has it, and hands it on.
 fn read_piece(
     input: &mut impl Read,
-    err: &mut impl Write,
+    err: &impl Print,
     run: Run,
     piece: &mut [u8],
     room: &mut [u8],
@@ -201,7 +216,7 @@ fn read_piece(
 // Reads the next piece, with its length, or passes over more of the one before it.
 fn next(
     input: &mut impl Read,
-    err: &mut impl Write,
+    err: &impl Print,
     run: Run,
     piece: &mut [u8],
     room: &mut [u8],
@@ -227,7 +242,7 @@ fn next(
 // Hands on every piece of the input. A proved loop has to end, and nothing says that the input does: it stops after as many pieces as no run has.
 fn gathered(
     input: &mut impl Read,
-    err: &mut impl Write,
+    err: &impl Print,
     state: State,
     piece: &mut [u8],
     room: &mut [u8],
@@ -251,12 +266,7 @@ fn gathered(
 // ---- the file
 
 // Prints the file where finishing is accepted. It is said where it is refused.
-fn printed(
-    out: &mut impl Write,
-    err: &mut impl Write,
-    state: State,
-    room: &[u8],
-) -> io::Result<End> {
+fn printed(out: &impl Print, err: &impl Print, state: State, room: &[u8]) -> io::Result<End> {
     let verdict = transfer::finishing::finish(state, room);
     let identity = state.identity;
     let total = identity.total;
@@ -278,8 +288,8 @@ fn printed(
 // Loads the file of a transfer that is opened.
 fn load(
     input: &mut impl Read,
-    out: &mut impl Write,
-    err: &mut impl Write,
+    out: &impl Print,
+    err: &impl Print,
     state: State,
     room: &mut [u8],
 ) -> io::Result<()> {
@@ -294,8 +304,8 @@ fn load(
 // Opens a transfer and loads its file. It is said where the opening is refused, and then nothing is read.
 fn opened(
     input: &mut impl Read,
-    out: &mut impl Write,
-    err: &mut impl Write,
+    out: &impl Print,
+    err: &impl Print,
     identity: Identity,
 ) -> io::Result<()> {
     let mut room = [0u8; FILE_ROOM];
@@ -312,8 +322,18 @@ fn opened(
 
 // ---- the command
 
+// How many words the command has, the program's own name being the first of them.
+fn word_count(rt: &impl Env) -> usize {
+    for i in 0..usize::MAX {
+        if let Err(FillError::NotPresent) = rt.arg(i, &mut []) {
+            return i;
+        }
+    }
+    usize::MAX
+}
+
 // The number that a word of the command is. It is said where it is none.
-fn number(rt: &impl Env, err: &mut impl Write, i: usize) -> io::Result<usize> {
+fn number(rt: &impl Env, err: &impl Print, i: usize) -> io::Result<usize> {
     let mut word = [0u8; NUMBER_ROOM];
     if let Ok(n) = rt.arg(i, &mut word) {
         let found = number_in(&word[..n], NUMBER_MOST);
@@ -335,23 +355,23 @@ fn is_given(i: Identity) -> bool {
 }
 
 fn main(rt: HostRuntime) -> io::Result<()> {
-    let (mut input, mut out, mut err) = (rt.stdin(), rt.stdout(), rt.stderr());
+    let err = rt.stderr();
     if word_count(&rt) != WORDS {
         return wrong(
-            &mut err,
+            &err,
             &NAME,
             b"too few or too many words; it is asked by yardload STATION TYPE VERSION TOTAL TRAILER <PIECES",
         );
     }
     let identity = Identity {
-        station: number(&rt, &mut err, STATION)?,
-        kind: number(&rt, &mut err, KIND)?,
-        version: number(&rt, &mut err, VERSION)?,
-        total: number(&rt, &mut err, TOTAL)?,
-        trailer: number(&rt, &mut err, TRAILER)?,
+        station: number(&rt, &err, STATION)?,
+        kind: number(&rt, &err, KIND)?,
+        version: number(&rt, &err, VERSION)?,
+        total: number(&rt, &err, TOTAL)?,
+        trailer: number(&rt, &err, TRAILER)?,
     };
     if is_given(identity) {
-        opened(&mut input, &mut out, &mut err, identity)?;
+        opened(&mut rt.stdin(), &rt, &err, identity)?;
     }
     Ok(())
 }

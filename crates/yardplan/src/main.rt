@@ -7,16 +7,16 @@ ghost use Rattle.std.specs.Prelude.{◌≡◌, ◌≤◌, length, IfOk, IfSome, 
 ghost use Rattle.plan_reading.specs.ReadPlan.{plan_read, named_by, named_in};
 
 use decimal::number_in;
-use intake::{Unread, read_named, word_count};
 use octets::{byte_at, least, less};
 use plan_lines::{Slip, length_before};
 use plan_question::{Compared, MOST_ROOM, PlanAnswer};
 use plan_reading::{NO_START, Reading, Said, take};
 use plan_routes::{is_apart, route_end};
 use route_question::Engine;
-use std::io;
-use std::io::Write;
+use std::env::FillError;
+use std::io::Read;
 use std::rt::{Env, Files};
+use std::{fs, io, str};
 use text::{head, line, write, write_number};
 use verdict::Fault;
 
@@ -46,7 +46,7 @@ const BUDGET_LEFT_OUT: usize = 65535;
 
 const ROOM_LEFT_OUT: usize = 65535;
 
-// The longest word of the command that is shown.
+// The longest word that is shown, and that may name a file.
 const WORD_ROOM: usize = 4096;
 
 // A number of the command is at most this; the longest word that may be one; and what stands for a word that is none.
@@ -81,19 +81,19 @@ struct Question {
 // ---- standard error
 
 // Some text.
-fn say(err: &mut impl Write, text: &[u8]) -> io::Result<()> {
+fn say(err: &impl Print, text: &[u8]) -> io::Result<()> {
     err.write_all(text)
 }
 
 // What is wrong with the command.
-fn wrong(err: &mut impl Write, why: &[u8]) -> io::Result<()> {
+fn wrong(err: &impl Print, why: &[u8]) -> io::Result<()> {
     say(err, b"yardplan: ")?;
     say(err, why)?;
     say(err, b"\n")
 }
 
 // What is wrong with a word of it.
-fn wrong_word(rt: &impl Env, err: &mut impl Write, why: &[u8], i: usize) -> io::Result<()> {
+fn wrong_word(rt: &impl Env, err: &impl Print, why: &[u8], i: usize) -> io::Result<()> {
     let mut word = [0u8; WORD_ROOM];
     let n = rt.arg(i, &mut word).unwrap_or(0);
     say(err, b"yardplan: ")?;
@@ -104,14 +104,14 @@ fn wrong_word(rt: &impl Env, err: &mut impl Write, why: &[u8], i: usize) -> io::
 }
 
 // What is wrong with a line of the plan.
-fn wrong_line(err: &mut impl Write, number: usize, why: &[u8]) -> io::Result<()> {
-    write!(err, "yardplan: line {number} of the plan: ")?;
+fn wrong_line(err: &impl Print, number: usize, why: &[u8]) -> io::Result<()> {
+    print!(err; "yardplan: line {number} of the plan: ")?;
     say(err, why)?;
     say(err, b"\n")
 }
 
 // The same, by what it is.
-fn slip_line(err: &mut impl Write, number: usize, slip: Slip) -> io::Result<()> {
+fn slip_line(err: &impl Print, number: usize, slip: Slip) -> io::Result<()> {
     match slip {
         Slip::From => wrong_line(err, number, b"'from' takes one offset from 0 to 65535"),
         Slip::Word => wrong_line(err, number, b"a word is no offset from 0 to 65535"),
@@ -130,12 +130,7 @@ fn slip_line(err: &mut impl Write, number: usize, slip: Slip) -> io::Result<()> 
 // ---- the plan
 
 // Names the start that a line names, or says what is wrong with the line.
-fn tell(
-    err: &mut impl Write,
-    number: usize,
-    said: Said,
-    named: &mut [bool; STARTS],
-) -> io::Result<()>
+fn tell(err: &impl Print, number: usize, said: Said, named: &mut [bool; STARTS]) -> io::Result<()>
     ensures { named.new ≡ named_by said named.old }
 {
     match said {
@@ -149,7 +144,7 @@ fn tell(
 
 // Reads a plan: its routes go to the front of `plan`, and its starts are named. It answers how many words the routes take.
 fn read_plan(
-    err: &mut impl Write,
+    err: &impl Print,
     text: &[u8],
     plan: &mut [u16],
     named: &mut [bool; STARTS],
@@ -180,7 +175,7 @@ fn read_plan(
 // ---- standard output
 
 // A route after its word, on a line.
-fn route_line(out: &mut impl Write, name: &[u8], route: &[u16]) -> io::Result<()> {
+fn route_line(out: &impl Print, name: &[u8], route: &[u16]) -> io::Result<()> {
     write(out, name)?;
     for offset in route {
         write(out, b" ")?;
@@ -191,7 +186,7 @@ fn route_line(out: &mut impl Write, name: &[u8], route: &[u16]) -> io::Result<()
 
 // Of the routes in some words those that are from a start and do not stand among others, or all but those; a line for each.
 fn route_lines(
-    out: &mut impl Write,
+    out: &impl Print,
     name: &[u8],
     words: &[u16],
     start: usize,
@@ -212,7 +207,7 @@ fn route_lines(
 
 // How list and plan differ, and the routes of both, those that are missing and those that are extra.
 fn differing_lines(
-    out: &mut impl Write,
+    out: &impl Print,
     c: Compared,
     start: usize,
     plan: &[u16],
@@ -230,7 +225,7 @@ fn differing_lines(
 
 // What a list and the plan are to each other.
 fn compared_lines(
-    out: &mut impl Write,
+    out: &impl Print,
     c: Compared,
     start: usize,
     plan: &[u16],
@@ -246,14 +241,14 @@ fn compared_lines(
 }
 
 // Why routes are refused.
-fn refused_line(out: &mut impl Write, fault: Fault) -> io::Result<()> {
+fn refused_line(out: &impl Print, fault: Fault) -> io::Result<()> {
     let reason = fault.reason;
     line(out, b" refused", reason.number())
 }
 
 // What is answered of a start, with the words that are lent for the list.
 fn answer_lines(
-    out: &mut impl Write,
+    out: &impl Print,
     f: &[u8],
     start: usize,
     q: Question,
@@ -272,7 +267,7 @@ fn answer_lines(
 
 // The routes from a start beside the plan.
 fn start_lines(
-    out: &mut impl Write,
+    out: &impl Print,
     f: &[u8],
     start: usize,
     q: Question,
@@ -287,7 +282,7 @@ fn start_lines(
 
 // The same from each start that is named. It answers whether one is.
 fn every_start(
-    out: &mut impl Write,
+    out: &impl Print,
     f: &[u8],
     q: Question,
     plan: &[u16],
@@ -305,8 +300,8 @@ fn every_start(
 
 // Compares an X.2 file with a plan, with room for the words of its routes.
 fn compare_with(
-    out: &mut impl Write,
-    err: &mut impl Write,
+    out: &impl Print,
+    err: &impl Print,
     f: &[u8],
     text: &[u8],
     q: Question,
@@ -322,8 +317,8 @@ fn compare_with(
 
 // Compares an X.2 file with a plan.
 fn compare(
-    out: &mut impl Write,
-    err: &mut impl Write,
+    out: &impl Print,
+    err: &impl Print,
     f: &[u8],
     text: &[u8],
     q: Question,
@@ -339,6 +334,16 @@ fn compare(
 }
 
 // ---- the command
+
+// How many words the command has, the program's own name being the first of them.
+fn word_count(rt: &impl Env) -> usize {
+    for i in 0..usize::MAX {
+        if let Err(FillError::NotPresent) = rt.arg(i, &mut []) {
+            return i;
+        }
+    }
+    usize::MAX
+}
 
 // Whether two texts are the same.
 fn is_same(a: &[u8], b: &[u8]) -> bool {
@@ -374,7 +379,7 @@ fn words_before(engine: Engine, words: usize) -> usize {
 // number.
 fn number(
     rt: &impl Env,
-    err: &mut impl Write,
+    err: &impl Print,
     words: usize,
     i: usize,
     left_out: usize,
@@ -393,30 +398,59 @@ fn number(
     Ok(NO_NUMBER)
 }
 
+// Opens the file that a word names.
+fn opened<R: Env + Files>(rt: &R, i: usize) -> Option<R::File> {
+    let mut word = [0u8; WORD_ROOM];
+    let n = rt.arg(i, &mut word).ok()?;
+    let path = str::from_utf8(&word[..n]).ok()?;
+    fs::open(rt, path).ok()
+}
+
+// Whether a file can be read further or has ended, and reading it does not fail.
+fn reads_on(file: &mut impl Read) -> bool {
+    let mut next = [0u8; 1];
+    file.read(&mut next).is_ok()
+}
+
+// Reads until the room is full or the input ends. It answers how many bytes then stand at the front of the room.
+fn read_full(input: &mut impl Read, room: &mut [u8]) -> io::Result<usize>
+    ensures { IfOk result (λ n. n ≤ length room.new) }
+{
+    let mut got = 0;
+    while got < room.len() {
+        let n = input.read(&mut room[got..])?;
+        if n == 0 {
+            break;
+        }
+        got += n;
+    }
+    Ok(got)
+}
+
 // Reads the file that a word names, as far as there is room, and says it where it cannot be read.
 fn read_file<R: Env + Files>(
     rt: &R,
-    err: &mut impl Write,
+    err: &impl Print,
     i: usize,
     room: &mut [u8],
 ) -> io::Result<Option<usize>>
     ensures { IfOk result (λ read. IfSome read (λ n. n ≤ length room.new)) }
 {
-    match read_named(rt, i, room) {
-        Ok(n) => return Ok(Some(n)),
-        Err(Unread::NotOpened) => wrong_word(rt, err, b"cannot open the file", i)?,
-        Err(Unread::NotRead) => wrong_word(rt, err, b"cannot read the file", i)?,
+    let Some(mut file) = opened(rt, i) else {
+        wrong_word(rt, err, b"cannot open the file", i)?;
+        return Ok(None);
+    };
+    match read_full(&mut file, room) {
+        Ok(n) if reads_on(&mut file) => Ok(Some(n)),
+        _ => {
+            wrong_word(rt, err, b"cannot read the file", i)?;
+            Ok(None)
+        }
     }
-    Ok(None)
 }
 
 // Compares the files that the command names.
-fn compare_files<R: Env + Files>(
-    rt: &R,
-    out: &mut impl Write,
-    err: &mut impl Write,
-    q: Question,
-) -> io::Result<()> {
+fn compare_files<R: Env + Files + Print>(rt: &R, err: &impl Print, q: Question) -> io::Result<()> {
     let mut file = [0u8; FILE_ROOM];
     let Some(n) = read_file(rt, err, FILE, &mut file)? else {
         return Ok(());
@@ -425,14 +459,13 @@ fn compare_files<R: Env + Files>(
     let Some(m) = read_file(rt, err, PLAN, &mut plan)? else {
         return Ok(());
     };
-    compare(out, err, &file[..n], &plan[..m], q)
+    compare(rt, err, &file[..n], &plan[..m], q)
 }
 
 // The same, once the numbers of the command are numbers.
-fn command<R: Env + Files>(
+fn command<R: Env + Files + Print>(
     rt: &R,
-    out: &mut impl Write,
-    err: &mut impl Write,
+    err: &impl Print,
     engine: Engine,
     words: usize,
 ) -> io::Result<()> {
@@ -453,19 +486,19 @@ fn command<R: Env + Files>(
             ROOM,
         );
     }
-    compare_files(rt, out, err, q)
+    compare_files(rt, err, q)
 }
 
 fn main(rt: HostRuntime) -> io::Result<()> {
-    let (mut out, mut err) = (rt.stdout(), rt.stderr());
+    let err = rt.stderr();
     let given = word_count(&rt);
     let picked = engine(&rt, given);
     let words = words_before(picked, given);
     if words < WORDS_LEAST || WORDS_MOST < words {
         return wrong(
-            &mut err,
+            &err,
             b"too few or too many words; it is asked by yardplan FILE PLAN [LIMIT [BUDGET [ROOM]]] [routes2]",
         );
     }
-    command(&rt, &mut out, &mut err, picked, words)
+    command(&rt, &err, picked, words)
 }

@@ -7,13 +7,13 @@
 ghost use Rattle.std.specs.Prelude.{◌≤◌, length, IfOk, IfSome};
 
 use decimal::number_in;
-use intake::{Unread, read_named, word_count};
 use loading::refusals::opening_refused;
 use loading::said::{say, wrong, wrong_word};
 use octets::{least, u32_at};
-use std::io;
-use std::io::Write;
+use std::env::FillError;
+use std::io::Read;
 use std::rt::{Env, Files};
+use std::{fs, io, str};
 use text::{line, write, write_number};
 use transfer::heads::head_of;
 use transfer::opening::nothing_opened;
@@ -35,6 +35,9 @@ const PIECES_WORDS: usize = 3;
 
 // The word that asks how the program is asked.
 const HELP: [u8; 4] = *b"help";
+
+// The longest word that may name a file.
+const WORD_ROOM: usize = 4096;
 
 // A number of the command is at most this, and the longest word that may be one.
 const NUMBER_MOST: u32 = 0xFFFF_FFFF;
@@ -60,12 +63,7 @@ fn four_bytes(n: usize) -> [u8; 4] {
 }
 
 // A piece after its length: the numbers, and then the bytes, which start there in the file.
-fn write_piece(
-    out: &mut impl Write,
-    identity: Identity,
-    start: usize,
-    bytes: &[u8],
-) -> io::Result<()> {
+fn write_piece(out: &impl Print, identity: Identity, start: usize, bytes: &[u8]) -> io::Result<()> {
     let numbers = head_of(identity, start, bytes.len());
     let laid = numbers.bytes;
     let n = numbers.length;
@@ -76,7 +74,7 @@ fn write_piece(
 }
 
 // The pieces of a file, of so many bytes each; the last may have fewer.
-fn write_pieces(out: &mut impl Write, identity: Identity, f: &[u8], most: usize) -> io::Result<()>
+fn write_pieces(out: &impl Print, identity: Identity, f: &[u8], most: usize) -> io::Result<()>
     requires { 1 ≤ most }
 {
     let mut at = 0;
@@ -89,7 +87,7 @@ fn write_pieces(out: &mut impl Write, identity: Identity, f: &[u8], most: usize)
 }
 
 // The identity of a file, on one line.
-fn write_identity(out: &mut impl Write, i: Identity) -> io::Result<()> {
+fn write_identity(out: &impl Print, i: Identity) -> io::Result<()> {
     write_number(out, i.station)?;
     write(out, b" ")?;
     write_number(out, i.kind)?;
@@ -103,7 +101,7 @@ fn write_identity(out: &mut impl Write, i: Identity) -> io::Result<()> {
 // ---- the file
 
 // Whether a loader with room for a file could open it. It is said where it could not.
-fn is_opened(err: &mut impl Write, identity: Identity) -> io::Result<bool> {
+fn is_opened(err: &impl Print, identity: Identity) -> io::Result<bool> {
     let step = transfer::opening::opening(nothing_opened(), identity, identity.total);
     let verdict = step.verdict;
     match verdict {
@@ -117,27 +115,61 @@ fn is_opened(err: &mut impl Write, identity: Identity) -> io::Result<bool> {
     }
 }
 
+// Opens the file that a word names.
+fn opened<R: Env + Files>(rt: &R, i: usize) -> Option<R::File> {
+    let mut word = [0u8; WORD_ROOM];
+    let n = rt.arg(i, &mut word).ok()?;
+    let path = str::from_utf8(&word[..n]).ok()?;
+    fs::open(rt, path).ok()
+}
+
+// Whether a file can be read further or has ended, and reading it does not fail.
+fn reads_on(file: &mut impl Read) -> bool {
+    let mut next = [0u8; 1];
+    file.read(&mut next).is_ok()
+}
+
+// Reads until the room is full or the input ends. It answers how many bytes then stand at the front of the room.
+fn read_full(input: &mut impl Read, room: &mut [u8]) -> io::Result<usize>
+    ensures { IfOk result (λ n. n ≤ length room.new) }
+{
+    let mut got = 0;
+    while got < room.len() {
+        let n = input.read(&mut room[got..])?;
+        if n == 0 {
+            break;
+        }
+        got += n;
+    }
+    Ok(got)
+}
+
 // Reads the file that a word names, as far as there is room, and says it where it cannot be read.
 fn read_file<R: Env + Files>(
     rt: &R,
-    err: &mut impl Write,
+    err: &impl Print,
     i: usize,
     room: &mut [u8],
 ) -> io::Result<Option<usize>>
     ensures { IfOk result (λ read. IfSome read (λ n. n ≤ length room.new)) }
 {
-    match read_named(rt, i, room) {
-        Ok(n) => return Ok(Some(n)),
-        Err(Unread::NotOpened) => wrong_word(rt, err, &NAME, b"cannot open the file", i)?,
-        Err(Unread::NotRead) => wrong_word(rt, err, &NAME, b"cannot read the file", i)?,
+    let Some(mut file) = opened(rt, i) else {
+        wrong_word(rt, err, &NAME, b"cannot open the file", i)?;
+        return Ok(None);
+    };
+    match read_full(&mut file, room) {
+        Ok(n) if reads_on(&mut file) => Ok(Some(n)),
+        _ => {
+            wrong_word(rt, err, &NAME, b"cannot read the file", i)?;
+            Ok(None)
+        }
     }
-    Ok(None)
 }
 
 // ---- the command
 
 // Answers the command about a file: its identity, or its pieces of at most so many bytes.
-fn answer(out: &mut impl Write, err: &mut impl Write, f: &[u8], most: usize) -> io::Result<()> {
+fn answer(out: &impl Print, err: &impl Print, f: &[u8], most: usize) -> io::Result<()> {
     let identity = identity_of(f);
     if !is_opened(err, identity)? {
         return Ok(());
@@ -150,17 +182,22 @@ fn answer(out: &mut impl Write, err: &mut impl Write, f: &[u8], most: usize) -> 
 }
 
 // The same, about the file that the command names.
-fn answer_file<R: Env + Files>(
-    rt: &R,
-    out: &mut impl Write,
-    err: &mut impl Write,
-    most: usize,
-) -> io::Result<()> {
+fn answer_file<R: Env + Files + Print>(rt: &R, err: &impl Print, most: usize) -> io::Result<()> {
     let mut room = [0u8; FILE_ROOM];
     let Some(n) = read_file(rt, err, FILE, &mut room)? else {
         return Ok(());
     };
-    answer(out, err, &room[..n], most)
+    answer(rt, err, &room[..n], most)
+}
+
+// How many words the command has, the program's own name being the first of them.
+fn word_count(rt: &impl Env) -> usize {
+    for i in 0..usize::MAX {
+        if let Err(FillError::NotPresent) = rt.arg(i, &mut []) {
+            return i;
+        }
+    }
+    usize::MAX
 }
 
 // How many bytes a piece has at most, by a word of the command.
@@ -178,7 +215,7 @@ fn bytes_in(rt: &impl Env, i: usize) -> usize {
 }
 
 // How the program is asked.
-fn usage(err: &mut impl Write) -> io::Result<()> {
+fn usage(err: &impl Print) -> io::Result<()> {
     wrong(err, &NAME, b"it is asked by yardsplit FILE [BYTES]")
 }
 
@@ -192,44 +229,36 @@ fn is_help(rt: &impl Env, i: usize) -> bool {
 }
 
 // A command of a file alone.
-fn identity_asked<R: Env + Files>(
-    rt: &R,
-    out: &mut impl Write,
-    err: &mut impl Write,
-) -> io::Result<()> {
+fn identity_asked<R: Env + Files + Print>(rt: &R, err: &impl Print) -> io::Result<()> {
     if is_help(rt, FILE) {
         usage(err)
     } else {
-        answer_file(rt, out, err, NO_BYTES)
+        answer_file(rt, err, NO_BYTES)
     }
 }
 
 // A command of a file and a number of bytes.
-fn pieces_asked<R: Env + Files>(
-    rt: &R,
-    out: &mut impl Write,
-    err: &mut impl Write,
-) -> io::Result<()> {
+fn pieces_asked<R: Env + Files + Print>(rt: &R, err: &impl Print) -> io::Result<()> {
     let most = bytes_in(rt, BYTES);
     if most == NO_BYTES {
         wrong_word(rt, err, &NAME, b"no number from 1 to 4294967295:", BYTES)
     } else {
-        answer_file(rt, out, err, most)
+        answer_file(rt, err, most)
     }
 }
 
 fn main(rt: HostRuntime) -> io::Result<()> {
-    let (mut out, mut err) = (rt.stdout(), rt.stderr());
+    let err = rt.stderr();
     let words = word_count(&rt);
     if words < IDENTITY_WORDS {
-        usage(&mut err)
+        usage(&err)
     } else if words == IDENTITY_WORDS {
-        identity_asked(&rt, &mut out, &mut err)
+        identity_asked(&rt, &err)
     } else if words == PIECES_WORDS {
-        pieces_asked(&rt, &mut out, &mut err)
+        pieces_asked(&rt, &err)
     } else {
         wrong(
-            &mut err,
+            &err,
             &NAME,
             b"too many words; it is asked by yardsplit FILE [BYTES]",
         )
