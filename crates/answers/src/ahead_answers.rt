@@ -1,5 +1,5 @@
 // The answer about what lies ahead (02, ticket 9): why the list stops, and the offsets of its objects on one line.
-ghost use Rattle.std.specs.Prelude.{◌≡◌, min, length, IfOk};
+ghost use Rattle.std.specs.Prelude.{◌≡◌, min, length};
 ghost use Rattle.verdict.specs.Answers.{answer_number};
 ghost use Rattle.ahead.specs.Asked.{ahead_asked, ahead_answer};
 
@@ -7,11 +7,11 @@ use crate::pair_answers::pair_head;
 use ahead::{AheadAnswer, OBJECTS_MOST, ROOM_LEAST, Sight, Stop};
 use octets::{least, u16_at};
 use route_walks::WORD_SIZE;
-use std::io;
+use std::io::Stdout;
 use text::{text_line, write, write_number};
 
 // Why the list stops.
-fn stop_line(out: &impl Print, stop: Stop) -> io::Result<()> {
+fn stop_line(out: Stdout, stop: Stop) {
     match stop {
         Stop::Boundary => text_line(out, b"stop", b"boundary"),
         Stop::NoLink => text_line(out, b"stop", b"no-link"),
@@ -23,60 +23,60 @@ fn stop_line(out: &impl Print, stop: Stop) -> io::Result<()> {
 }
 
 // The offsets of n objects, of which there are no more than a list may have.
-fn objects_line(out: &impl Print, lent: &[u8], n: usize) -> io::Result<()> {
-    write(out, b"objects")?;
+fn objects_line(out: Stdout, lent: &[u8], n: usize) {
+    write(out, b"objects");
     for k in 0..least(n, OBJECTS_MOST) {
-        write(out, b" ")?;
-        write_number(out, u16_at(lent, WORD_SIZE * k))?;
+        write(out, b" ");
+        write_number(out, u16_at(lent, WORD_SIZE * k));
     }
-    write(out, b"\n")
+    write(out, b"\n");
 }
 
 // The values of an answer.
-fn sight_lines(out: &impl Print, s: Sight, lent: &[u8]) -> io::Result<()> {
+fn sight_lines(out: Stdout, s: Sight, lent: &[u8]) {
     let stop = s.stop;
-    stop_line(out, stop)?;
-    objects_line(out, lent, s.objects)
+    stop_line(out, stop);
+    objects_line(out, lent, s.objects);
 }
 
 // An answer with its objects, which stand in the bytes lent.
-fn answer_lines(out: &impl Print, answer: AheadAnswer, lent: &[u8]) -> io::Result<()> {
-    pair_head(out, answer.number(), answer.place(), answer.file())?;
+fn answer_lines(out: Stdout, answer: AheadAnswer, lent: &[u8]) {
+    pair_head(out, answer.number(), answer.place(), answer.file());
     match answer {
         AheadAnswer::Listed(s) => sight_lines(out, s, lent),
-        AheadAnswer::Faulty(_, _) => Ok(()),
-        AheadAnswer::Refused(_) => Ok(()),
+        AheadAnswer::Faulty(_, _) => {}
+        AheadAnswer::Refused(_) => {}
     }
 }
 
 // The question ahead, with the bytes that are lent.
 fn told(
-    out: &impl Print,
+    out: Stdout,
     first: &[u8],
     second: &[u8],
     offset: usize,
     link: usize,
     lies: &[u8],
     lent: &mut [u8],
-) -> io::Result<usize>
-    ensures { IfOk result (λ n. n ≡ answer_number (ahead_answer (ahead_asked first.now second.now offset link lies.now (length lent.old)))) }
+) -> usize
+    ensures { result ≡ answer_number (ahead_answer (ahead_asked first.now second.now offset link lies.now (length lent.old))) }
 {
     let answer = ahead::ahead(first, second, offset, link, lies, lent);
-    answer_lines(out, answer, lent)?;
-    Ok(answer.number())
+    answer_lines(out, answer, lent);
+    answer.number()
 }
 
 // The question ahead, with room for as many bytes. More than the objects can take are not needed.
 pub fn ahead(
-    out: &impl Print,
+    out: Stdout,
     first: &[u8],
     second: &[u8],
     offset: usize,
     link: usize,
     lies: &[u8],
     room: usize,
-) -> io::Result<usize>
-    ensures { IfOk result (λ n. n ≡ answer_number (ahead_answer (ahead_asked first.now second.now offset link lies.now (min room 128)))) }
+) -> usize
+    ensures { result ≡ answer_number (ahead_answer (ahead_asked first.now second.now offset link lies.now (min room 128))) }
 {
     let mut bytes = [0u8; ROOM_LEAST];
     let lent = least(room, ROOM_LEAST);

@@ -1,46 +1,46 @@
 // The answers in degrees too: the milliarcseconds, and then the bits of each number of degrees, so that nothing of it is lost.
-ghost use Rattle.std.specs.Prelude.{◌≡◌, IfOk};
+ghost use Rattle.std.specs.Prelude.{◌≡◌};
 ghost use Rattle.verdict.specs.Answers.{answer_number};
 ghost use Rattle.x1_degrees.specs.Answers.{degrees_answer};
 ghost use Rattle.x1_degrees.specs.Questions.{degrees_asked, point_degrees_of};
 
 use crate::geography_answers::{coordinate_lines, refused};
 use degrees::bits_of;
-use std::io;
+use std::io::Stdout;
 use text::bits_line;
 use x1_degrees::{DegreesAnswer, Surveyed, degrees_at};
 
-fn surveyed_lines(out: &impl Print, s: Surveyed) -> io::Result<()> {
+fn surveyed_lines(out: Stdout, s: Surveyed) {
     let coordinate = s.coordinate;
     let degrees = s.degrees;
-    coordinate_lines(out, coordinate)?;
-    bits_line(out, b"latitude_degrees", bits_of(degrees.latitude))?;
-    bits_line(out, b"longitude_degrees", bits_of(degrees.longitude))
+    coordinate_lines(out, coordinate);
+    bits_line(out, b"latitude_degrees", bits_of(degrees.latitude));
+    bits_line(out, b"longitude_degrees", bits_of(degrees.longitude));
 }
 
 // An answer in degrees.
-fn told(out: &impl Print, a: DegreesAnswer) -> io::Result<usize>
-    ensures { IfOk result (λ n. n ≡ answer_number (degrees_answer a)) }
+fn told(out: Stdout, a: DegreesAnswer) -> usize
+    ensures { result ≡ answer_number (degrees_answer a) }
 {
     match a {
         DegreesAnswer::Surveyed(s) => {
-            surveyed_lines(out, s)?;
-            Ok(0)
+            surveyed_lines(out, s);
+            0
         }
         DegreesAnswer::Refused(fault) => refused(out, fault),
     }
 }
 
 // The question degrees.
-pub fn degrees(out: &impl Print, f: &[u8], number: usize, position: usize) -> io::Result<usize>
-    ensures { IfOk result (λ n. n ≡ answer_number (degrees_answer (degrees_asked f.now number position))) }
+pub fn degrees(out: Stdout, f: &[u8], number: usize, position: usize) -> usize
+    ensures { result ≡ answer_number (degrees_answer (degrees_asked f.now number position)) }
 {
     told(out, degrees_at(f, number, position))
 }
 
 // The question point_degrees.
-pub fn point_degrees(out: &impl Print, f: &[u8], track: usize, index: usize) -> io::Result<usize>
-    ensures { IfOk result (λ n. n ≡ answer_number (degrees_answer (point_degrees_of f.now track index))) }
+pub fn point_degrees(out: Stdout, f: &[u8], track: usize, index: usize) -> usize
+    ensures { result ≡ answer_number (degrees_answer (point_degrees_of f.now track index)) }
 {
     told(out, x1_degrees::point_degrees(f, track, index))
 }

@@ -1,137 +1,137 @@
 // The answers about an X.1 file.
-ghost use Rattle.std.specs.Prelude.{◌≡◌, IfOk};
+ghost use Rattle.std.specs.Prelude.{◌≡◌};
 ghost use Rattle.verdict.specs.Reasons.{number_of, number_in};
 ghost use Rattle.verdict.specs.Answers.{answer_number};
 ghost use Rattle.x1_verdict.specs.Facts.{verdict_by, verdict_of};
 ghost use Rattle.x1_questions.specs.Questions.{track_of, point_of, coordinate_asked};
 ghost use Rattle.x1_questions.specs.Answers.{track_answer, point_answer, coordinate_answer};
 
-use std::io;
+use std::io::Stdout;
 use text::{head, line, lines, signed_line, text_line};
 use verdict::{Fault, Verdict};
 use x1_questions::{Coordinate, CoordinateAnswer, PointAnswer, TrackAnswer};
 use x1_records::{Height, Point, Track};
 
 // A refusal.
-pub fn refused(out: &impl Print, fault: Fault) -> io::Result<usize>
-    ensures { IfOk result (λ n. n ≡ number_of fault.reason) }
+pub fn refused(out: Stdout, fault: Fault) -> usize
+    ensures { result ≡ number_of fault.reason }
 {
     let reason = fault.reason;
     let n = reason.number();
-    head(out, b"answer", n, fault.place)?;
-    Ok(n)
+    head(out, b"answer", n, fault.place);
+    n
 }
 
 // The first line of what is answered and not refused.
-pub fn answered(out: &impl Print) -> io::Result<()> {
-    head(out, b"answer", 0, 0)
+pub fn answered(out: Stdout) {
+    head(out, b"answer", 0, 0);
 }
 
 // A verdict.
-pub fn judged(out: &impl Print, v: Verdict) -> io::Result<usize>
-    ensures { IfOk result (λ n. n ≡ number_in v) }
+pub fn judged(out: Stdout, v: Verdict) -> usize
+    ensures { result ≡ number_in v }
 {
     let n = v.number();
-    head(out, b"answer", n, v.place())?;
-    Ok(n)
+    head(out, b"answer", n, v.place());
+    n
 }
 
 // The question x1.
-pub fn x1(out: &impl Print, f: &[u8]) -> io::Result<usize>
-    ensures { IfOk result (λ n. n ≡ number_in (verdict_of f.now)) }
+pub fn x1(out: Stdout, f: &[u8]) -> usize
+    ensures { result ≡ number_in (verdict_of f.now) }
 {
     judged(out, x1_verdict::verdicts::verdict_of(f))
 }
 
 // The question x1-version-1.
-pub fn x1_version_1(out: &impl Print, f: &[u8]) -> io::Result<usize>
-    ensures { IfOk result (λ n. n ≡ number_in (verdict_by 1 f.now)) }
+pub fn x1_version_1(out: Stdout, f: &[u8]) -> usize
+    ensures { result ≡ number_in (verdict_by 1 f.now) }
 {
     judged(out, x1_verdict::verdicts::version_1_verdict(f))
 }
 
-fn start_lines(out: &impl Print, t: Track) -> io::Result<()> {
-    line(out, b"start_position", t.start_position)?;
-    signed_line(out, b"start_latitude", t.start_latitude)?;
-    signed_line(out, b"start_longitude", t.start_longitude)
+fn start_lines(out: Stdout, t: Track) {
+    line(out, b"start_position", t.start_position);
+    signed_line(out, b"start_latitude", t.start_latitude);
+    signed_line(out, b"start_longitude", t.start_longitude);
 }
 
-fn end_lines(out: &impl Print, t: Track) -> io::Result<()> {
-    line(out, b"end_position", t.end_position)?;
-    signed_line(out, b"end_latitude", t.end_latitude)?;
-    signed_line(out, b"end_longitude", t.end_longitude)
+fn end_lines(out: Stdout, t: Track) {
+    line(out, b"end_position", t.end_position);
+    signed_line(out, b"end_latitude", t.end_latitude);
+    signed_line(out, b"end_longitude", t.end_longitude);
 }
 
-fn track_lines(out: &impl Print, t: Track) -> io::Result<()> {
-    answered(out)?;
+fn track_lines(out: Stdout, t: Track) {
+    answered(out);
     let name = [t.number, t.property];
-    lines(out, b"number property", &name)?;
-    start_lines(out, t)?;
-    end_lines(out, t)?;
+    lines(out, b"number property", &name);
+    start_lines(out, t);
+    end_lines(out, t);
     let points = [t.first as usize, t.last as usize, t.points()];
-    lines(out, b"first_offset last_offset points", &points)
+    lines(out, b"first_offset last_offset points", &points);
 }
 
 // The question track.
-pub fn track(out: &impl Print, f: &[u8], index: usize) -> io::Result<usize>
-    ensures { IfOk result (λ n. n ≡ answer_number (track_answer (track_of f.now index))) }
+pub fn track(out: Stdout, f: &[u8], index: usize) -> usize
+    ensures { result ≡ answer_number (track_answer (track_of f.now index)) }
 {
     match x1_questions::track(f, index) {
         TrackAnswer::Track(t) => {
-            track_lines(out, t)?;
-            Ok(0)
+            track_lines(out, t);
+            0
         }
         TrackAnswer::Refused(fault) => refused(out, fault),
     }
 }
 
 // A point's height; a dash for none.
-fn height_line(out: &impl Print, h: Height) -> io::Result<()> {
+fn height_line(out: Stdout, h: Height) {
     match h {
         Height::Decimetres(z) => signed_line(out, b"height", z),
         Height::NoHeight => text_line(out, b"height", b"-"),
     }
 }
 
-fn point_lines(out: &impl Print, p: Point) -> io::Result<()> {
-    answered(out)?;
-    line(out, b"position", p.position)?;
-    signed_line(out, b"latitude_increment", p.latitude_increment)?;
-    signed_line(out, b"longitude_increment", p.longitude_increment)?;
-    signed_line(out, b"heading", p.heading)?;
-    line(out, b"near", p.near)?;
+fn point_lines(out: Stdout, p: Point) {
+    answered(out);
+    line(out, b"position", p.position);
+    signed_line(out, b"latitude_increment", p.latitude_increment);
+    signed_line(out, b"longitude_increment", p.longitude_increment);
+    signed_line(out, b"heading", p.heading);
+    line(out, b"near", p.near);
     let height = p.height;
-    height_line(out, height)
+    height_line(out, height);
 }
 
 // The question point.
-pub fn point(out: &impl Print, f: &[u8], track: usize, index: usize) -> io::Result<usize>
-    ensures { IfOk result (λ n. n ≡ answer_number (point_answer (point_of f.now track index))) }
+pub fn point(out: Stdout, f: &[u8], track: usize, index: usize) -> usize
+    ensures { result ≡ answer_number (point_answer (point_of f.now track index)) }
 {
     match x1_questions::point(f, track, index) {
         PointAnswer::Point(p) => {
-            point_lines(out, p)?;
-            Ok(0)
+            point_lines(out, p);
+            0
         }
         PointAnswer::Refused(fault) => refused(out, fault),
     }
 }
 
 // A coordinate.
-pub fn coordinate_lines(out: &impl Print, c: Coordinate) -> io::Result<()> {
-    answered(out)?;
-    signed_line(out, b"latitude", c.latitude)?;
-    signed_line(out, b"longitude", c.longitude)
+pub fn coordinate_lines(out: Stdout, c: Coordinate) {
+    answered(out);
+    signed_line(out, b"latitude", c.latitude);
+    signed_line(out, b"longitude", c.longitude);
 }
 
 // The question coordinate.
-pub fn coordinate(out: &impl Print, f: &[u8], number: usize, position: usize) -> io::Result<usize>
-    ensures { IfOk result (λ n. n ≡ answer_number (coordinate_answer (coordinate_asked f.now number position))) }
+pub fn coordinate(out: Stdout, f: &[u8], number: usize, position: usize) -> usize
+    ensures { result ≡ answer_number (coordinate_answer (coordinate_asked f.now number position)) }
 {
     match x1_questions::coordinate(f, number, position) {
         CoordinateAnswer::Coordinate(c) => {
-            coordinate_lines(out, c)?;
-            Ok(0)
+            coordinate_lines(out, c);
+            0
         }
         CoordinateAnswer::Refused(fault) => refused(out, fault),
     }

@@ -1,5 +1,5 @@
 // The answers about the header of either file.
-ghost use Rattle.std.specs.Prelude.{◌≡◌, IfOk};
+ghost use Rattle.std.specs.Prelude.{◌≡◌};
 ghost use Rattle.verdict.specs.Answers.{answer_number};
 ghost use Rattle.x1_questions.specs.Answers.{header_answer};
 ghost use Rattle.x1_questions.specs.Questions.{header_of};
@@ -8,44 +8,44 @@ ghost use Rattle.x2_verdict.specs.Questions.{named_header_of};
 
 use crate::geography_answers::{answered, refused};
 use envelope::Header;
-use std::io;
+use std::io::Stdout;
 use text::{lines, message_line};
 use x1_questions::HeaderAnswer;
 use x2_verdict::{NamedHeader, NamedHeaderAnswer};
 
-fn header_lines(out: &impl Print, h: Header) -> io::Result<()> {
-    answered(out)?;
+fn header_lines(out: Stdout, h: Header) {
+    answered(out);
     let values = [h.structure, h.data, h.station];
-    lines(out, b"structure data station", &values)
+    lines(out, b"structure data station", &values);
 }
 
 // The question header1.
-pub fn header1(out: &impl Print, f: &[u8]) -> io::Result<usize>
-    ensures { IfOk result (λ n. n ≡ answer_number (header_answer (header_of f.now))) }
+pub fn header1(out: Stdout, f: &[u8]) -> usize
+    ensures { result ≡ answer_number (header_answer (header_of f.now)) }
 {
     match x1_questions::header(f) {
         HeaderAnswer::Header(h) => {
-            header_lines(out, h)?;
-            Ok(0)
+            header_lines(out, h);
+            0
         }
         HeaderAnswer::Refused(fault) => refused(out, fault),
     }
 }
 
-fn named_header_lines(out: &impl Print, f: &[u8], h: NamedHeader) -> io::Result<()> {
+fn named_header_lines(out: Stdout, f: &[u8], h: NamedHeader) {
     let header = h.header;
-    header_lines(out, header)?;
-    message_line(out, b"name", f, h.name, h.name_bytes)
+    header_lines(out, header);
+    message_line(out, b"name", f, h.name, h.name_bytes);
 }
 
 // The question header2.
-pub fn header2(out: &impl Print, f: &[u8]) -> io::Result<usize>
-    ensures { IfOk result (λ n. n ≡ answer_number (named_header_answer (named_header_of f.now))) }
+pub fn header2(out: Stdout, f: &[u8]) -> usize
+    ensures { result ≡ answer_number (named_header_answer (named_header_of f.now)) }
 {
     match x2_verdict::header(f) {
         NamedHeaderAnswer::Header(h) => {
-            named_header_lines(out, f, h)?;
-            Ok(0)
+            named_header_lines(out, f, h);
+            0
         }
         NamedHeaderAnswer::Refused(fault) => refused(out, fault),
     }

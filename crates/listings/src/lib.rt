@@ -2,7 +2,7 @@
 // the offsets of its objects. The answers are those of crate route_question; here they become text.
 #![tactic(auto)]
 
-ghost use Rattle.std.specs.Prelude.{◌≡◌, min, IfOk};
+ghost use Rattle.std.specs.Prelude.{◌≡◌, min};
 ghost use Rattle.verdict.specs.Reasons.{number_in};
 ghost use Rattle.verdict.specs.Answers.{answer_number};
 ghost use Rattle.x2_verdict.specs.Facts.{verdict_of};
@@ -14,7 +14,7 @@ use octets::{least, u16_at};
 use route_lister::RoutesAnswer;
 use route_question::{Engine, routes_by};
 use route_walks::{Tally, WORD_SIZE};
-use std::io;
+use std::io::Stdout;
 use tables::number_of;
 use text::{head, line, lines, write, write_number};
 use verdict::{Fault, Verdict};
@@ -48,60 +48,54 @@ fn word_at(lent: &[u8], at: usize) -> usize {
 
 // Prints the next word of a listing, of whose route `left` offsets are still to come, and answers how many are then. Where none are, the
 // word is not printed: it is the object count of the next route.
-fn word_printed(out: &impl Print, left: usize, word: usize) -> io::Result<usize> {
+fn word_printed(out: Stdout, left: usize, word: usize) -> usize {
     if left == 0 {
-        return Ok(word);
+        return word;
     }
-    write_number(out, word)?;
+    write_number(out, word);
     if left == 1 {
-        write(out, b"\n")?;
+        write(out, b"\n");
     } else {
-        write(out, b" ")?;
+        write(out, b" ");
     }
-    Ok(left - 1)
+    left - 1
 }
 
 // The routes in the first n words, each on a line.
-fn route_lines(out: &impl Print, lent: &[u8], n: usize) -> io::Result<()> {
+fn route_lines(out: Stdout, lent: &[u8], n: usize) {
     let mut left = 0;
     for k in 0..n {
-        left = word_printed(out, left, word_at(lent, k))?;
+        left = word_printed(out, left, word_at(lent, k));
     }
-    Ok(())
 }
 
 // The values of an answer, and its routes.
-fn tally_lines(out: &impl Print, t: Tally, lent: &[u8]) -> io::Result<()> {
+fn tally_lines(out: Stdout, t: Tally, lent: &[u8]) {
     let values = [t.routes, t.words, t.walks];
-    lines(out, b"routes words walks", &values)?;
-    route_lines(out, lent, t.words)
+    lines(out, b"routes words walks", &values);
+    route_lines(out, lent, t.words);
 }
 
 // Prints an answer with its routes.
-fn answer_lines(out: &impl Print, answer: RoutesAnswer, lent: &[u8]) -> io::Result<()> {
-    head(out, b"answer", answer.number(), answer.place())?;
+fn answer_lines(out: Stdout, answer: RoutesAnswer, lent: &[u8]) {
+    head(out, b"answer", answer.number(), answer.place());
     match answer {
         RoutesAnswer::Listed(t) => tally_lines(out, t, lent),
-        RoutesAnswer::Refused(_) => Ok(()),
+        RoutesAnswer::Refused(_) => {}
     }
 }
 
 // The same for a question with as much room; nothing where that is more than is here and the list does not fit what is here.
-fn answer_within(
-    out: &impl Print,
-    answer: RoutesAnswer,
-    room: usize,
-    lent: &[u8],
-) -> io::Result<()> {
+fn answer_within(out: Stdout, answer: RoutesAnswer, room: usize, lent: &[u8]) {
     if MOST_ROOM < room && answer.number() == NO_ROOM {
-        return Ok(());
+        return;
     }
-    answer_lines(out, answer, lent)
+    answer_lines(out, answer, lent);
 }
 
 // The question routes, by an engine, with the bytes that are lent of its room. It answers the number of the answer.
 fn answered(
-    out: &impl Print,
+    out: Stdout,
     engine: Engine,
     f: &[u8],
     start: usize,
@@ -109,27 +103,27 @@ fn answered(
     budget: usize,
     room: usize,
     lent: &mut [u8],
-) -> io::Result<usize>
-    ensures { IfOk result (λ n. n ≡ answer_number (routes_answer (routes_asked f.now start limit budget (room_of lent.old)))) }
+) -> usize
+    ensures { result ≡ answer_number (routes_answer (routes_asked f.now start limit budget (room_of lent.old))) }
 {
     let answer = routes_by(engine, f, start, limit, budget, lent);
-    answer_within(out, answer, room, lent)?;
-    Ok(answer.number())
+    answer_within(out, answer, room, lent);
+    answer.number()
 }
 
 // The question routes, by an engine, with room for as many words. It answers the number of the answer, 0 where the routes are listed. Where
 // the question has more words than are here and the list does not fit those that are, it answers 15 and prints nothing: what the answer is, it
 // cannot say.
 pub fn routes(
-    out: &impl Print,
+    out: Stdout,
     engine: Engine,
     f: &[u8],
     start: usize,
     limit: usize,
     budget: usize,
     room: usize,
-) -> io::Result<usize>
-    ensures { IfOk result (λ n. n ≡ answer_number (routes_answer (routes_asked f.now start limit budget (min room 65535)))) }
+) -> usize
+    ensures { result ≡ answer_number (routes_answer (routes_asked f.now start limit budget (min room 65535))) }
 {
     let mut bytes = [0u8; MOST_BYTES];
     let lent = WORD_SIZE * least(room, MOST_ROOM);
@@ -146,27 +140,27 @@ pub fn routes(
 }
 
 // How many routes there are from a start boundary, how many partial walks, and the routes.
-fn listed_lines(out: &impl Print, t: Tally, lent: &[u8]) -> io::Result<()> {
-    write(out, b" routes ")?;
-    write_number(out, t.routes)?;
-    line(out, b" walks", t.walks)?;
-    route_lines(out, lent, t.words)
+fn listed_lines(out: Stdout, t: Tally, lent: &[u8]) {
+    write(out, b" routes ");
+    write_number(out, t.routes);
+    line(out, b" walks", t.walks);
+    route_lines(out, lent, t.words);
 }
 
 // Why routes are refused.
-fn refused_line(out: &impl Print, fault: Fault) -> io::Result<()> {
+fn refused_line(out: Stdout, fault: Fault) {
     let reason = fault.reason;
-    line(out, b" refused", reason.number())
+    line(out, b" refused", reason.number());
 }
 
-fn start_line(out: &impl Print, start: usize) -> io::Result<()> {
-    write(out, b"from ")?;
-    write_number(out, start)
+fn start_line(out: Stdout, start: usize) {
+    write(out, b"from ");
+    write_number(out, start);
 }
 
 // The routes from a start boundary, or why they are refused.
-fn start_lines(out: &impl Print, f: &[u8], l: Layout, start: usize) -> io::Result<()> {
-    start_line(out, start)?;
+fn start_lines(out: Stdout, f: &[u8], l: Layout, start: usize) {
+    start_line(out, start);
     let mut bytes = [0u8; LIST_BYTES];
     let answer = route_lister::list(f, l, start, LIST_LIMIT, LIST_BUDGET, &mut bytes);
     match answer {
@@ -176,27 +170,26 @@ fn start_lines(out: &impl Print, f: &[u8], l: Layout, start: usize) -> io::Resul
 }
 
 // The routes from each start boundary, in the header's order.
-fn every_start(out: &impl Print, f: &[u8]) -> io::Result<()> {
+fn every_start(out: Stdout, f: &[u8]) {
     let l = layout_of(f);
     let n = l.n;
     for i in 0..n {
         let entry = (START_ENTRIES + ENTRY_SIZE * i) as u32;
-        start_lines(out, f, l, number_of(f, entry, ENTRY_OFFSET))?;
+        start_lines(out, f, l, number_of(f, entry, ENTRY_OFFSET));
     }
-    Ok(())
 }
 
 // The list of a station: the verdict of its X.2 file and, where that is accepted, the routes from each start boundary. It answers the number of
 // the verdict.
-pub fn list(out: &impl Print, f: &[u8]) -> io::Result<usize>
-    ensures { IfOk result (λ n. n ≡ number_in (verdict_of f.now)) }
+pub fn list(out: Stdout, f: &[u8]) -> usize
+    ensures { result ≡ number_in (verdict_of f.now) }
 {
     let v = x2_verdict::verdict_of(f);
     let number = v.number();
-    head(out, b"verdict", number, v.place())?;
+    head(out, b"verdict", number, v.place());
     let Verdict::Accepted = v else {
-        return Ok(number);
+        return number;
     };
-    every_start(out, f)?;
-    Ok(number)
+    every_start(out, f);
+    number
 }

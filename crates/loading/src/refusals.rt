@@ -1,12 +1,12 @@
 // The line of a refused call of the loader, on standard error: its number, of a finishing its place too, and what it means.
-ghost use Rattle.std.specs.Prelude.{◌≡◌, IfOk};
+ghost use Rattle.std.specs.Prelude.{◌≡◌};
 
 use crate::said::{say, say_number};
-use std::io;
+use std::io::Stderr;
 use verdict::{Fault, Reason};
 
 // What a reason means, in the words of 01's table and of 02's tickets 4 and 6.
-fn say_meaning(err: &impl Print, reason: Reason) -> io::Result<()> {
+fn say_meaning(err: Stderr, reason: Reason) {
     match reason {
         Reason::Length => say(err, b"length out of range"),
         Reason::Checksum => say(err, b"the checksum differs"),
@@ -36,7 +36,7 @@ fn say_meaning(err: &impl Print, reason: Reason) -> io::Result<()> {
 }
 
 // The same, of a finishing: two of its reasons mean something else than a piece's.
-fn say_finishing_meaning(err: &impl Print, reason: Reason) -> io::Result<()> {
+fn say_finishing_meaning(err: Stderr, reason: Reason) {
     match reason {
         Reason::Identity => say(err, b"the file is another one than was opened"),
         Reason::Order => say(err, b"nothing opened, or bytes still due"),
@@ -45,46 +45,46 @@ fn say_finishing_meaning(err: &impl Print, reason: Reason) -> io::Result<()> {
 }
 
 // That a call is refused, and the number.
-fn say_refused(err: &impl Print, reason: Reason) -> io::Result<()> {
-    say(err, b" refused ")?;
-    say_number(err, reason.number())
+fn say_refused(err: Stderr, reason: Reason) {
+    say(err, b" refused ");
+    say_number(err, reason.number());
 }
 
 // A refused opening.
-pub fn opening_refused(err: &impl Print, fault: Fault) -> io::Result<()>
-    ensures { IfOk result (λ nothing. nothing ≡ tt) }
+pub fn opening_refused(err: Stderr, fault: Fault)
+    ensures { result ≡ tt }
 {
     let reason = fault.reason;
-    say(err, b"opening")?;
-    say_refused(err, reason)?;
-    say(err, b": ")?;
-    say_meaning(err, reason)?;
-    say(err, b"\n")
+    say(err, b"opening");
+    say_refused(err, reason);
+    say(err, b": ");
+    say_meaning(err, reason);
+    say(err, b"\n");
 }
 
 // A refused piece, by its number among all pieces, from 1.
-pub fn piece_refused(err: &impl Print, number: usize, fault: Fault) -> io::Result<()>
-    ensures { IfOk result (λ nothing. nothing ≡ tt) }
+pub fn piece_refused(err: Stderr, number: usize, fault: Fault)
+    ensures { result ≡ tt }
 {
     let reason = fault.reason;
-    say(err, b"piece ")?;
-    say_number(err, number)?;
-    say_refused(err, reason)?;
-    say(err, b": ")?;
-    say_meaning(err, reason)?;
-    say(err, b"\n")
+    say(err, b"piece ");
+    say_number(err, number);
+    say_refused(err, reason);
+    say(err, b": ");
+    say_meaning(err, reason);
+    say(err, b"\n");
 }
 
 // A refused finishing.
-pub fn finishing_refused(err: &impl Print, fault: Fault) -> io::Result<()>
-    ensures { IfOk result (λ nothing. nothing ≡ tt) }
+pub fn finishing_refused(err: Stderr, fault: Fault)
+    ensures { result ≡ tt }
 {
     let reason = fault.reason;
-    say(err, b"finishing")?;
-    say_refused(err, reason)?;
-    say(err, b" at ")?;
-    say_number(err, fault.place)?;
-    say(err, b": ")?;
-    say_finishing_meaning(err, reason)?;
-    say(err, b"\n")
+    say(err, b"finishing");
+    say_refused(err, reason);
+    say(err, b" at ");
+    say_number(err, fault.place);
+    say(err, b": ");
+    say_finishing_meaning(err, reason);
+    say(err, b"\n");
 }

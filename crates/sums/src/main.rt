@@ -5,7 +5,7 @@
 ghost use Rattle.std.specs.Prelude.{◌≤◌, ◌<◌, length, IfOk};
 
 use std::io;
-use std::io::Read;
+use std::io::{Read, Stderr, Stdout};
 
 // A file is at most 65,535 bytes.
 const LONGEST: usize = 65535;
@@ -14,7 +14,7 @@ const LONGEST: usize = 65535;
 const LENGTH: usize = 4;
 
 // Says why the run ends. It answers false: there is no next case.
-fn stop(err: &impl Print, why: &[u8]) -> io::Result<bool> {
+fn stop(err: Stderr, why: &[u8]) -> io::Result<bool> {
     err.write_all(why)?;
     Ok(false)
 }
@@ -32,7 +32,7 @@ fn number(b: &[u8; LENGTH]) -> usize {
 }
 
 // Prints a case's line.
-fn print_line(out: &impl Print, s: &[u8]) -> io::Result<()> {
+fn print_line(out: Stdout, s: &[u8]) -> io::Result<()> {
     let n = s.len();
     let sum = checksum::of(s);
     println!(out; "{n} {sum}")
@@ -56,8 +56,8 @@ fn read_full(input: &mut impl Read, room: &mut [u8]) -> io::Result<usize>
 // Reads a case's bytes, as many as there is room for, and prints its line. It answers whether there may be a next case.
 fn print_case(
     input: &mut impl Read,
-    out: &impl Print,
-    err: &impl Print,
+    out: Stdout,
+    err: Stderr,
     room: &mut [u8],
 ) -> io::Result<bool> {
     let got = read_full(input, room)?;
@@ -69,7 +69,7 @@ fn print_case(
 }
 
 // The same for a case of n bytes.
-fn case_of(input: &mut impl Read, out: &impl Print, err: &impl Print, n: usize) -> io::Result<bool>
+fn case_of(input: &mut impl Read, out: Stdout, err: Stderr, n: usize) -> io::Result<bool>
     requires { n ≤ 65535 }
 {
     let mut buffer = [0u8; LONGEST];
@@ -77,7 +77,7 @@ fn case_of(input: &mut impl Read, out: &impl Print, err: &impl Print, n: usize) 
 }
 
 // Reads and prints a case. It answers whether there may be a next one.
-fn next_case(input: &mut impl Read, out: &impl Print, err: &impl Print) -> io::Result<bool> {
+fn next_case(input: &mut impl Read, out: Stdout, err: Stderr) -> io::Result<bool> {
     let mut length = [0u8; LENGTH];
     let got = read_full(input, &mut length)?;
     if got == 0 {
@@ -97,7 +97,7 @@ fn next_case(input: &mut impl Read, out: &impl Print, err: &impl Print) -> io::R
 fn main(rt: HostRuntime) -> io::Result<()> {
     let mut input = rt.stdin();
     for _ in 0..u64::MAX {
-        if !next_case(&mut input, &rt, &rt.stderr())? {
+        if !next_case(&mut input, rt.stdout(), rt.stderr())? {
             break;
         }
     }

@@ -11,8 +11,9 @@ use listings::{MOST_ROOM, NO_ROOM};
 use octets::{byte_after, byte_at, u16_at};
 use route_question::Engine;
 use std::env::FillError;
-use std::io::Read;
-use std::rt::{Env, Files};
+use std::fs::File;
+use std::io::{Read, Stderr, Stdout};
+use std::rt::Env;
 use std::{fs, io, str};
 
 // The questions, a line for each: the words of its command and, after two spaces or more, what it answers. Help is these lines; a question is
@@ -125,35 +126,35 @@ enum Unread {
 }
 
 // Some text on standard error.
-fn write(err: &impl Print, text: &[u8]) -> io::Result<()> {
-    err.write_all(text)
+fn write(err: Stderr, text: &[u8]) {
+    let _ = err.write_all(text);
 }
 
 // A word of the command line, in quotes.
-fn write_word(rt: &impl Env, err: &impl Print, i: usize) -> io::Result<()> {
+fn write_word(rt: HostRuntime, i: usize) {
     let mut word = [0u8; WORD_ROOM];
     let n = rt.arg(i, &mut word).unwrap_or(0);
-    write(err, b" '")?;
-    write(err, &word[..n])?;
-    write(err, b"'")
+    write(rt.stderr(), b" '");
+    write(rt.stderr(), &word[..n]);
+    write(rt.stderr(), b"'");
 }
 
 // Begins the line that says what is wrong, with which word.
-fn begin_wrong(rt: &impl Env, err: &impl Print, why: &[u8], i: usize) -> io::Result<()> {
-    write(err, b"yardask: ")?;
-    write(err, why)?;
-    write_word(rt, err, i)
+fn begin_wrong(rt: HostRuntime, why: &[u8], i: usize) {
+    write(rt.stderr(), b"yardask: ");
+    write(rt.stderr(), why);
+    write_word(rt, i);
 }
 
 // Ends it with how to ask for help.
-fn end_wrong(err: &impl Print) -> io::Result<()> {
-    write(err, b"; yardask help lists the questions\n")
+fn end_wrong(err: Stderr) {
+    write(err, b"; yardask help lists the questions\n");
 }
 
 // Says what is wrong, with which word.
-fn wrong(rt: &impl Env, err: &impl Print, why: &[u8], i: usize) -> io::Result<()> {
-    begin_wrong(rt, err, why, i)?;
-    end_wrong(err)
+fn wrong(rt: HostRuntime, why: &[u8], i: usize) {
+    begin_wrong(rt, why, i);
+    end_wrong(rt.stderr());
 }
 
 // Where the text goes on after the next byte that is a mark.
@@ -228,7 +229,7 @@ fn is_help(word: &[u8]) -> bool {
 }
 
 // How many words the command has, the program's own name being the first of them.
-fn word_count(rt: &impl Env) -> usize {
+fn word_count(rt: HostRuntime) -> usize {
     for i in 0..usize::MAX {
         if let Err(FillError::NotPresent) = rt.arg(i, &mut []) {
             return i;
@@ -238,7 +239,7 @@ fn word_count(rt: &impl Env) -> usize {
 }
 
 // How many words follow the program's own name.
-fn words_given(rt: &impl Env) -> usize {
+fn words_given(rt: HostRuntime) -> usize {
     let n = word_count(rt);
     if n == 0 {
         return 0;
@@ -247,7 +248,7 @@ fn words_given(rt: &impl Env) -> usize {
 }
 
 // The question of the command line. No word asks for help.
-fn question(rt: &impl Env, table: &[u8]) -> usize {
+fn question(rt: HostRuntime, table: &[u8]) -> usize {
     let mut word = [0u8; QUESTION_ROOM];
     let n = match rt.arg(QUESTION, &mut word) {
         Ok(n) => n,
@@ -261,46 +262,34 @@ fn question(rt: &impl Env, table: &[u8]) -> usize {
 }
 
 // Writes what stands between two places of the table.
-fn write_part(err: &impl Print, table: &[u8], from: usize, to: usize) -> io::Result<()> {
+fn write_part(err: Stderr, table: &[u8], from: usize, to: usize) {
     if from <= to && to <= table.len() {
-        write(err, &table[from..to])?;
+        write(err, &table[from..to]);
     }
-    Ok(())
 }
 
 // Says that the command has too few or too many words, and how the question is asked.
-fn wrong_count(
-    rt: &impl Env,
-    err: &impl Print,
-    table: &[u8],
-    from: usize,
-    to: usize,
-) -> io::Result<()> {
-    begin_wrong(
-        rt,
-        err,
-        b"too few or too many words for the question",
-        QUESTION,
-    )?;
-    write(err, b", which is asked by ")?;
-    write_part(err, table, from, to)?;
-    end_wrong(err)
+fn wrong_count(rt: HostRuntime, table: &[u8], from: usize, to: usize) {
+    begin_wrong(rt, b"too few or too many words for the question", QUESTION);
+    write(rt.stderr(), b", which is asked by ");
+    write_part(rt.stderr(), table, from, to);
+    end_wrong(rt.stderr());
 }
 
 // Whether the command has as many words as its question takes; it is said where it has not.
-fn is_counted(rt: &impl Env, err: &impl Print, table: &[u8], question: usize) -> io::Result<bool> {
+fn is_counted(rt: HostRuntime, table: &[u8], question: usize) -> bool {
     let from = line_of(table, question);
     let to = form_end(table, from);
     let following = words_after(table, from, to);
     let is_right = words_given(rt) == following;
     if !is_right {
-        wrong_count(rt, err, table, from, to)?;
+        wrong_count(rt, table, from, to);
     }
-    Ok(is_right)
+    is_right
 }
 
 // The number that a word of the command line is, 0 where the command has no such word.
-fn number_at(rt: &impl Env, i: usize) -> usize {
+fn number_at(rt: HostRuntime, i: usize) -> usize {
     let mut word = [0u8; NUMBER_ROOM];
     match rt.arg(i, &mut word) {
         Ok(n) => number_in(&word[..n], NUMBER_MOST),
@@ -310,20 +299,20 @@ fn number_at(rt: &impl Env, i: usize) -> usize {
 }
 
 // The same; it is said where the word is no number.
-fn number(rt: &impl Env, err: &impl Print, i: usize) -> io::Result<usize> {
+fn number(rt: HostRuntime, i: usize) -> usize {
     let n = number_at(rt, i);
     if NO_NUMBER <= n {
-        wrong(rt, err, b"no number below 4294967296:", i)?;
+        wrong(rt, b"no number below 4294967296:", i);
     }
-    Ok(n)
+    n
 }
 
 // Opens the file that a word names.
-fn opened<R: Env + Files>(rt: &R, i: usize) -> Option<R::File> {
+fn opened(rt: HostRuntime, i: usize) -> Option<File> {
     let mut word = [0u8; WORD_ROOM];
     let n = rt.arg(i, &mut word).ok()?;
     let path = str::from_utf8(&word[..n]).ok()?;
-    fs::open(rt, path).ok()
+    fs::open(&rt, path).ok()
 }
 
 // Whether a file can be read further or has ended, and reading it does not fail.
@@ -348,7 +337,7 @@ fn read_full(input: &mut impl Read, room: &mut [u8]) -> io::Result<usize>
 }
 
 // Reads the file that a word names, as far as there is room.
-fn read_named<R: Env + Files>(rt: &R, i: usize, room: &mut [u8]) -> Result<usize, Unread>
+fn read_named(rt: HostRuntime, i: usize, room: &mut [u8]) -> Result<usize, Unread>
     ensures { IfOk result (λ n. n ≤ length room.new) }
 {
     let Some(mut file) = opened(rt, i) else {
@@ -361,20 +350,15 @@ fn read_named<R: Env + Files>(rt: &R, i: usize, room: &mut [u8]) -> Result<usize
 }
 
 // Reads the file that a word names, as far as there is room, and says it where it cannot be read.
-fn read_file<R: Env + Files>(
-    rt: &R,
-    err: &impl Print,
-    i: usize,
-    room: &mut [u8],
-) -> io::Result<Option<usize>>
-    ensures { IfOk result (λ read. IfSome read (λ n. n ≤ length room.new)) }
+fn read_file(rt: HostRuntime, i: usize, room: &mut [u8]) -> Option<usize>
+    ensures { IfSome result (λ n. n ≤ length room.new) }
 {
     match read_named(rt, i, room) {
-        Ok(n) => return Ok(Some(n)),
-        Err(Unread::NotOpened) => wrong(rt, err, b"cannot open the file", i)?,
-        Err(Unread::NotRead) => wrong(rt, err, b"cannot read the file", i)?,
+        Ok(n) => return Some(n),
+        Err(Unread::NotOpened) => wrong(rt, b"cannot open the file", i),
+        Err(Unread::NotRead) => wrong(rt, b"cannot read the file", i),
     }
-    Ok(None)
+    None
 }
 
 // Makes each character of a text the lie that it stands for. It answers whether each stands for one.
@@ -389,7 +373,7 @@ fn become_lies(text: &mut [u8]) -> bool {
 }
 
 // Whether a word is the lies themselves, a character for each. They then stand in the room.
-fn are_in_word(rt: &impl Env, i: usize, room: &mut [u8]) -> bool
+fn are_in_word(rt: HostRuntime, i: usize, room: &mut [u8]) -> bool
     ensures { IsTrue result → 256 ≤ length room.new }
 {
     let Ok(n) = rt.arg(i, room) else {
@@ -399,257 +383,220 @@ fn are_in_word(rt: &impl Env, i: usize, room: &mut [u8]) -> bool
 }
 
 // Reads the lies, from a word or from the file that it names, as far as there is room, and says it where it is neither.
-fn read_lies<R: Env + Files>(
-    rt: &R,
-    err: &impl Print,
-    i: usize,
-    room: &mut [u8],
-) -> io::Result<Option<usize>>
-    ensures { IfOk result (λ read. IfSome read (λ n. n ≤ length room.new)) }
+fn read_lies(rt: HostRuntime, i: usize, room: &mut [u8]) -> Option<usize>
+    ensures { IfSome result (λ n. n ≤ length room.new) }
 {
     if are_in_word(rt, i, room) {
-        return Ok(Some(LIES));
+        return Some(LIES);
     }
     if let Ok(n) = read_named(rt, i, room) {
-        return Ok(Some(n));
+        return Some(n);
     }
     wrong(
         rt,
-        err,
         b"neither a file that can be read nor 256 characters 0, 1 and 2:",
         i,
-    )?;
-    Ok(None)
+    );
+    None
 }
 
 // Answers a question about one file.
-fn answer(out: &impl Print, question: usize, f: &[u8], a: usize, b: usize) -> io::Result<()> {
+fn answer(out: Stdout, question: usize, f: &[u8], a: usize, b: usize) {
     if question == X1 {
-        answers::x1(out, f)?;
+        answers::x1(out, f);
     } else if question == X1_VERSION_1 {
-        answers::x1_version_1(out, f)?;
+        answers::x1_version_1(out, f);
     } else if question == X2 {
-        answers::x2(out, f)?;
+        answers::x2(out, f);
     } else if question == HEADER1 {
-        answers::header1(out, f)?;
+        answers::header1(out, f);
     } else if question == HEADER2 {
-        answers::header2(out, f)?;
+        answers::header2(out, f);
     } else if question == TRACK {
-        answers::track(out, f, a)?;
+        answers::track(out, f, a);
     } else if question == POINT {
-        answers::point(out, f, a, b)?;
+        answers::point(out, f, a, b);
     } else if question == COORDINATE {
-        answers::coordinate(out, f, a, b)?;
+        answers::coordinate(out, f, a, b);
     } else if question == DEGREES {
-        answers::degrees(out, f, a, b)?;
+        answers::degrees(out, f, a, b);
     } else if question == POINT_DEGREES {
-        answers::point_degrees(out, f, a, b)?;
+        answers::point_degrees(out, f, a, b);
     } else {
-        answers::record(out, f, a)?;
+        answers::record(out, f, a);
     }
-    Ok(())
 }
 
 // The same, about the file that the command line names.
-fn ask<R: Env + Files + Print>(
-    rt: &R,
-    err: &impl Print,
-    question: usize,
-    a: usize,
-    b: usize,
-) -> io::Result<()> {
+fn ask(rt: HostRuntime, question: usize, a: usize, b: usize) {
     let mut room = [0u8; ROOM];
-    let Some(n) = read_file(rt, err, FIRST, &mut room)? else {
-        return Ok(());
+    let Some(n) = read_file(rt, FIRST, &mut room) else {
+        return;
     };
-    answer(rt, question, &room[..n], a, b)
+    answer(rt.stdout(), question, &room[..n], a, b);
 }
 
 // The same, once its numbers are numbers.
-fn ask_with_numbers<R: Env + Files + Print>(
-    rt: &R,
-    err: &impl Print,
-    question: usize,
-) -> io::Result<()> {
-    let a = number(rt, err, NUMBER)?;
+fn ask_with_numbers(rt: HostRuntime, question: usize) {
+    let a = number(rt, NUMBER);
     if NO_NUMBER <= a {
-        return Ok(());
+        return;
     }
-    let b = number(rt, err, NEXT_NUMBER)?;
+    let b = number(rt, NEXT_NUMBER);
     if NO_NUMBER <= b {
-        return Ok(());
+        return;
     }
-    ask(rt, err, question, a, b)
+    ask(rt, question, a, b);
 }
 
 // Answers the question ahead about a pair of files, by the lies of the command line.
-fn look_ahead<R: Env + Files + Print>(
-    rt: &R,
-    err: &impl Print,
-    first: &[u8],
-    second: &[u8],
-    offset: usize,
-    link: usize,
-) -> io::Result<()> {
+fn look_ahead(rt: HostRuntime, first: &[u8], second: &[u8], offset: usize, link: usize) {
     let mut lies = [0u8; LIES_ROOM];
-    if let Some(n) = read_lies(rt, err, LIES_WORD, &mut lies)? {
-        answers::ahead(rt, first, second, offset, link, &lies[..n], ROOM_LEAST)?;
+    if let Some(n) = read_lies(rt, LIES_WORD, &mut lies) {
+        answers::ahead(
+            rt.stdout(),
+            first,
+            second,
+            offset,
+            link,
+            &lies[..n],
+            ROOM_LEAST,
+        );
     }
-    Ok(())
 }
 
 // Answers a question about a pair of files.
-fn answer_pair<R: Env + Files + Print>(
-    rt: &R,
-    err: &impl Print,
+fn answer_pair(
+    rt: HostRuntime,
     question: usize,
     first: &[u8],
     second: &[u8],
     offset: usize,
     link: usize,
-) -> io::Result<()> {
+) {
     if question == PAIR {
-        answers::pair(rt, first, second)?;
-        Ok(())
+        answers::pair(rt.stdout(), first, second);
     } else {
-        look_ahead(rt, err, first, second, offset, link)
+        look_ahead(rt, first, second, offset, link)
     }
 }
 
 // The same, about the files that the command line names.
-fn ask_pair<R: Env + Files + Print>(
-    rt: &R,
-    err: &impl Print,
-    question: usize,
-    offset: usize,
-    link: usize,
-) -> io::Result<()> {
+fn ask_pair(rt: HostRuntime, question: usize, offset: usize, link: usize) {
     let mut first = [0u8; ROOM];
-    let Some(n) = read_file(rt, err, FIRST, &mut first)? else {
-        return Ok(());
+    let Some(n) = read_file(rt, FIRST, &mut first) else {
+        return;
     };
     let mut second = [0u8; ROOM];
-    let Some(m) = read_file(rt, err, SECOND, &mut second)? else {
-        return Ok(());
+    let Some(m) = read_file(rt, SECOND, &mut second) else {
+        return;
     };
-    answer_pair(rt, err, question, &first[..n], &second[..m], offset, link)
+    answer_pair(rt, question, &first[..n], &second[..m], offset, link);
 }
 
 // The same, once its numbers are numbers.
-fn ask_pair_with_numbers<R: Env + Files + Print>(
-    rt: &R,
-    err: &impl Print,
-    question: usize,
-) -> io::Result<()> {
-    let offset = number(rt, err, OFFSET)?;
+fn ask_pair_with_numbers(rt: HostRuntime, question: usize) {
+    let offset = number(rt, OFFSET);
     if NO_NUMBER <= offset {
-        return Ok(());
+        return;
     }
-    let link = number(rt, err, LINK)?;
+    let link = number(rt, LINK);
     if NO_NUMBER <= link {
-        return Ok(());
+        return;
     }
-    ask_pair(rt, err, question, offset, link)
+    ask_pair(rt, question, offset, link);
 }
 
 // Answers the question routes, by an engine, and says it where the list would fit the words that are asked for and not those that are here.
 fn answer_routes(
-    out: &impl Print,
-    err: &impl Print,
+    rt: HostRuntime,
     engine: Engine,
     f: &[u8],
     start: usize,
     limit: usize,
     budget: usize,
     words: usize,
-) -> io::Result<()> {
-    let number = listings::routes(out, engine, f, start, limit, budget, words)?;
+) {
+    let number = listings::routes(rt.stdout(), engine, f, start, limit, budget, words);
     if number == NO_ROOM && MOST_ROOM < words {
         write(
-            err,
+            rt.stderr(),
             b"yardask: the list takes more words than the 65535 that this program has room for\n",
-        )?;
+        );
     }
-    Ok(())
 }
 
 // The same, about the file that the command line names.
-fn list_routes<R: Env + Files + Print>(
-    rt: &R,
-    err: &impl Print,
+fn list_routes(
+    rt: HostRuntime,
     engine: Engine,
     start: usize,
     limit: usize,
     budget: usize,
     words: usize,
-) -> io::Result<()> {
+) {
     let mut room = [0u8; ROOM];
-    let Some(n) = read_file(rt, err, FIRST, &mut room)? else {
-        return Ok(());
+    let Some(n) = read_file(rt, FIRST, &mut room) else {
+        return;
     };
-    answer_routes(rt, err, engine, &room[..n], start, limit, budget, words)
+    answer_routes(rt, engine, &room[..n], start, limit, budget, words);
 }
 
 // The same, once the last two of its numbers are numbers.
-fn ask_within<R: Env + Files + Print>(
-    rt: &R,
-    err: &impl Print,
-    engine: Engine,
-    start: usize,
-    limit: usize,
-) -> io::Result<()> {
-    let budget = number(rt, err, THIRD_NUMBER)?;
+fn ask_within(rt: HostRuntime, engine: Engine, start: usize, limit: usize) {
+    let budget = number(rt, THIRD_NUMBER);
     if NO_NUMBER <= budget {
-        return Ok(());
+        return;
     }
-    let words = number(rt, err, FOURTH_NUMBER)?;
+    let words = number(rt, FOURTH_NUMBER);
     if NO_NUMBER <= words {
-        return Ok(());
+        return;
     }
-    list_routes(rt, err, engine, start, limit, budget, words)
+    list_routes(rt, engine, start, limit, budget, words);
 }
 
 // The same, once the first two of its numbers are numbers.
-fn ask_routes<R: Env + Files + Print>(rt: &R, err: &impl Print, engine: Engine) -> io::Result<()> {
-    let start = number(rt, err, NUMBER)?;
+fn ask_routes(rt: HostRuntime, engine: Engine) {
+    let start = number(rt, NUMBER);
     if NO_NUMBER <= start {
-        return Ok(());
+        return;
     }
-    let limit = number(rt, err, NEXT_NUMBER)?;
+    let limit = number(rt, NEXT_NUMBER);
     if NO_NUMBER <= limit {
-        return Ok(());
+        return;
     }
-    ask_within(rt, err, engine, start, limit)
+    ask_within(rt, engine, start, limit);
 }
 
 // Answers a question whose command has the words that it takes.
-fn ask_question<R: Env + Files + Print>(rt: &R, err: &impl Print, asked: usize) -> io::Result<()> {
+fn ask_question(rt: HostRuntime, asked: usize) {
     if asked == PAIR || asked == AHEAD {
-        ask_pair_with_numbers(rt, err, asked)
+        ask_pair_with_numbers(rt, asked)
     } else if asked == ROUTES {
-        ask_routes(rt, err, Engine::First)
+        ask_routes(rt, Engine::First)
     } else if asked == ROUTES2 {
-        ask_routes(rt, err, Engine::Second)
+        ask_routes(rt, Engine::Second)
     } else {
-        ask_with_numbers(rt, err, asked)
+        ask_with_numbers(rt, asked)
     }
 }
 
 // Answers the command, by the table of questions.
-fn command<R: Env + Files + Print>(rt: &R, err: &impl Print, table: &[u8]) -> io::Result<()> {
+fn command(rt: HostRuntime, table: &[u8]) {
     let asked = question(rt, table);
     if asked == HELP {
-        return rt.write_all(table);
+        let _ = rt.stdout().write_all(table);
+        return;
     }
     if asked == NO_QUESTION {
-        return wrong(rt, err, b"unknown question", QUESTION);
+        wrong(rt, b"unknown question", QUESTION);
+        return;
     }
-    if is_counted(rt, err, table, asked)? {
-        ask_question(rt, err, asked)?;
+    if is_counted(rt, table, asked) {
+        ask_question(rt, asked);
     }
-    Ok(())
 }
 
-fn main(rt: HostRuntime) -> io::Result<()> {
-    command(&rt, &rt.stderr(), &QUESTIONS)
+fn main(rt: HostRuntime) {
+    command(rt, &QUESTIONS);
 }

@@ -8,7 +8,7 @@ use crate::{
 };
 use octets::{byte_at, least, u32_at};
 use std::io;
-use std::io::Read;
+use std::io::{Read, Stderr, Stdout};
 use text::{line, write_number};
 use transfer::finishing::finish;
 use transfer::opening::{nothing_opened, opening};
@@ -97,31 +97,31 @@ fn called(state: State, call: usize, bytes: &[u8], room: &mut [u8]) -> Step {
 }
 
 // The number and the place of an answer, on a line.
-fn answer_line(out: &impl Print, verdict: Verdict) -> io::Result<()> {
-    write_number(out, verdict.number())?;
-    line(out, b"", verdict.place())
+fn answer_line(out: Stdout, verdict: Verdict) {
+    write_number(out, verdict.number());
+    line(out, b"", verdict.place());
 }
 
 // Makes a call that is lent so much of the room, or all of it where that is less, and prints its answer. It answers the state after it.
 fn call_answered(
-    out: &impl Print,
+    out: Stdout,
     state: State,
     call: usize,
     lent: usize,
     bytes: &[u8],
     room: &mut [u8],
-) -> io::Result<State> {
+) -> State {
     let part = least(lent, room.len());
     let step = called(state, call, bytes, &mut room[..part]);
     let verdict = step.verdict;
-    answer_line(out, verdict)?;
-    Ok(step.state)
+    answer_line(out, verdict);
+    step.state
 }
 
 // ---- the calls of a case
 
 // Says that a case ends inside a call, as `stop` does.
-fn stop_inside_call(err: &impl Print) -> io::Result<bool> {
+fn stop_inside_call(err: Stderr) -> io::Result<bool> {
     stop(err, b"yardbatch: the calls of a case end inside a call\n")
 }
 
@@ -139,8 +139,8 @@ fn stopped(state: State, said: bool) -> Loaded
 // Reads the bytes of the call that begins with a head, and answers it. So many bytes of the calls are left after it.
 fn call_with(
     input: &mut impl Read,
-    out: &impl Print,
-    err: &impl Print,
+    out: Stdout,
+    err: Stderr,
     state: State,
     head: &[u8],
     left: usize,
@@ -162,7 +162,7 @@ fn call_with(
     if read_full(input, bytes)? < bytes.len() {
         return Ok(stopped(state, stop_inside(err)?));
     }
-    let next = call_answered(out, state, call, u32_at(head, CALL_LENT), bytes, room)?;
+    let next = call_answered(out, state, call, u32_at(head, CALL_LENT), bytes, room);
     Ok(Loaded {
         state: next,
         left,
@@ -173,8 +173,8 @@ fn call_with(
 // The same, where so many bytes of the calls are left after the head.
 fn call_of(
     input: &mut impl Read,
-    out: &impl Print,
-    err: &impl Print,
+    out: Stdout,
+    err: Stderr,
     state: State,
     head: &[u8],
     left: usize,
@@ -208,8 +208,8 @@ fn call_of(
 // Reads and answers the next call, where some bytes of the calls are left.
 fn next_call(
     input: &mut impl Read,
-    out: &impl Print,
-    err: &impl Print,
+    out: Stdout,
+    err: Stderr,
     state: State,
     left: usize,
     bytes: &mut [u8],
@@ -231,8 +231,8 @@ fn next_call(
 // Reads and answers the calls of a case, of n bytes.
 fn calls_answered(
     input: &mut impl Read,
-    out: &impl Print,
-    err: &impl Print,
+    out: Stdout,
+    err: Stderr,
     n: usize,
     bytes: &mut [u8],
     room: &mut [u8],
@@ -251,17 +251,17 @@ fn calls_answered(
 // ---- a case
 
 // What is printed after the calls: the next byte due, the checksum of the room, and the empty line that ends a case.
-fn end_lines(out: &impl Print, state: State, room: &[u8]) -> io::Result<()> {
-    line(out, b"due", state.due)?;
-    line(out, b"room", checksum::of(room))?;
+fn end_lines(out: Stdout, state: State, room: &[u8]) -> io::Result<()> {
+    line(out, b"due", state.due);
+    line(out, b"room", checksum::of(room));
     out.write_all(b"\n")
 }
 
 // Answers a case, with room for the bytes of a call and for the file. It answers whether there may be a next case.
 fn case_in(
     input: &mut impl Read,
-    out: &impl Print,
-    err: &impl Print,
+    out: Stdout,
+    err: Stderr,
     head: &[u8],
     bytes: &mut [u8],
     room: &mut [u8],
@@ -278,12 +278,7 @@ fn case_in(
 }
 
 // Answers the case of load that begins with a head. It answers whether there may be a next case.
-pub fn case_of(
-    input: &mut impl Read,
-    out: &impl Print,
-    err: &impl Print,
-    head: &[u8],
-) -> io::Result<bool> {
+pub fn case_of(input: &mut impl Read, out: Stdout, err: Stderr, head: &[u8]) -> io::Result<bool> {
     let size = u32_at(head, NUMBERS);
     if ROOM_MOST < size {
         return stop(

@@ -17,7 +17,7 @@ use listings::{MOST_ROOM, NO_ROOM};
 use octets::{byte_at, least, u32_at};
 use route_question::Engine;
 use std::io;
-use std::io::Read;
+use std::io::{Read, Stderr, Stdout};
 
 mod load;
 
@@ -77,13 +77,13 @@ const LIES_ROOM: usize = LIES + 1;
 const PART: usize = 4096;
 
 // Says why the run ends. It answers false: there is no next case.
-fn stop(err: &impl Print, why: &[u8]) -> io::Result<bool> {
+fn stop(err: Stderr, why: &[u8]) -> io::Result<bool> {
     err.write_all(why)?;
     Ok(false)
 }
 
 // The same, where the input ends too early.
-fn stop_inside(err: &impl Print) -> io::Result<bool> {
+fn stop_inside(err: Stderr) -> io::Result<bool> {
     stop(err, b"yardbatch: the input ends inside a case\n")
 }
 
@@ -138,13 +138,7 @@ fn read_file(input: &mut impl Read, room: &mut [u8], n: usize) -> io::Result<boo
 }
 
 // The list of routes of a case that lends as many words, by an engine. It answers the number of the answer.
-fn listed(
-    out: &impl Print,
-    engine: Engine,
-    head: &[u8],
-    f: &[u8],
-    words: usize,
-) -> io::Result<usize> {
+fn listed(out: Stdout, engine: Engine, head: &[u8], f: &[u8], words: usize) -> usize {
     let start = u32_at(head, NUMBERS);
     let limit = u32_at(head, NUMBERS + NUMBER);
     let budget = u32_at(head, NUMBERS + 2 * NUMBER);
@@ -153,14 +147,14 @@ fn listed(
 
 // Answers the question routes, by an engine. It answers whether it could.
 fn routes_answered(
-    out: &impl Print,
-    err: &impl Print,
+    out: Stdout,
+    err: Stderr,
     engine: Engine,
     head: &[u8],
     f: &[u8],
 ) -> io::Result<bool> {
     let words = u32_at(head, NUMBERS + 3 * NUMBER);
-    let number = listed(out, engine, head, f, words)?;
+    let number = listed(out, engine, head, f, words);
     if number == NO_ROOM && MOST_ROOM < words {
         return stop(
             err,
@@ -171,89 +165,77 @@ fn routes_answered(
 }
 
 // Answers a question about a whole file or a pair, and says whether it is one.
-fn file_answered(
-    out: &impl Print,
-    question: usize,
-    first: &[u8],
-    second: &[u8],
-) -> io::Result<bool> {
+fn file_answered(out: Stdout, question: usize, first: &[u8], second: &[u8]) -> bool {
     if question == X1 {
-        answers::x1(out, first)?;
-        return Ok(true);
+        answers::x1(out, first);
+        return true;
     }
     if question == X2 {
-        answers::x2(out, first)?;
-        return Ok(true);
+        answers::x2(out, first);
+        return true;
     }
     if question == PAIR {
-        answers::pair(out, first, second)?;
-        return Ok(true);
+        answers::pair(out, first, second);
+        return true;
     }
     if question == HEADER1 {
-        answers::header1(out, first)?;
-        return Ok(true);
+        answers::header1(out, first);
+        return true;
     }
     if question == HEADER2 {
-        answers::header2(out, first)?;
-        return Ok(true);
+        answers::header2(out, first);
+        return true;
     }
     if question == X1_VERSION_1 {
-        answers::x1_version_1(out, first)?;
-        return Ok(true);
+        answers::x1_version_1(out, first);
+        return true;
     }
-    Ok(false)
+    false
 }
 
 // Answers a question about what a file holds, by its numbers, and says whether it is one.
-fn part_answered(out: &impl Print, question: usize, head: &[u8], first: &[u8]) -> io::Result<bool> {
+fn part_answered(out: Stdout, question: usize, head: &[u8], first: &[u8]) -> bool {
     let a = u32_at(head, NUMBERS);
     let b = u32_at(head, NUMBERS + NUMBER);
     if question == TRACK {
-        answers::track(out, first, a)?;
-        return Ok(true);
+        answers::track(out, first, a);
+        return true;
     }
     if question == POINT {
-        answers::point(out, first, a, b)?;
-        return Ok(true);
+        answers::point(out, first, a, b);
+        return true;
     }
     if question == COORDINATE {
-        answers::coordinate(out, first, a, b)?;
-        return Ok(true);
+        answers::coordinate(out, first, a, b);
+        return true;
     }
     if question == RECORD {
-        answers::record(out, first, a)?;
-        return Ok(true);
+        answers::record(out, first, a);
+        return true;
     }
     if question == DEGREES {
-        answers::degrees(out, first, a, b)?;
-        return Ok(true);
+        answers::degrees(out, first, a, b);
+        return true;
     }
     if question == POINT_DEGREES {
-        answers::point_degrees(out, first, a, b)?;
-        return Ok(true);
+        answers::point_degrees(out, first, a, b);
+        return true;
     }
-    Ok(false)
+    false
 }
 
 // Answers the question ahead.
-fn ahead_answered(
-    out: &impl Print,
-    head: &[u8],
-    first: &[u8],
-    second: &[u8],
-    lies: &[u8],
-) -> io::Result<()> {
+fn ahead_answered(out: Stdout, head: &[u8], first: &[u8], second: &[u8], lies: &[u8]) {
     let offset = u32_at(head, NUMBERS);
     let link = u32_at(head, NUMBERS + NUMBER);
     let room = u32_at(head, NUMBERS + 3 * NUMBER);
-    answers::ahead(out, first, second, offset, link, lies, room)?;
-    Ok(())
+    answers::ahead(out, first, second, offset, link, lies, room);
 }
 
 // Answers the question of a case. It answers whether it could.
 fn answered(
-    out: &impl Print,
-    err: &impl Print,
+    out: Stdout,
+    err: Stderr,
     head: &[u8],
     first: &[u8],
     second: &[u8],
@@ -267,13 +249,13 @@ fn answered(
         return routes_answered(out, err, Engine::Second, head, first);
     }
     if question == AHEAD {
-        ahead_answered(out, head, first, second, lies)?;
+        ahead_answered(out, head, first, second, lies);
         return Ok(true);
     }
-    if file_answered(out, question, first, second)? {
+    if file_answered(out, question, first, second) {
         return Ok(true);
     }
-    if part_answered(out, question, head, first)? {
+    if part_answered(out, question, head, first) {
         return Ok(true);
     }
     stop(err, b"yardbatch: unknown question\n")
@@ -282,8 +264,8 @@ fn answered(
 // Reads the files and the lies of a case, of n, m and k bytes, and answers it. It answers whether there may be a next case.
 fn case_in(
     input: &mut impl Read,
-    out: &impl Print,
-    err: &impl Print,
+    out: Stdout,
+    err: Stderr,
     head: &[u8],
     first: &mut [u8],
     n: usize,
@@ -311,8 +293,8 @@ fn case_in(
 // The same, with room for the two files and the lies, where the second file has m bytes and there are k lies.
 fn case_with(
     input: &mut impl Read,
-    out: &impl Print,
-    err: &impl Print,
+    out: Stdout,
+    err: Stderr,
     head: &[u8],
     m: usize,
     k: usize,
@@ -347,12 +329,7 @@ fn lies_of(head: &[u8]) -> usize {
 }
 
 // Answers the case that begins with a head. It answers whether there may be a next case.
-fn case_of(
-    input: &mut impl Read,
-    out: &impl Print,
-    err: &impl Print,
-    head: &[u8],
-) -> io::Result<bool> {
+fn case_of(input: &mut impl Read, out: Stdout, err: Stderr, head: &[u8]) -> io::Result<bool> {
     if byte_at(head, 0) == LOAD {
         return load::case_of(input, out, err, head);
     }
@@ -365,7 +342,7 @@ fn case_of(
 }
 
 // Reads and answers a case. It answers whether there may be a next one.
-fn next_case(input: &mut impl Read, out: &impl Print, err: &impl Print) -> io::Result<bool> {
+fn next_case(input: &mut impl Read, out: Stdout, err: Stderr) -> io::Result<bool> {
     let mut head = [0u8; HEAD];
     let got = read_full(input, &mut head)?;
     if got == 0 {
@@ -381,7 +358,7 @@ fn next_case(input: &mut impl Read, out: &impl Print, err: &impl Print) -> io::R
 fn main(rt: HostRuntime) -> io::Result<()> {
     let mut input = rt.stdin();
     for _ in 0..u64::MAX {
-        if !next_case(&mut input, &rt, &rt.stderr())? {
+        if !next_case(&mut input, rt.stdout(), rt.stderr())? {
             break;
         }
     }

@@ -28,6 +28,6 @@ fn read_full(input: &mut impl Read, room: &mut [u8]) -> io::Result<usize>
 fn main(rt: HostRuntime) -> io::Result<()> {
     let mut room = [0u8; ROOM];
     let n = read_full(&mut rt.stdin(), &mut room)?;
-    listings::list(&rt, &room[..n])?;
+    listings::list(rt.stdout(), &room[..n]);
     Ok(())
 }

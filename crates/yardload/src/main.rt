@@ -12,7 +12,7 @@ use loading::said::{say, say_number, wrong, wrong_word};
 use octets::{least, less, u32_at};
 use std::env::FillError;
 use std::io;
-use std::io::Read;
+use std::io::{Read, Stderr, Stdout};
 use std::rt::Env;
 use transfer::opening::nothing_opened;
 use transfer::{Identity, State};
@@ -78,16 +78,16 @@ fn piece_room() -> [u8; PIECE_ROOM]
 // ---- standard error
 
 // A piece that is longer than there is room for.
-fn long_line(err: &impl Print, number: usize, n: usize) -> io::Result<()> {
-    say(err, b"piece ")?;
-    say_number(err, number)?;
-    say(err, b" has ")?;
-    say_number(err, n)?;
-    say(err, b" bytes, more than this program holds\n")
+fn long_line(err: Stderr, number: usize, n: usize) {
+    say(err, b"piece ");
+    say_number(err, number);
+    say(err, b" has ");
+    say_number(err, n);
+    say(err, b" bytes, more than this program holds\n");
 }
 
 // What became of the file, as the end of a line.
-fn say_end(err: &impl Print, end: End) -> io::Result<()> {
+fn say_end(err: Stderr, end: End) {
     match end {
         End::Printed => say(err, b", file printed\n"),
         End::PrintedInPart => say(err, b", file not printed whole\n"),
@@ -96,24 +96,17 @@ fn say_end(err: &impl Print, end: End) -> io::Result<()> {
 }
 
 // The last line: how many pieces were taken, how many bytes have come, and what became of the file.
-fn end_line(
-    err: &impl Print,
-    taken: usize,
-    pieces: usize,
-    due: usize,
-    total: usize,
-    end: End,
-) -> io::Result<()> {
-    say(err, b"end: ")?;
-    say_number(err, taken)?;
-    say(err, b" of ")?;
-    say_number(err, pieces)?;
-    say(err, b" pieces taken, ")?;
-    say_number(err, due)?;
-    say(err, b" of ")?;
-    say_number(err, total)?;
-    say(err, b" bytes")?;
-    say_end(err, end)
+fn end_line(err: Stderr, taken: usize, pieces: usize, due: usize, total: usize, end: End) {
+    say(err, b"end: ");
+    say_number(err, taken);
+    say(err, b" of ");
+    say_number(err, pieces);
+    say(err, b" pieces taken, ");
+    say_number(err, due);
+    say(err, b" of ");
+    say_number(err, total);
+    say(err, b" bytes");
+    say_end(err, end);
 }
 
 // ---- pieces
@@ -157,22 +150,22 @@ fn taken(run: Run, state: State) -> Run {
 }
 
 // Hands a piece to the loader. It is said where it is refused.
-fn handed(err: &impl Print, run: Run, piece: &[u8], room: &mut [u8]) -> io::Result<Run> {
+fn handed(err: Stderr, run: Run, piece: &[u8], room: &mut [u8]) -> Run {
     let step = transfer::pieces::piece(run.state, piece, room);
     let verdict = step.verdict;
     match verdict {
-        Verdict::Accepted => Ok(taken(run, step.state)),
+        Verdict::Accepted => taken(run, step.state),
         Verdict::Refused(fault) => {
-            piece_refused(err, run.pieces.wrapping_add(1), fault)?;
-            Ok(not_taken(run, 0))
+            piece_refused(err, run.pieces.wrapping_add(1), fault);
+            not_taken(run, 0)
         }
     }
 }
 
 // Says that a piece of n bytes cannot be held.
-fn not_held(err: &impl Print, run: Run, n: usize) -> io::Result<Run> {
-    long_line(err, run.pieces.wrapping_add(1), n)?;
-    Ok(not_taken(run, n))
+fn not_held(err: Stderr, run: Run, n: usize) -> Run {
+    long_line(err, run.pieces.wrapping_add(1), n);
+    not_taken(run, n)
 }
 
 // Passes over bytes of a piece that cannot be held, as many as there is room for at once.
@@ -204,19 +197,19 @@ fn ended(run: Run) -> Run {
 // Reads a piece that has just the room that it takes, as far as the input has it, and hands it on.
 fn read_piece(
     input: &mut impl Read,
-    err: &impl Print,
+    err: Stderr,
     run: Run,
     piece: &mut [u8],
     room: &mut [u8],
 ) -> io::Result<Run> {
     let got = read_full(input, piece)?;
-    handed(err, run, &piece[..got], room)
+    Ok(handed(err, run, &piece[..got], room))
 }
 
 // Reads the next piece, with its length, or passes over more of the one before it.
 fn next(
     input: &mut impl Read,
-    err: &impl Print,
+    err: Stderr,
     run: Run,
     piece: &mut [u8],
     room: &mut [u8],
@@ -230,11 +223,11 @@ fn next(
         return Ok(ended(run));
     }
     if got < LENGTH {
-        return handed(err, run, &length[..0], room);
+        return Ok(handed(err, run, &length[..0], room));
     }
     let n = u32_at(&length, 0);
     if piece.len() < n {
-        return not_held(err, run, n);
+        return Ok(not_held(err, run, n));
     }
     read_piece(input, err, run, &mut piece[..n], room)
 }
@@ -242,7 +235,7 @@ fn next(
 // Hands on every piece of the input. A proved loop has to end, and nothing says that the input does: it stops after as many pieces as no run has.
 fn gathered(
     input: &mut impl Read,
-    err: &impl Print,
+    err: Stderr,
     state: State,
     piece: &mut [u8],
     room: &mut [u8],
@@ -266,21 +259,21 @@ fn gathered(
 // ---- the file
 
 // Prints the file where finishing is accepted. It is said where it is refused.
-fn printed(out: &impl Print, err: &impl Print, state: State, room: &[u8]) -> io::Result<End> {
+fn printed(out: Stdout, err: Stderr, state: State, room: &[u8]) -> End {
     let verdict = transfer::finishing::finish(state, room);
     let identity = state.identity;
     let total = identity.total;
     match verdict {
         Verdict::Accepted => {
             if out.write_all(&room[..total]).is_ok() {
-                Ok(End::Printed)
+                End::Printed
             } else {
-                Ok(End::PrintedInPart)
+                End::PrintedInPart
             }
         }
         Verdict::Refused(fault) => {
-            finishing_refused(err, fault)?;
-            Ok(End::Nothing)
+            finishing_refused(err, fault);
+            End::Nothing
         }
     }
 }
@@ -288,8 +281,8 @@ fn printed(out: &impl Print, err: &impl Print, state: State, room: &[u8]) -> io:
 // Loads the file of a transfer that is opened.
 fn load(
     input: &mut impl Read,
-    out: &impl Print,
-    err: &impl Print,
+    out: Stdout,
+    err: Stderr,
     state: State,
     room: &mut [u8],
 ) -> io::Result<()> {
@@ -297,25 +290,22 @@ fn load(
     let run = gathered(input, err, state, &mut piece, room)?;
     let last = run.state;
     let identity = last.identity;
-    let end = printed(out, err, last, room)?;
-    end_line(err, run.taken, run.pieces, last.due, identity.total, end)
+    let end = printed(out, err, last, room);
+    end_line(err, run.taken, run.pieces, last.due, identity.total, end);
+    Ok(())
 }
 
 // Opens a transfer and loads its file. It is said where the opening is refused, and then nothing is read.
-fn opened(
-    input: &mut impl Read,
-    out: &impl Print,
-    err: &impl Print,
-    identity: Identity,
-) -> io::Result<()> {
+fn opened(input: &mut impl Read, out: Stdout, err: Stderr, identity: Identity) -> io::Result<()> {
     let mut room = [0u8; FILE_ROOM];
     let step = transfer::opening::opening(nothing_opened(), identity, room.len());
     let verdict = step.verdict;
     match verdict {
         Verdict::Accepted => load(input, out, err, step.state, &mut room),
         Verdict::Refused(fault) => {
-            opening_refused(err, fault)?;
-            end_line(err, 0, 0, 0, identity.total, End::Nothing)
+            opening_refused(err, fault);
+            end_line(err, 0, 0, 0, identity.total, End::Nothing);
+            Ok(())
         }
     }
 }
@@ -323,7 +313,7 @@ fn opened(
 // ---- the command
 
 // How many words the command has, the program's own name being the first of them.
-fn word_count(rt: &impl Env) -> usize {
+fn word_count(rt: HostRuntime) -> usize {
     for i in 0..usize::MAX {
         if let Err(FillError::NotPresent) = rt.arg(i, &mut []) {
             return i;
@@ -333,16 +323,16 @@ fn word_count(rt: &impl Env) -> usize {
 }
 
 // The number that a word of the command is. It is said where it is none.
-fn number(rt: &impl Env, err: &impl Print, i: usize) -> io::Result<usize> {
+fn number(rt: HostRuntime, i: usize) -> usize {
     let mut word = [0u8; NUMBER_ROOM];
     if let Ok(n) = rt.arg(i, &mut word) {
         let found = number_in(&word[..n], NUMBER_MOST);
         if found < NO_NUMBER {
-            return Ok(found);
+            return found;
         }
     }
-    wrong_word(rt, err, &NAME, b"no number below 4294967296:", i)?;
-    Ok(NO_NUMBER)
+    wrong_word(rt, &NAME, b"no number below 4294967296:", i);
+    NO_NUMBER
 }
 
 // Whether each number of an identity is one.
@@ -355,23 +345,23 @@ fn is_given(i: Identity) -> bool {
 }
 
 fn main(rt: HostRuntime) -> io::Result<()> {
-    let err = rt.stderr();
-    if word_count(&rt) != WORDS {
-        return wrong(
-            &err,
+    if word_count(rt) != WORDS {
+        wrong(
+            rt.stderr(),
             &NAME,
             b"too few or too many words; it is asked by yardload STATION TYPE VERSION TOTAL TRAILER <PIECES",
         );
+        return Ok(());
     }
     let identity = Identity {
-        station: number(&rt, &err, STATION)?,
-        kind: number(&rt, &err, KIND)?,
-        version: number(&rt, &err, VERSION)?,
-        total: number(&rt, &err, TOTAL)?,
-        trailer: number(&rt, &err, TRAILER)?,
+        station: number(rt, STATION),
+        kind: number(rt, KIND),
+        version: number(rt, VERSION),
+        total: number(rt, TOTAL),
+        trailer: number(rt, TRAILER),
     };
     if is_given(identity) {
-        opened(&mut rt.stdin(), &rt, &err, identity)?;
+        opened(&mut rt.stdin(), rt.stdout(), rt.stderr(), identity)?;
     }
     Ok(())
 }

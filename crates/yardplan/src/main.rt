@@ -3,7 +3,7 @@
 // is said on standard error.
 #![tactic(auto)]
 
-ghost use Rattle.std.specs.Prelude.{◌≡◌, ◌≤◌, length, IfOk, IfSome, OnOk};
+ghost use Rattle.std.specs.Prelude.{◌≡◌, ◌≤◌, length, IfOk, IfSome};
 ghost use Rattle.plan_reading.specs.ReadPlan.{plan_read, named_by, named_in};
 
 use decimal::number_in;
@@ -14,8 +14,9 @@ use plan_reading::{NO_START, Reading, Said, take};
 use plan_routes::{is_apart, route_end};
 use route_question::Engine;
 use std::env::FillError;
-use std::io::Read;
-use std::rt::{Env, Files};
+use std::fs::File;
+use std::io::{Read, Stderr, Stdout};
+use std::rt::Env;
 use std::{fs, io, str};
 use text::{head, line, write, write_number};
 use verdict::Fault;
@@ -81,37 +82,39 @@ struct Question {
 // ---- standard error
 
 // Some text.
-fn say(err: &impl Print, text: &[u8]) -> io::Result<()> {
-    err.write_all(text)
+fn say(err: Stderr, text: &[u8]) {
+    let _ = err.write_all(text);
 }
 
 // What is wrong with the command.
-fn wrong(err: &impl Print, why: &[u8]) -> io::Result<()> {
-    say(err, b"yardplan: ")?;
-    say(err, why)?;
-    say(err, b"\n")
+fn wrong(err: Stderr, why: &[u8]) {
+    say(err, b"yardplan: ");
+    say(err, why);
+    say(err, b"\n");
 }
 
 // What is wrong with a word of it.
-fn wrong_word(rt: &impl Env, err: &impl Print, why: &[u8], i: usize) -> io::Result<()> {
+fn wrong_word(rt: HostRuntime, why: &[u8], i: usize) {
     let mut word = [0u8; WORD_ROOM];
     let n = rt.arg(i, &mut word).unwrap_or(0);
-    say(err, b"yardplan: ")?;
-    say(err, why)?;
-    say(err, b" '")?;
-    say(err, &word[..n])?;
-    say(err, b"'\n")
+    say(rt.stderr(), b"yardplan: ");
+    say(rt.stderr(), why);
+    say(rt.stderr(), b" '");
+    say(rt.stderr(), &word[..n]);
+    say(rt.stderr(), b"'\n");
 }
 
 // What is wrong with a line of the plan.
-fn wrong_line(err: &impl Print, number: usize, why: &[u8]) -> io::Result<()> {
-    print!(err; "yardplan: line {number} of the plan: ")?;
-    say(err, why)?;
-    say(err, b"\n")
+fn wrong_line(err: Stderr, number: usize, why: &[u8]) {
+    say(err, b"yardplan: line ");
+    let _ = print!(err; "{number}");
+    say(err, b" of the plan: ");
+    say(err, why);
+    say(err, b"\n");
 }
 
 // The same, by what it is.
-fn slip_line(err: &impl Print, number: usize, slip: Slip) -> io::Result<()> {
+fn slip_line(err: Stderr, number: usize, slip: Slip) {
     match slip {
         Slip::From => wrong_line(err, number, b"'from' takes one offset from 0 to 65535"),
         Slip::Word => wrong_line(err, number, b"a word is no offset from 0 to 65535"),
@@ -130,29 +133,23 @@ fn slip_line(err: &impl Print, number: usize, slip: Slip) -> io::Result<()> {
 // ---- the plan
 
 // Names the start that a line names, or says what is wrong with the line.
-fn tell(err: &impl Print, number: usize, said: Said, named: &mut [bool; STARTS]) -> io::Result<()>
+fn tell(err: Stderr, number: usize, said: Said, named: &mut [bool; STARTS])
     ensures { named.new ≡ named_by said named.old }
 {
     match said {
         Said::Nothing => {}
         Said::Start(start) => named[start as usize] = true,
         Said::Route(start) => named[start as usize] = true,
-        Said::Wrong(slip) => return slip_line(err, number, slip),
+        Said::Wrong(slip) => slip_line(err, number, slip),
     }
-    Ok(())
 }
 
 // Reads a plan: its routes go to the front of `plan`, and its starts are named. It answers how many words the routes take.
-fn read_plan(
-    err: &impl Print,
-    text: &[u8],
-    plan: &mut [u16],
-    named: &mut [bool; STARTS],
-) -> io::Result<usize>
-    ensures value { IfOk result (λ words. words ≡ (plan_read text.now plan.old).reading.words) }
-    ensures plan_after { OnOk result (plan.new ≡ (plan_read text.now plan.old).lent) }
-    ensures named_after { OnOk result (named.new ≡ named_in text.now plan.old named.old) }
-    ensures upper_bound { IfOk result (λ words. words ≤ length plan.new) }
+fn read_plan(err: Stderr, text: &[u8], plan: &mut [u16], named: &mut [bool; STARTS]) -> usize
+    ensures value { result ≡ (plan_read text.now plan.old).reading.words }
+    ensures plan_after { plan.new ≡ (plan_read text.now plan.old).lent }
+    ensures named_after { named.new ≡ named_in text.now plan.old named.old }
+    ensures upper_bound { result ≤ length plan.new }
 {
     let mut r = Reading {
         start: NO_START,
@@ -165,75 +162,55 @@ fn read_plan(
         let taken = take(&text[at..end], r, plan);
         let said = taken.said;
         lines += 1;
-        tell(err, lines, said, named)?;
+        tell(err, lines, said, named);
         r = taken.reading;
         at = end + 1;
     }
-    Ok(r.words)
+    r.words
 }
 
 // ---- standard output
 
 // A route after its word, on a line.
-fn route_line(out: &impl Print, name: &[u8], route: &[u16]) -> io::Result<()> {
-    write(out, name)?;
+fn route_line(out: Stdout, name: &[u8], route: &[u16]) {
+    write(out, name);
     for offset in route {
-        write(out, b" ")?;
-        write_number(out, *offset as usize)?;
+        write(out, b" ");
+        write_number(out, *offset as usize);
     }
-    write(out, b"\n")
+    write(out, b"\n");
 }
 
 // Of the routes in some words those that are from a start and do not stand among others, or all but those; a line for each.
-fn route_lines(
-    out: &impl Print,
-    name: &[u8],
-    words: &[u16],
-    start: usize,
-    others: &[u16],
-    apart: bool,
-) -> io::Result<()> {
+fn route_lines(out: Stdout, name: &[u8], words: &[u16], start: usize, others: &[u16], apart: bool) {
     let mut at = 0;
     while at < words.len() {
         let end = route_end(words, at);
         let route = &words[at + 1..end];
         if is_apart(route, start, others) == apart {
-            route_line(out, name, route)?;
+            route_line(out, name, route);
         }
         at = end;
     }
-    Ok(())
 }
 
 // How list and plan differ, and the routes of both, those that are missing and those that are extra.
-fn differing_lines(
-    out: &impl Print,
-    c: Compared,
-    start: usize,
-    plan: &[u16],
-    list: &[u16],
-) -> io::Result<()> {
-    write(out, b" differs both ")?;
-    write_number(out, less(c.routes, c.extra))?;
-    write(out, b" missing ")?;
-    write_number(out, c.missing)?;
-    line(out, b" extra", c.extra)?;
-    route_lines(out, b"both", list, start, plan, false)?;
-    route_lines(out, b"missing", plan, start, list, true)?;
-    route_lines(out, b"extra", list, start, plan, true)
+fn differing_lines(out: Stdout, c: Compared, start: usize, plan: &[u16], list: &[u16]) {
+    write(out, b" differs both ");
+    write_number(out, less(c.routes, c.extra));
+    write(out, b" missing ");
+    write_number(out, c.missing);
+    line(out, b" extra", c.extra);
+    route_lines(out, b"both", list, start, plan, false);
+    route_lines(out, b"missing", plan, start, list, true);
+    route_lines(out, b"extra", list, start, plan, true);
 }
 
 // What a list and the plan are to each other.
-fn compared_lines(
-    out: &impl Print,
-    c: Compared,
-    start: usize,
-    plan: &[u16],
-    list: &[u16],
-) -> io::Result<()> {
+fn compared_lines(out: Stdout, c: Compared, start: usize, plan: &[u16], list: &[u16]) {
     if c.missing == 0 && c.extra == 0 {
-        write(out, b" agrees ")?;
-        write_number(out, c.routes)?;
+        write(out, b" agrees ");
+        write_number(out, c.routes);
         write(out, b" routes\n")
     } else {
         differing_lines(out, c, start, plan, list)
@@ -241,20 +218,13 @@ fn compared_lines(
 }
 
 // Why routes are refused.
-fn refused_line(out: &impl Print, fault: Fault) -> io::Result<()> {
+fn refused_line(out: Stdout, fault: Fault) {
     let reason = fault.reason;
-    line(out, b" refused", reason.number())
+    line(out, b" refused", reason.number());
 }
 
 // What is answered of a start, with the words that are lent for the list.
-fn answer_lines(
-    out: &impl Print,
-    f: &[u8],
-    start: usize,
-    q: Question,
-    plan: &[u16],
-    list: &mut [u16],
-) -> io::Result<()> {
+fn answer_lines(out: Stdout, f: &[u8], start: usize, q: Question, plan: &[u16], list: &mut [u16]) {
     let by = q.engine;
     match plan_question::compare(by, f, start, q.limit, q.budget, plan, list) {
         PlanAnswer::Compared(c) => {
@@ -266,77 +236,59 @@ fn answer_lines(
 }
 
 // The routes from a start beside the plan.
-fn start_lines(
-    out: &impl Print,
-    f: &[u8],
-    start: usize,
-    q: Question,
-    plan: &[u16],
-) -> io::Result<()> {
-    write(out, b"from ")?;
-    write_number(out, start)?;
+fn start_lines(out: Stdout, f: &[u8], start: usize, q: Question, plan: &[u16]) {
+    write(out, b"from ");
+    write_number(out, start);
     let mut list = [0u16; MOST_ROOM];
     let room = least(q.room, MOST_ROOM);
-    answer_lines(out, f, start, q, plan, &mut list[..room])
+    answer_lines(out, f, start, q, plan, &mut list[..room]);
 }
 
 // The same from each start that is named. It answers whether one is.
-fn every_start(
-    out: &impl Print,
-    f: &[u8],
-    q: Question,
-    plan: &[u16],
-    named: &[bool; STARTS],
-) -> io::Result<bool> {
+fn every_start(out: Stdout, f: &[u8], q: Question, plan: &[u16], named: &[bool; STARTS]) -> bool {
     let mut some = false;
     for start in 0..STARTS {
         if named[start] {
             some = true;
-            start_lines(out, f, start, q, plan)?;
+            start_lines(out, f, start, q, plan);
         }
     }
-    Ok(some)
+    some
 }
 
 // Compares an X.2 file with a plan, with room for the words of its routes.
 fn compare_with(
-    out: &impl Print,
-    err: &impl Print,
+    out: Stdout,
+    err: Stderr,
     f: &[u8],
     text: &[u8],
     q: Question,
     plan: &mut [u16],
     named: &mut [bool; STARTS],
-) -> io::Result<()> {
-    let words = read_plan(err, text, plan, named)?;
-    if !every_start(out, f, q, &plan[..words], named)? {
-        wrong(err, b"the plan names no start")?;
+) {
+    let words = read_plan(err, text, plan, named);
+    if !every_start(out, f, q, &plan[..words], named) {
+        wrong(err, b"the plan names no start");
     }
-    Ok(())
 }
 
 // Compares an X.2 file with a plan.
-fn compare(
-    out: &impl Print,
-    err: &impl Print,
-    f: &[u8],
-    text: &[u8],
-    q: Question,
-) -> io::Result<()> {
+fn compare(out: Stdout, err: Stderr, f: &[u8], text: &[u8], q: Question) {
     let v = x2_verdict::verdict_of(f);
-    head(out, b"verdict", v.number(), v.place())?;
+    head(out, b"verdict", v.number(), v.place());
     if PLAN_ROOM <= text.len() {
-        return wrong(err, b"the plan is longer than 1048576 bytes");
+        wrong(err, b"the plan is longer than 1048576 bytes");
+        return;
     }
     let mut named = [false; STARTS];
     let mut plan = [0u16; PLAN_WORDS];
-    compare_with(out, err, f, text, q, &mut plan, &mut named)
+    compare_with(out, err, f, text, q, &mut plan, &mut named);
 }
 
 // ---- the command
 
 // How many words the command has, the program's own name being the first of them.
-fn word_count(rt: &impl Env) -> usize {
+fn word_count(rt: HostRuntime) -> usize {
     for i in 0..usize::MAX {
         if let Err(FillError::NotPresent) = rt.arg(i, &mut []) {
             return i;
@@ -356,7 +308,7 @@ fn is_same(a: &[u8], b: &[u8]) -> bool {
 }
 
 // The engine that the last of the words picks, if it stands after both files.
-fn engine(rt: &impl Env, words: usize) -> Engine {
+fn engine(rt: HostRuntime, words: usize) -> Engine {
     if words <= WORDS_LEAST {
         return Engine::First;
     }
@@ -377,33 +329,27 @@ fn words_before(engine: Engine, words: usize) -> usize {
 
 // The number that a word of the command is, and what it is where that word is none of the first so many. It is said where the word is no
 // number.
-fn number(
-    rt: &impl Env,
-    err: &impl Print,
-    words: usize,
-    i: usize,
-    left_out: usize,
-) -> io::Result<usize> {
+fn number(rt: HostRuntime, words: usize, i: usize, left_out: usize) -> usize {
     if words <= i {
-        return Ok(left_out);
+        return left_out;
     }
     let mut word = [0u8; NUMBER_ROOM];
     if let Ok(n) = rt.arg(i, &mut word) {
         let found = number_in(&word[..n], NUMBER_MOST);
         if found < NO_NUMBER {
-            return Ok(found);
+            return found;
         }
     }
-    wrong_word(rt, err, b"no number below 4294967296:", i)?;
-    Ok(NO_NUMBER)
+    wrong_word(rt, b"no number below 4294967296:", i);
+    NO_NUMBER
 }
 
 // Opens the file that a word names.
-fn opened<R: Env + Files>(rt: &R, i: usize) -> Option<R::File> {
+fn opened(rt: HostRuntime, i: usize) -> Option<File> {
     let mut word = [0u8; WORD_ROOM];
     let n = rt.arg(i, &mut word).ok()?;
     let path = str::from_utf8(&word[..n]).ok()?;
-    fs::open(rt, path).ok()
+    fs::open(&rt, path).ok()
 }
 
 // Whether a file can be read further or has ended, and reading it does not fail.
@@ -428,77 +374,67 @@ fn read_full(input: &mut impl Read, room: &mut [u8]) -> io::Result<usize>
 }
 
 // Reads the file that a word names, as far as there is room, and says it where it cannot be read.
-fn read_file<R: Env + Files>(
-    rt: &R,
-    err: &impl Print,
-    i: usize,
-    room: &mut [u8],
-) -> io::Result<Option<usize>>
-    ensures { IfOk result (λ read. IfSome read (λ n. n ≤ length room.new)) }
+fn read_file(rt: HostRuntime, i: usize, room: &mut [u8]) -> Option<usize>
+    ensures { IfSome result (λ n. n ≤ length room.new) }
 {
     let Some(mut file) = opened(rt, i) else {
-        wrong_word(rt, err, b"cannot open the file", i)?;
-        return Ok(None);
+        wrong_word(rt, b"cannot open the file", i);
+        return None;
     };
     match read_full(&mut file, room) {
-        Ok(n) if reads_on(&mut file) => Ok(Some(n)),
+        Ok(n) if reads_on(&mut file) => Some(n),
         _ => {
-            wrong_word(rt, err, b"cannot read the file", i)?;
-            Ok(None)
+            wrong_word(rt, b"cannot read the file", i);
+            None
         }
     }
 }
 
 // Compares the files that the command names.
-fn compare_files<R: Env + Files + Print>(rt: &R, err: &impl Print, q: Question) -> io::Result<()> {
+fn compare_files(rt: HostRuntime, q: Question) {
     let mut file = [0u8; FILE_ROOM];
-    let Some(n) = read_file(rt, err, FILE, &mut file)? else {
-        return Ok(());
+    let Some(n) = read_file(rt, FILE, &mut file) else {
+        return;
     };
     let mut plan = [0u8; PLAN_ROOM];
-    let Some(m) = read_file(rt, err, PLAN, &mut plan)? else {
-        return Ok(());
+    let Some(m) = read_file(rt, PLAN, &mut plan) else {
+        return;
     };
-    compare(rt, err, &file[..n], &plan[..m], q)
+    compare(rt.stdout(), rt.stderr(), &file[..n], &plan[..m], q);
 }
 
 // The same, once the numbers of the command are numbers.
-fn command<R: Env + Files + Print>(
-    rt: &R,
-    err: &impl Print,
-    engine: Engine,
-    words: usize,
-) -> io::Result<()> {
+fn command(rt: HostRuntime, engine: Engine, words: usize) {
     let q = Question {
         engine: engine,
-        limit: number(rt, err, words, LIMIT, LIMIT_LEFT_OUT)?,
-        budget: number(rt, err, words, BUDGET, BUDGET_LEFT_OUT)?,
-        room: number(rt, err, words, ROOM, ROOM_LEFT_OUT)?,
+        limit: number(rt, words, LIMIT, LIMIT_LEFT_OUT),
+        budget: number(rt, words, BUDGET, BUDGET_LEFT_OUT),
+        room: number(rt, words, ROOM, ROOM_LEFT_OUT),
     };
     if q.limit == NO_NUMBER || q.budget == NO_NUMBER || q.room == NO_NUMBER {
-        return Ok(());
+        return;
     }
     if MOST_ROOM < q.room {
-        return wrong_word(
+        wrong_word(
             rt,
-            err,
             b"more words than the 65535 that this program has room for:",
             ROOM,
         );
+        return;
     }
-    compare_files(rt, err, q)
+    compare_files(rt, q);
 }
 
-fn main(rt: HostRuntime) -> io::Result<()> {
-    let err = rt.stderr();
-    let given = word_count(&rt);
-    let picked = engine(&rt, given);
+fn main(rt: HostRuntime) {
+    let given = word_count(rt);
+    let picked = engine(rt, given);
     let words = words_before(picked, given);
     if words < WORDS_LEAST || WORDS_MOST < words {
-        return wrong(
-            &err,
+        wrong(
+            rt.stderr(),
             b"too few or too many words; it is asked by yardplan FILE PLAN [LIMIT [BUDGET [ROOM]]] [routes2]",
         );
+        return;
     }
-    command(&rt, &err, picked, words)
+    command(rt, picked, words);
 }

@@ -11,8 +11,9 @@ use loading::refusals::opening_refused;
 use loading::said::{say, wrong, wrong_word};
 use octets::{least, u32_at};
 use std::env::FillError;
-use std::io::Read;
-use std::rt::{Env, Files};
+use std::fs::File;
+use std::io::{Read, Stderr, Stdout};
+use std::rt::Env;
 use std::{fs, io, str};
 use text::{line, write, write_number};
 use transfer::heads::head_of;
@@ -63,64 +64,63 @@ fn four_bytes(n: usize) -> [u8; 4] {
 }
 
 // A piece after its length: the numbers, and then the bytes, which start there in the file.
-fn write_piece(out: &impl Print, identity: Identity, start: usize, bytes: &[u8]) -> io::Result<()> {
+fn write_piece(out: Stdout, identity: Identity, start: usize, bytes: &[u8]) {
     let numbers = head_of(identity, start, bytes.len());
     let laid = numbers.bytes;
     let n = numbers.length;
     let length = four_bytes(n + bytes.len());
-    write(out, &length)?;
-    write(out, &laid[..n])?;
-    write(out, bytes)
+    write(out, &length);
+    write(out, &laid[..n]);
+    write(out, bytes);
 }
 
 // The pieces of a file, of so many bytes each; the last may have fewer.
-fn write_pieces(out: &impl Print, identity: Identity, f: &[u8], most: usize) -> io::Result<()>
+fn write_pieces(out: Stdout, identity: Identity, f: &[u8], most: usize)
     requires { 1 ≤ most }
 {
     let mut at = 0;
     while at < f.len() {
         let end = at + least(most, f.len() - at);
-        write_piece(out, identity, at, &f[at..end])?;
+        write_piece(out, identity, at, &f[at..end]);
         at = end;
     }
-    Ok(())
 }
 
 // The identity of a file, on one line.
-fn write_identity(out: &impl Print, i: Identity) -> io::Result<()> {
-    write_number(out, i.station)?;
-    write(out, b" ")?;
-    write_number(out, i.kind)?;
-    write(out, b" ")?;
-    write_number(out, i.version)?;
-    write(out, b" ")?;
-    write_number(out, i.total)?;
-    line(out, b"", i.trailer)
+fn write_identity(out: Stdout, i: Identity) {
+    write_number(out, i.station);
+    write(out, b" ");
+    write_number(out, i.kind);
+    write(out, b" ");
+    write_number(out, i.version);
+    write(out, b" ");
+    write_number(out, i.total);
+    line(out, b"", i.trailer);
 }
 
 // ---- the file
 
 // Whether a loader with room for a file could open it. It is said where it could not.
-fn is_opened(err: &impl Print, identity: Identity) -> io::Result<bool> {
+fn is_opened(err: Stderr, identity: Identity) -> bool {
     let step = transfer::opening::opening(nothing_opened(), identity, identity.total);
     let verdict = step.verdict;
     match verdict {
-        Verdict::Accepted => Ok(true),
+        Verdict::Accepted => true,
         Verdict::Refused(fault) => {
-            say(err, &NAME)?;
-            say(err, b": ")?;
-            opening_refused(err, fault)?;
-            Ok(false)
+            say(err, &NAME);
+            say(err, b": ");
+            opening_refused(err, fault);
+            false
         }
     }
 }
 
 // Opens the file that a word names.
-fn opened<R: Env + Files>(rt: &R, i: usize) -> Option<R::File> {
+fn opened(rt: HostRuntime, i: usize) -> Option<File> {
     let mut word = [0u8; WORD_ROOM];
     let n = rt.arg(i, &mut word).ok()?;
     let path = str::from_utf8(&word[..n]).ok()?;
-    fs::open(rt, path).ok()
+    fs::open(&rt, path).ok()
 }
 
 // Whether a file can be read further or has ended, and reading it does not fail.
@@ -145,23 +145,18 @@ fn read_full(input: &mut impl Read, room: &mut [u8]) -> io::Result<usize>
 }
 
 // Reads the file that a word names, as far as there is room, and says it where it cannot be read.
-fn read_file<R: Env + Files>(
-    rt: &R,
-    err: &impl Print,
-    i: usize,
-    room: &mut [u8],
-) -> io::Result<Option<usize>>
-    ensures { IfOk result (λ read. IfSome read (λ n. n ≤ length room.new)) }
+fn read_file(rt: HostRuntime, i: usize, room: &mut [u8]) -> Option<usize>
+    ensures { IfSome result (λ n. n ≤ length room.new) }
 {
     let Some(mut file) = opened(rt, i) else {
-        wrong_word(rt, err, &NAME, b"cannot open the file", i)?;
-        return Ok(None);
+        wrong_word(rt, &NAME, b"cannot open the file", i);
+        return None;
     };
     match read_full(&mut file, room) {
-        Ok(n) if reads_on(&mut file) => Ok(Some(n)),
+        Ok(n) if reads_on(&mut file) => Some(n),
         _ => {
-            wrong_word(rt, err, &NAME, b"cannot read the file", i)?;
-            Ok(None)
+            wrong_word(rt, &NAME, b"cannot read the file", i);
+            None
         }
     }
 }
@@ -169,10 +164,10 @@ fn read_file<R: Env + Files>(
 // ---- the command
 
 // Answers the command about a file: its identity, or its pieces of at most so many bytes.
-fn answer(out: &impl Print, err: &impl Print, f: &[u8], most: usize) -> io::Result<()> {
+fn answer(out: Stdout, err: Stderr, f: &[u8], most: usize) {
     let identity = identity_of(f);
-    if !is_opened(err, identity)? {
-        return Ok(());
+    if !is_opened(err, identity) {
+        return;
     }
     if most == NO_BYTES {
         write_identity(out, identity)
@@ -182,16 +177,16 @@ fn answer(out: &impl Print, err: &impl Print, f: &[u8], most: usize) -> io::Resu
 }
 
 // The same, about the file that the command names.
-fn answer_file<R: Env + Files + Print>(rt: &R, err: &impl Print, most: usize) -> io::Result<()> {
+fn answer_file(rt: HostRuntime, most: usize) {
     let mut room = [0u8; FILE_ROOM];
-    let Some(n) = read_file(rt, err, FILE, &mut room)? else {
-        return Ok(());
+    let Some(n) = read_file(rt, FILE, &mut room) else {
+        return;
     };
-    answer(rt, err, &room[..n], most)
+    answer(rt.stdout(), rt.stderr(), &room[..n], most);
 }
 
 // How many words the command has, the program's own name being the first of them.
-fn word_count(rt: &impl Env) -> usize {
+fn word_count(rt: HostRuntime) -> usize {
     for i in 0..usize::MAX {
         if let Err(FillError::NotPresent) = rt.arg(i, &mut []) {
             return i;
@@ -201,7 +196,7 @@ fn word_count(rt: &impl Env) -> usize {
 }
 
 // How many bytes a piece has at most, by a word of the command.
-fn bytes_in(rt: &impl Env, i: usize) -> usize {
+fn bytes_in(rt: HostRuntime, i: usize) -> usize {
     let mut word = [0u8; NUMBER_ROOM];
     let Ok(n) = rt.arg(i, &mut word) else {
         return NO_BYTES;
@@ -215,12 +210,12 @@ fn bytes_in(rt: &impl Env, i: usize) -> usize {
 }
 
 // How the program is asked.
-fn usage(err: &impl Print) -> io::Result<()> {
-    wrong(err, &NAME, b"it is asked by yardsplit FILE [BYTES]")
+fn usage(err: Stderr) {
+    wrong(err, &NAME, b"it is asked by yardsplit FILE [BYTES]");
 }
 
 // Whether a word asks that.
-fn is_help(rt: &impl Env, i: usize) -> bool {
+fn is_help(rt: HostRuntime, i: usize) -> bool {
     let mut word = [0u8; NUMBER_ROOM];
     let Ok(n) = rt.arg(i, &mut word) else {
         return false;
@@ -229,36 +224,35 @@ fn is_help(rt: &impl Env, i: usize) -> bool {
 }
 
 // A command of a file alone.
-fn identity_asked<R: Env + Files + Print>(rt: &R, err: &impl Print) -> io::Result<()> {
+fn identity_asked(rt: HostRuntime) {
     if is_help(rt, FILE) {
-        usage(err)
+        usage(rt.stderr())
     } else {
-        answer_file(rt, err, NO_BYTES)
+        answer_file(rt, NO_BYTES)
     }
 }
 
 // A command of a file and a number of bytes.
-fn pieces_asked<R: Env + Files + Print>(rt: &R, err: &impl Print) -> io::Result<()> {
+fn pieces_asked(rt: HostRuntime) {
     let most = bytes_in(rt, BYTES);
     if most == NO_BYTES {
-        wrong_word(rt, err, &NAME, b"no number from 1 to 4294967295:", BYTES)
+        wrong_word(rt, &NAME, b"no number from 1 to 4294967295:", BYTES)
     } else {
-        answer_file(rt, err, most)
+        answer_file(rt, most)
     }
 }
 
-fn main(rt: HostRuntime) -> io::Result<()> {
-    let err = rt.stderr();
-    let words = word_count(&rt);
+fn main(rt: HostRuntime) {
+    let words = word_count(rt);
     if words < IDENTITY_WORDS {
-        usage(&err)
+        usage(rt.stderr())
     } else if words == IDENTITY_WORDS {
-        identity_asked(&rt, &err)
+        identity_asked(rt)
     } else if words == PIECES_WORDS {
-        pieces_asked(&rt, &err)
+        pieces_asked(rt)
     } else {
         wrong(
-            &err,
+            rt.stderr(),
             &NAME,
             b"too many words; it is asked by yardsplit FILE [BYTES]",
         )
