@@ -7,42 +7,43 @@ use crate::pair_answers::pair_head;
 use ahead::{AheadAnswer, OBJECTS_MOST, ROOM_LEAST, Sight, Stop};
 use octets::{least, u16_at};
 use route_walks::WORD_SIZE;
+use std::io::Stdout;
 use text::{text_line, write, write_number};
 
 // Why the list stops.
-fn stop_line(stop: Stop) {
+fn stop_line(out: Stdout, stop: Stop) {
     match stop {
-        Stop::Boundary => text_line(b"stop", b"boundary"),
-        Stop::NoLink => text_line(b"stop", b"no-link"),
-        Stop::UnknownLie => text_line(b"stop", b"unknown-lie"),
-        Stop::Repeated => text_line(b"stop", b"repeated"),
-        Stop::AgainstLie => text_line(b"stop", b"against-lie"),
-        Stop::Full => text_line(b"stop", b"full"),
+        Stop::Boundary => text_line(out, b"stop", b"boundary"),
+        Stop::NoLink => text_line(out, b"stop", b"no-link"),
+        Stop::UnknownLie => text_line(out, b"stop", b"unknown-lie"),
+        Stop::Repeated => text_line(out, b"stop", b"repeated"),
+        Stop::AgainstLie => text_line(out, b"stop", b"against-lie"),
+        Stop::Full => text_line(out, b"stop", b"full"),
     }
 }
 
 // The offsets of n objects, of which there are no more than a list may have.
-fn objects_line(lent: &[u8], n: usize) {
-    write(b"objects");
+fn objects_line(out: Stdout, lent: &[u8], n: usize) {
+    write(out, b"objects");
     for k in 0..least(n, OBJECTS_MOST) {
-        write(b" ");
-        write_number(u16_at(lent, WORD_SIZE * k));
+        write(out, b" ");
+        write_number(out, u16_at(lent, WORD_SIZE * k));
     }
-    write(b"\n");
+    write(out, b"\n");
 }
 
 // The values of an answer.
-fn sight_lines(s: Sight, lent: &[u8]) {
+fn sight_lines(out: Stdout, s: Sight, lent: &[u8]) {
     let stop = s.stop;
-    stop_line(stop);
-    objects_line(lent, s.objects);
+    stop_line(out, stop);
+    objects_line(out, lent, s.objects);
 }
 
 // An answer with its objects, which stand in the bytes lent.
-fn answer_lines(answer: AheadAnswer, lent: &[u8]) {
-    pair_head(answer.number(), answer.place(), answer.file());
+fn answer_lines(out: Stdout, answer: AheadAnswer, lent: &[u8]) {
+    pair_head(out, answer.number(), answer.place(), answer.file());
     match answer {
-        AheadAnswer::Listed(s) => sight_lines(s, lent),
+        AheadAnswer::Listed(s) => sight_lines(out, s, lent),
         AheadAnswer::Faulty(_, _) => {}
         AheadAnswer::Refused(_) => {}
     }
@@ -50,6 +51,7 @@ fn answer_lines(answer: AheadAnswer, lent: &[u8]) {
 
 // The question ahead, with the bytes that are lent.
 fn told(
+    out: Stdout,
     first: &[u8],
     second: &[u8],
     offset: usize,
@@ -60,12 +62,13 @@ fn told(
     ensures { result ≡ answer_number (ahead_answer (ahead_asked first.now second.now offset link lies.now (length lent.old))) }
 {
     let answer = ahead::ahead(first, second, offset, link, lies, lent);
-    answer_lines(answer, lent);
+    answer_lines(out, answer, lent);
     answer.number()
 }
 
 // The question ahead, with room for as many bytes. More than the objects can take are not needed.
 pub fn ahead(
+    out: Stdout,
     first: &[u8],
     second: &[u8],
     offset: usize,
@@ -77,5 +80,5 @@ pub fn ahead(
 {
     let mut bytes = [0u8; ROOM_LEAST];
     let lent = least(room, ROOM_LEAST);
-    told(first, second, offset, link, lies, &mut bytes[..lent])
+    told(out, first, second, offset, link, lies, &mut bytes[..lent])
 }

@@ -6,40 +6,41 @@ ghost use Rattle.x1_degrees.specs.Questions.{degrees_asked, point_degrees_of};
 
 use crate::geography_answers::{coordinate_lines, refused};
 use degrees::bits_of;
+use std::io::Stdout;
 use text::bits_line;
 use x1_degrees::{DegreesAnswer, Surveyed, degrees_at};
 
-fn surveyed_lines(s: Surveyed) {
+fn surveyed_lines(out: Stdout, s: Surveyed) {
     let coordinate = s.coordinate;
     let degrees = s.degrees;
-    coordinate_lines(coordinate);
-    bits_line(b"latitude_degrees", bits_of(degrees.latitude));
-    bits_line(b"longitude_degrees", bits_of(degrees.longitude));
+    coordinate_lines(out, coordinate);
+    bits_line(out, b"latitude_degrees", bits_of(degrees.latitude));
+    bits_line(out, b"longitude_degrees", bits_of(degrees.longitude));
 }
 
 // An answer in degrees.
-fn told(a: DegreesAnswer) -> usize
+fn told(out: Stdout, a: DegreesAnswer) -> usize
     ensures { result ≡ answer_number (degrees_answer a) }
 {
     match a {
         DegreesAnswer::Surveyed(s) => {
-            surveyed_lines(s);
+            surveyed_lines(out, s);
             0
         }
-        DegreesAnswer::Refused(fault) => refused(fault),
+        DegreesAnswer::Refused(fault) => refused(out, fault),
     }
 }
 
 // The question degrees.
-pub fn degrees(f: &[u8], number: usize, position: usize) -> usize
+pub fn degrees(out: Stdout, f: &[u8], number: usize, position: usize) -> usize
     ensures { result ≡ answer_number (degrees_answer (degrees_asked f.now number position)) }
 {
-    told(degrees_at(f, number, position))
+    told(out, degrees_at(f, number, position))
 }
 
 // The question point_degrees.
-pub fn point_degrees(f: &[u8], track: usize, index: usize) -> usize
+pub fn point_degrees(out: Stdout, f: &[u8], track: usize, index: usize) -> usize
     ensures { result ≡ answer_number (degrees_answer (point_degrees_of f.now track index)) }
 {
-    told(x1_degrees::point_degrees(f, track, index))
+    told(out, x1_degrees::point_degrees(f, track, index))
 }

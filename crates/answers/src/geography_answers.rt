@@ -6,132 +6,133 @@ ghost use Rattle.x1_verdict.specs.Facts.{verdict_by, verdict_of};
 ghost use Rattle.x1_questions.specs.Questions.{track_of, point_of, coordinate_asked};
 ghost use Rattle.x1_questions.specs.Answers.{track_answer, point_answer, coordinate_answer};
 
+use std::io::Stdout;
 use text::{head, line, lines, signed_line, text_line};
 use verdict::{Fault, Verdict};
 use x1_questions::{Coordinate, CoordinateAnswer, PointAnswer, TrackAnswer};
 use x1_records::{Height, Point, Track};
 
 // A refusal.
-pub fn refused(fault: Fault) -> usize
+pub fn refused(out: Stdout, fault: Fault) -> usize
     ensures { result ≡ number_of fault.reason }
 {
     let reason = fault.reason;
     let n = reason.number();
-    head(b"answer", n, fault.place);
+    head(out, b"answer", n, fault.place);
     n
 }
 
 // The first line of what is answered and not refused.
-pub fn answered() {
-    head(b"answer", 0, 0);
+pub fn answered(out: Stdout) {
+    head(out, b"answer", 0, 0);
 }
 
 // A verdict.
-pub fn judged(v: Verdict) -> usize
+pub fn judged(out: Stdout, v: Verdict) -> usize
     ensures { result ≡ number_in v }
 {
     let n = v.number();
-    head(b"answer", n, v.place());
+    head(out, b"answer", n, v.place());
     n
 }
 
 // The question x1.
-pub fn x1(f: &[u8]) -> usize
+pub fn x1(out: Stdout, f: &[u8]) -> usize
     ensures { result ≡ number_in (verdict_of f.now) }
 {
-    judged(x1_verdict::verdicts::verdict_of(f))
+    judged(out, x1_verdict::verdicts::verdict_of(f))
 }
 
 // The question x1-version-1.
-pub fn x1_version_1(f: &[u8]) -> usize
+pub fn x1_version_1(out: Stdout, f: &[u8]) -> usize
     ensures { result ≡ number_in (verdict_by 1 f.now) }
 {
-    judged(x1_verdict::verdicts::version_1_verdict(f))
+    judged(out, x1_verdict::verdicts::version_1_verdict(f))
 }
 
-fn start_lines(t: Track) {
-    line(b"start_position", t.start_position);
-    signed_line(b"start_latitude", t.start_latitude);
-    signed_line(b"start_longitude", t.start_longitude);
+fn start_lines(out: Stdout, t: Track) {
+    line(out, b"start_position", t.start_position);
+    signed_line(out, b"start_latitude", t.start_latitude);
+    signed_line(out, b"start_longitude", t.start_longitude);
 }
 
-fn end_lines(t: Track) {
-    line(b"end_position", t.end_position);
-    signed_line(b"end_latitude", t.end_latitude);
-    signed_line(b"end_longitude", t.end_longitude);
+fn end_lines(out: Stdout, t: Track) {
+    line(out, b"end_position", t.end_position);
+    signed_line(out, b"end_latitude", t.end_latitude);
+    signed_line(out, b"end_longitude", t.end_longitude);
 }
 
-fn track_lines(t: Track) {
-    answered();
+fn track_lines(out: Stdout, t: Track) {
+    answered(out);
     let name = [t.number, t.property];
-    lines(b"number property", &name);
-    start_lines(t);
-    end_lines(t);
+    lines(out, b"number property", &name);
+    start_lines(out, t);
+    end_lines(out, t);
     let points = [t.first as usize, t.last as usize, t.points()];
-    lines(b"first_offset last_offset points", &points);
+    lines(out, b"first_offset last_offset points", &points);
 }
 
 // The question track.
-pub fn track(f: &[u8], index: usize) -> usize
+pub fn track(out: Stdout, f: &[u8], index: usize) -> usize
     ensures { result ≡ answer_number (track_answer (track_of f.now index)) }
 {
     match x1_questions::track(f, index) {
         TrackAnswer::Track(t) => {
-            track_lines(t);
+            track_lines(out, t);
             0
         }
-        TrackAnswer::Refused(fault) => refused(fault),
+        TrackAnswer::Refused(fault) => refused(out, fault),
     }
 }
 
 // A point's height; a dash for none.
-fn height_line(h: Height) {
+fn height_line(out: Stdout, h: Height) {
     match h {
-        Height::Decimetres(z) => signed_line(b"height", z),
-        Height::NoHeight => text_line(b"height", b"-"),
+        Height::Decimetres(z) => signed_line(out, b"height", z),
+        Height::NoHeight => text_line(out, b"height", b"-"),
     }
 }
 
-fn point_lines(p: Point) {
-    answered();
-    line(b"position", p.position);
-    signed_line(b"latitude_increment", p.latitude_increment);
-    signed_line(b"longitude_increment", p.longitude_increment);
-    signed_line(b"heading", p.heading);
-    line(b"near", p.near);
+fn point_lines(out: Stdout, p: Point) {
+    answered(out);
+    line(out, b"position", p.position);
+    signed_line(out, b"latitude_increment", p.latitude_increment);
+    signed_line(out, b"longitude_increment", p.longitude_increment);
+    signed_line(out, b"heading", p.heading);
+    line(out, b"near", p.near);
     let height = p.height;
-    height_line(height);
+    height_line(out, height);
 }
 
 // The question point.
-pub fn point(f: &[u8], track: usize, index: usize) -> usize
+pub fn point(out: Stdout, f: &[u8], track: usize, index: usize) -> usize
     ensures { result ≡ answer_number (point_answer (point_of f.now track index)) }
 {
     match x1_questions::point(f, track, index) {
         PointAnswer::Point(p) => {
-            point_lines(p);
+            point_lines(out, p);
             0
         }
-        PointAnswer::Refused(fault) => refused(fault),
+        PointAnswer::Refused(fault) => refused(out, fault),
     }
 }
 
 // A coordinate.
-pub fn coordinate_lines(c: Coordinate) {
-    answered();
-    signed_line(b"latitude", c.latitude);
-    signed_line(b"longitude", c.longitude);
+pub fn coordinate_lines(out: Stdout, c: Coordinate) {
+    answered(out);
+    signed_line(out, b"latitude", c.latitude);
+    signed_line(out, b"longitude", c.longitude);
 }
 
 // The question coordinate.
-pub fn coordinate(f: &[u8], number: usize, position: usize) -> usize
+pub fn coordinate(out: Stdout, f: &[u8], number: usize, position: usize) -> usize
     ensures { result ≡ answer_number (coordinate_answer (coordinate_asked f.now number position)) }
 {
     match x1_questions::coordinate(f, number, position) {
         CoordinateAnswer::Coordinate(c) => {
-            coordinate_lines(c);
+            coordinate_lines(out, c);
             0
         }
-        CoordinateAnswer::Refused(fault) => refused(fault),
+        CoordinateAnswer::Refused(fault) => refused(out, fault),
     }
 }

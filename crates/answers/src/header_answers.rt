@@ -8,44 +8,45 @@ ghost use Rattle.x2_verdict.specs.Questions.{named_header_of};
 
 use crate::geography_answers::{answered, refused};
 use envelope::Header;
+use std::io::Stdout;
 use text::{lines, message_line};
 use x1_questions::HeaderAnswer;
 use x2_verdict::{NamedHeader, NamedHeaderAnswer};
 
-fn header_lines(h: Header) {
-    answered();
+fn header_lines(out: Stdout, h: Header) {
+    answered(out);
     let values = [h.structure, h.data, h.station];
-    lines(b"structure data station", &values);
+    lines(out, b"structure data station", &values);
 }
 
 // The question header1.
-pub fn header1(f: &[u8]) -> usize
+pub fn header1(out: Stdout, f: &[u8]) -> usize
     ensures { result ≡ answer_number (header_answer (header_of f.now)) }
 {
     match x1_questions::header(f) {
         HeaderAnswer::Header(h) => {
-            header_lines(h);
+            header_lines(out, h);
             0
         }
-        HeaderAnswer::Refused(fault) => refused(fault),
+        HeaderAnswer::Refused(fault) => refused(out, fault),
     }
 }
 
-fn named_header_lines(f: &[u8], h: NamedHeader) {
+fn named_header_lines(out: Stdout, f: &[u8], h: NamedHeader) {
     let header = h.header;
-    header_lines(header);
-    message_line(b"name", f, h.name, h.name_bytes);
+    header_lines(out, header);
+    message_line(out, b"name", f, h.name, h.name_bytes);
 }
 
 // The question header2.
-pub fn header2(f: &[u8]) -> usize
+pub fn header2(out: Stdout, f: &[u8]) -> usize
     ensures { result ≡ answer_number (named_header_answer (named_header_of f.now)) }
 {
     match x2_verdict::header(f) {
         NamedHeaderAnswer::Header(h) => {
-            named_header_lines(f, h);
+            named_header_lines(out, f, h);
             0
         }
-        NamedHeaderAnswer::Refused(fault) => refused(fault),
+        NamedHeaderAnswer::Refused(fault) => refused(out, fault),
     }
 }

@@ -3,28 +3,29 @@ ghost use Rattle.std.specs.Prelude.{◌≡◌};
 ghost use Rattle.verdict.specs.Reasons.{pair_number_in};
 ghost use Rattle.pair.specs.Pair.{pair_of};
 
+use std::io::Stdout;
 use text::{write, write_number};
 
 // A text, and a number.
-fn write_with(text: &[u8], n: usize) {
-    write(text);
-    write_number(n);
+fn write_with(out: Stdout, text: &[u8], n: usize) {
+    write(out, text);
+    write_number(out, n);
 }
 
 // The first line of an answer about a pair.
-pub fn pair_head(number: usize, place: usize, file: usize) {
-    write_with(b"answer ", number);
-    write_with(b" ", place);
-    write_with(b" ", file);
-    write(b"\n");
+pub fn pair_head(out: Stdout, number: usize, place: usize, file: usize) {
+    write_with(out, b"answer ", number);
+    write_with(out, b" ", place);
+    write_with(out, b" ", file);
+    write(out, b"\n");
 }
 
 // The question pair.
-pub fn pair(first: &[u8], second: &[u8]) -> usize
+pub fn pair(out: Stdout, first: &[u8], second: &[u8]) -> usize
     ensures { result ≡ pair_number_in (pair_of first.now second.now) }
 {
     let v = pair::pair_verdict(first, second);
     let n = v.number();
-    pair_head(n, v.place(), v.file());
+    pair_head(out, n, v.place(), v.file());
     n
 }

@@ -8,6 +8,7 @@ ghost use Rattle.x2_verdict.specs.Answers.{record_answer};
 
 use crate::geography_answers::{answered, judged, refused};
 use names::Name;
+use std::io::Stdout;
 use text::{line, lines, message_line, name_line, text_line};
 use x2_records::{
     Balise, Boundary, Facing, GroupDirection, Joint, Nature, Record, Siding, Signal, Turnout,
@@ -15,36 +16,36 @@ use x2_records::{
 use x2_verdict::RecordAnswer;
 
 // The question x2.
-pub fn x2(f: &[u8]) -> usize
+pub fn x2(out: Stdout, f: &[u8]) -> usize
     ensures { result ≡ number_in (verdict_of f.now) }
 {
-    judged(x2_verdict::verdict_of(f))
+    judged(out, x2_verdict::verdict_of(f))
 }
 
 // What every record's answer begins with.
-fn kind_line(kind: &[u8]) {
-    answered();
-    text_line(b"kind", kind);
+fn kind_line(out: Stdout, kind: &[u8]) {
+    answered(out);
+    text_line(out, b"kind", kind);
 }
 
 // The two links of a record that lies in a track.
-fn link_lines(previous: usize, next: usize) {
-    line(b"previous", previous);
-    line(b"next", next);
+fn link_lines(out: Stdout, previous: usize, next: usize) {
+    line(out, b"previous", previous);
+    line(out, b"next", next);
 }
 
 // Where a record lies.
-fn place_lines(position: usize, track: usize) {
-    line(b"position", position);
-    line(b"track", track);
+fn place_lines(out: Stdout, position: usize, track: usize) {
+    line(out, b"position", position);
+    line(out, b"track", track);
 }
 
-fn direction_line(direction: &[u8]) {
-    text_line(b"direction", direction);
+fn direction_line(out: Stdout, direction: &[u8]) {
+    text_line(out, b"direction", direction);
 }
 
-fn boundary_lines(kind: &[u8], b: Boundary) {
-    kind_line(kind);
+fn boundary_lines(out: Stdout, kind: &[u8], b: Boundary) {
+    kind_line(out, kind);
     let values = [
         b.entry,
         b.link,
@@ -55,21 +56,22 @@ fn boundary_lines(kind: &[u8], b: Boundary) {
         b.track,
     ];
     lines(
+        out,
         b"type link neighbour_station neighbour_type neighbour_track position track",
         &values,
     );
 }
 
-fn start_boundary_lines(b: Boundary) {
-    boundary_lines(b"start_boundary", b);
+fn start_boundary_lines(out: Stdout, b: Boundary) {
+    boundary_lines(out, b"start_boundary", b);
 }
 
-fn end_boundary_lines(b: Boundary) {
-    boundary_lines(b"end_boundary", b);
+fn end_boundary_lines(out: Stdout, b: Boundary) {
+    boundary_lines(out, b"end_boundary", b);
 }
 
-fn turnout_lines(t: Turnout) {
-    kind_line(b"turnout");
+fn turnout_lines(out: Stdout, t: Turnout) {
+    kind_line(out, b"turnout");
     let direction = t.direction;
     let values = [
         t.number,
@@ -85,23 +87,24 @@ fn turnout_lines(t: Turnout) {
         t.reverse_track,
     ];
     lines(
+        out,
         b"number direction tip_position normal_position reverse_position \
         front normal reverse front_track normal_track reverse_track",
         &values,
     );
 }
 
-fn nature_line(nature: Nature) {
+fn nature_line(out: Stdout, nature: Nature) {
     match nature {
-        Nature::Virtual => text_line(b"nature", b"virtual"),
-        Nature::Physical => text_line(b"nature", b"physical"),
+        Nature::Virtual => text_line(out, b"nature", b"virtual"),
+        Nature::Physical => text_line(out, b"nature", b"physical"),
     }
 }
 
-fn group_direction_line(d: GroupDirection) {
+fn group_direction_line(out: Stdout, d: GroupDirection) {
     match d {
-        GroupDirection::Opposite => direction_line(b"opposite"),
-        GroupDirection::Same => direction_line(b"same"),
+        GroupDirection::Opposite => direction_line(out, b"opposite"),
+        GroupDirection::Same => direction_line(out, b"same"),
     }
 }
 
@@ -115,103 +118,103 @@ fn message_bytes(size: usize) -> usize {
 }
 
 // What a balise is: its number and size, and its attribute byte.
-fn balise_attributes(b: Balise) {
+fn balise_attributes(out: Stdout, b: Balise) {
     let nature = b.nature;
     let direction = b.direction;
-    line(b"number", b.number);
-    line(b"size", b.size);
-    nature_line(nature);
-    group_direction_line(direction);
+    line(out, b"number", b.number);
+    line(out, b"size", b.size);
+    nature_line(out, nature);
+    group_direction_line(out, direction);
 }
 
-fn balise_lines(f: &[u8], b: Balise) {
-    kind_line(b"balise");
-    link_lines(b.previous, b.next);
-    balise_attributes(b);
+fn balise_lines(out: Stdout, f: &[u8], b: Balise) {
+    kind_line(out, b"balise");
+    link_lines(out, b.previous, b.next);
+    balise_attributes(out, b);
     let values = [b.position, b.track, b.rank, b.count];
-    lines(b"position track place count", &values);
-    message_line(b"message", f, b.message, message_bytes(b.size));
+    lines(out, b"position track place count", &values);
+    message_line(out, b"message", f, b.message, message_bytes(b.size));
 }
 
-fn facing_line(facing: Facing) {
+fn facing_line(out: Stdout, facing: Facing) {
     match facing {
-        Facing::Neither => direction_line(b"none"),
-        Facing::Down => direction_line(b"down"),
-        Facing::Up => direction_line(b"up"),
+        Facing::Neither => direction_line(out, b"none"),
+        Facing::Down => direction_line(out, b"down"),
+        Facing::Up => direction_line(out, b"up"),
     }
 }
 
 // An object's own name, and how many bytes it has; a name of no bytes is a dash, and so is one that is a dash.
-fn named_lines(f: &[u8], name: Name) {
-    name_line(b"name", f, name);
-    line(b"name_bytes", name.bytes);
+fn named_lines(out: Stdout, f: &[u8], name: Name) {
+    name_line(out, b"name", f, name);
+    line(out, b"name_bytes", name.bytes);
 }
 
-fn signal_lines(f: &[u8], s: Signal) {
-    kind_line(b"signal");
-    link_lines(s.previous, s.next);
+fn signal_lines(out: Stdout, f: &[u8], s: Signal) {
+    kind_line(out, b"signal");
+    link_lines(out, s.previous, s.next);
     let name = s.name;
-    named_lines(f, name);
-    place_lines(s.position, s.track);
+    named_lines(out, f, name);
+    place_lines(out, s.position, s.track);
     let facing = s.direction;
-    facing_line(facing);
+    facing_line(out, facing);
     let duty = s.duty;
-    line(b"type", duty.number());
+    line(out, b"type", duty.number());
 }
 
-fn joint_lines(f: &[u8], j: Joint) {
-    kind_line(b"joint");
-    link_lines(j.previous, j.next);
+fn joint_lines(out: Stdout, f: &[u8], j: Joint) {
+    kind_line(out, b"joint");
+    link_lines(out, j.previous, j.next);
     let name = j.name;
-    named_lines(f, name);
-    place_lines(j.position, j.track);
+    named_lines(out, f, name);
+    place_lines(out, j.position, j.track);
 }
 
 // An exit balise; a dash for none.
-fn exit_line(name: &[u8], n: usize) {
+fn exit_line(out: Stdout, name: &[u8], n: usize) {
     if n == Balise::NONE {
-        text_line(name, b"-");
+        text_line(out, name, b"-");
     } else {
-        line(name, n);
+        line(out, name, n);
     }
 }
 
-fn siding_lines(f: &[u8], s: Siding) {
-    kind_line(b"siding");
+fn siding_lines(out: Stdout, f: &[u8], s: Siding) {
+    kind_line(out, b"siding");
     let name = s.name;
-    named_lines(f, name);
-    line(b"track", s.track);
-    exit_line(b"up_balise", s.up_balise);
+    named_lines(out, f, name);
+    line(out, b"track", s.track);
+    exit_line(out, b"up_balise", s.up_balise);
     let up = s.up_signal;
-    name_line(b"up_signal", f, up);
-    line(b"up_signal_bytes", up.bytes);
-    exit_line(b"down_balise", s.down_balise);
+    name_line(out, b"up_signal", f, up);
+    line(out, b"up_signal_bytes", up.bytes);
+    exit_line(out, b"down_balise", s.down_balise);
     let down = s.down_signal;
-    name_line(b"down_signal", f, down);
-    line(b"down_signal_bytes", down.bytes);
+    name_line(out, b"down_signal", f, down);
+    line(out, b"down_signal_bytes", down.bytes);
 }
 
-fn record_lines(f: &[u8], r: Record) {
+fn record_lines(out: Stdout, f: &[u8], r: Record) {
     match r {
-        Record::StartBoundary(b) => start_boundary_lines(b),
-        Record::EndBoundary(b) => end_boundary_lines(b),
-        Record::Turnout(t) => turnout_lines(t),
-        Record::Balise(b) => balise_lines(f, b),
-        Record::Signal(s) => signal_lines(f, s),
-        Record::Joint(j) => joint_lines(f, j),
-        Record::Siding(s) => siding_lines(f, s),
+        Record::StartBoundary(b) => start_boundary_lines(out, b),
+        Record::EndBoundary(b) => end_boundary_lines(out, b),
+        Record::Turnout(t) => turnout_lines(out, t),
+        Record::Balise(b) => balise_lines(out, f, b),
+        Record::Signal(s) => signal_lines(out, f, s),
+        Record::Joint(j) => joint_lines(out, f, j),
+        Record::Siding(s) => siding_lines(out, f, s),
     }
 }
 
 // The question record.
-pub fn record(f: &[u8], offset: usize) -> usize
+pub fn record(out: Stdout, f: &[u8], offset: usize) -> usize
     ensures { result ≡ answer_number (record_answer (record_of f.now offset)) }
 {
     match x2_verdict::record_at(f, offset) {
         RecordAnswer::Record(r) => {
-            record_lines(f, r);
+            record_lines(out, f, r);
             0
         }
-        RecordAnswer::Refused(fault) => refused(fault),
+        RecordAnswer::Refused(fault) => refused(out, fault),
     }
 }

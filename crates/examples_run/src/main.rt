@@ -5,8 +5,9 @@
 
 ghost use Rattle.std.specs.Prelude.{◌≡◌, ◌<◌, length};
 
-use libc::STDOUT_FILENO;
 use route_walks::WORD_SIZE;
+use std::io;
+use std::io::Stdout;
 use verdict::Verdict;
 
 // Yard Y with a checksum of zeros, in rows: type, versions and station; station name; start boundaries (how many, track, offset); end
@@ -69,21 +70,13 @@ fn put_sum(b: &mut [u8], at: usize, sum: usize)
     put(b, at + 3, byte_of(sum, 0x100_0000));
 }
 
-// A text, and a number.
-fn write(text: &[u8], n: usize) {
-    io::write_all(STDOUT_FILENO, text);
-    io::print_decimal(STDOUT_FILENO, n as u64);
+fn line(out: Stdout, what: &[u8], number: usize, place: usize) -> io::Result<()> {
+    out.write_all(what)?;
+    println!(out; ": {number} at {place}")
 }
 
-fn line(what: &[u8], number: usize, place: usize) {
-    io::write_all(STDOUT_FILENO, what);
-    write(b": ", number);
-    write(b" at ", place);
-    io::write_all(STDOUT_FILENO, b"\n");
-}
-
-fn verdict_line(what: &[u8], v: Verdict) {
-    line(what, v.number(), v.place());
+fn verdict_line(out: Stdout, what: &[u8], v: Verdict) -> io::Result<()> {
+    line(out, what, v.number(), v.place())
 }
 
 // Yard Y with a reverse link, its checksum repaired.
@@ -98,68 +91,70 @@ fn yard(reverse: u8) -> [u8; 108]
 }
 
 // The verdict of yard Y with a reverse link.
-fn yard_line(what: &[u8], reverse: u8) {
+fn yard_line(out: Stdout, what: &[u8], reverse: u8) -> io::Result<()> {
     let b = yard(reverse);
-    verdict_line(what, x2_verdict::verdict_of(&b));
+    verdict_line(out, what, x2_verdict::verdict_of(&b))
 }
 
 // The verdict of the X.1 file with a last offset, its checksum repaired.
-fn track_line(what: &[u8], last: u8) {
+fn track_line(out: Stdout, what: &[u8], last: u8) -> io::Result<()> {
     let mut b = TRACK;
     b[LAST] = last;
     let sum = checksum::of_first(&b, 64);
     put_sum(&mut b, 64, sum);
-    verdict_line(what, x1_verdict::verdicts::verdict_of(&b));
+    verdict_line(out, what, x1_verdict::verdicts::verdict_of(&b))
 }
 
 // The routes of Y from 44 within a budget, in the bytes lent.
-fn routes_line(what: &[u8], budget: usize, lent: &mut [u8]) {
+fn routes_line(out: Stdout, what: &[u8], budget: usize, lent: &mut [u8]) -> io::Result<()> {
     let b = yard(68);
     let answer = route_question::routes(&b, 44, 8, budget, lent);
-    line(what, answer.number(), answer.place());
+    line(out, what, answer.number(), answer.place())
 }
 
 // Y from 44 within two budgets.
-fn budget_lines() {
+fn budget_lines(out: Stdout) -> io::Result<()> {
     let mut lent = [0u8; WORD_SIZE * 8];
-    routes_line(b"Y from 44, budget 3", 3, &mut lent);
-    routes_line(b"Y from 44, budget 4", 4, &mut lent);
+    routes_line(out, b"Y from 44, budget 3", 3, &mut lent)?;
+    routes_line(out, b"Y from 44, budget 4", 4, &mut lent)
 }
 
 // Y from 44 with two bytes for each word that its two routes take, and with a byte less, which is room for a word less.
-fn room_lines() {
+fn room_lines(out: Stdout) -> io::Result<()> {
     let mut fewer = [0u8; WORD_SIZE * 8 - 1];
-    routes_line(b"Y from 44, room 7", 4, &mut fewer);
+    routes_line(out, b"Y from 44, room 7", 4, &mut fewer)?;
     let mut lent = [0u8; WORD_SIZE * 8];
-    routes_line(b"Y from 44, room 8", 4, &mut lent);
+    routes_line(out, b"Y from 44, room 8", 4, &mut lent)
 }
 
 // The verdicts of Y and of Y with another reverse link.
-fn yard_lines() {
-    yard_line(b"Y", 68);
-    yard_line(b"Y, reverse link 57", 57);
-    yard_line(b"Y, reverse link 80", 80);
-    yard_line(b"Y, reverse link 0", 0);
-    yard_line(b"Y, reverse link 56", 56);
+fn yard_lines(out: Stdout) -> io::Result<()> {
+    yard_line(out, b"Y", 68)?;
+    yard_line(out, b"Y, reverse link 57", 57)?;
+    yard_line(out, b"Y, reverse link 80", 80)?;
+    yard_line(out, b"Y, reverse link 0", 0)?;
+    yard_line(out, b"Y, reverse link 56", 56)
 }
 
 // The verdicts of the X.1 file and of the same with another last offset.
-fn track_lines() {
-    track_line(b"X.1, one track and two points", 51);
-    track_line(b"X.1, last offset 50", 50);
-    track_line(b"X.1, last offset 38", 38);
+fn track_lines(out: Stdout) -> io::Result<()> {
+    track_line(out, b"X.1, one track and two points", 51)?;
+    track_line(out, b"X.1, last offset 50", 50)?;
+    track_line(out, b"X.1, last offset 38", 38)
 }
 
 // What yardlist prints of Y.
-fn station_list() {
+fn station_list(out: Stdout) {
     let b = yard(68);
-    listings::list(&b);
+    listings::list(out, &b);
 }
 
-fn main() {
-    yard_lines();
-    track_lines();
-    budget_lines();
-    room_lines();
-    station_list();
+fn main(rt: HostRuntime) -> io::Result<()> {
+    let out = rt.stdout();
+    yard_lines(out)?;
+    track_lines(out)?;
+    budget_lines(out)?;
+    room_lines(out)?;
+    station_list(out);
+    Ok(())
 }

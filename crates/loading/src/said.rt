@@ -2,42 +2,47 @@
 // every input, it can.
 ghost use Rattle.std.specs.Prelude.{◌≡◌};
 
-use libc::STDERR_FILENO;
+use std::io::Stderr;
+use std::rt::Env;
+
+// The longest word of a command that is shown.
+const WORD_ROOM: usize = 4096;
 
 // Some text.
-pub fn say(text: &[u8])
+pub fn say(err: Stderr, text: &[u8])
     ensures { result ≡ tt }
 {
-    io::write_all(STDERR_FILENO, text);
+    let _ = err.write_all(text);
 }
 
 // A number, in decimal.
-pub fn say_number(n: usize)
+pub fn say_number(err: Stderr, n: usize)
     ensures { result ≡ tt }
 {
-    io::print_decimal(STDERR_FILENO, n as u64);
+    let _ = print!(err; "{n}");
 }
 
 // What is wrong with the command of a program.
-pub fn wrong(program: &[u8], why: &[u8])
+pub fn wrong(err: Stderr, program: &[u8], why: &[u8])
     ensures { result ≡ tt }
 {
-    say(program);
-    say(b": ");
-    say(why);
-    say(b"\n");
+    say(err, program);
+    say(err, b": ");
+    say(err, why);
+    say(err, b"\n");
 }
 
 // What is wrong with a word of it, and the word.
-pub fn wrong_word(program: &[u8], why: &[u8], i: usize)
+pub fn wrong_word(rt: HostRuntime, program: &[u8], why: &[u8], i: usize)
     ensures { result ≡ tt }
 {
-    let mut word = io::buffer();
-    let n = os::arg(i, &mut word);
-    say(program);
-    say(b": ");
-    say(why);
-    say(b" '");
-    say(&word[..n]);
-    say(b"'\n");
+    let mut word = [0u8; WORD_ROOM];
+    let n = rt.arg(i, &mut word).unwrap_or(0);
+    let err = rt.stderr();
+    say(err, program);
+    say(err, b": ");
+    say(err, why);
+    say(err, b" '");
+    say(err, &word[..n]);
+    say(err, b"'\n");
 }

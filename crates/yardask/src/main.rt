@@ -3,14 +3,18 @@
 // questions, numbers and files.
 #![tactic(auto)]
 
-ghost use Rattle.std.specs.Prelude.{◌≤◌};
+ghost use Rattle.std.specs.Prelude.{◌≤◌, length, IsTrue, IfOk, IfSome};
 
 use ahead::{LIES, ROOM_LEAST, UNKNOWN};
 use decimal::number_in;
-use libc::{STDERR_FILENO, STDOUT_FILENO};
 use listings::{MOST_ROOM, NO_ROOM};
 use octets::{byte_after, byte_at, u16_at};
 use route_question::Engine;
+use std::env::FillError;
+use std::fs::File;
+use std::io::{Read, Stderr, Stdout};
+use std::rt::Env;
+use std::{fs, io, str};
 
 // The questions, a line for each: the words of its command and, after two spaces or more, what it answers. Help is these lines; a question is
 // known by its word, and its number is that of its line.
@@ -93,7 +97,9 @@ const LINK: usize = 5;
 
 const LIES_WORD: usize = 6;
 
-// The longest word that may be a question, and that may be a number.
+// The longest word that is shown or names a file, that may be a question, and that may be a number.
+const WORD_ROOM: usize = 4096;
+
 const QUESTION_ROOM: usize = 16;
 
 const NUMBER_ROOM: usize = 32;
@@ -106,47 +112,49 @@ const NO_NUMBER: usize = 0x1_0000_0000;
 // A byte more than the longest file: a file that fills the room is too long, whatever follows.
 const ROOM: usize = 65536;
 
-// The length of a file that cannot be opened, and of one that cannot be read.
-const NOT_OPENED: usize = 65537;
-
-const NOT_READ: usize = 65538;
-
 // A byte more than there are lies: a file of lies that fills the room is too long.
 const LIES_ROOM: usize = LIES + 1;
 
 // The character of the first lie; those of the others follow it.
 const NORMAL_CHARACTER: u8 = b'0';
 
+// Why a file is not read that a word names.
+#[derive(Clone, Copy)]
+enum Unread {
+    NotOpened,
+    NotRead,
+}
+
 // Some text on standard error.
-fn write(text: &[u8]) {
-    io::write_all(STDERR_FILENO, text);
+fn write(err: Stderr, text: &[u8]) {
+    let _ = err.write_all(text);
 }
 
 // A word of the command line, in quotes.
-fn write_word(i: usize) {
-    let mut word = io::buffer();
-    let n = os::arg(i, &mut word);
-    write(b" '");
-    write(&word[..n]);
-    write(b"'");
+fn write_word(rt: HostRuntime, i: usize) {
+    let mut word = [0u8; WORD_ROOM];
+    let n = rt.arg(i, &mut word).unwrap_or(0);
+    write(rt.stderr(), b" '");
+    write(rt.stderr(), &word[..n]);
+    write(rt.stderr(), b"'");
 }
 
 // Begins the line that says what is wrong, with which word.
-fn begin_wrong(why: &[u8], i: usize) {
-    write(b"yardask: ");
-    write(why);
-    write_word(i);
+fn begin_wrong(rt: HostRuntime, why: &[u8], i: usize) {
+    write(rt.stderr(), b"yardask: ");
+    write(rt.stderr(), why);
+    write_word(rt, i);
 }
 
 // Ends it with how to ask for help.
-fn end_wrong() {
-    write(b"; yardask help lists the questions\n");
+fn end_wrong(err: Stderr) {
+    write(err, b"; yardask help lists the questions\n");
 }
 
 // Says what is wrong, with which word.
-fn wrong(why: &[u8], i: usize) {
-    begin_wrong(why, i);
-    end_wrong();
+fn wrong(rt: HostRuntime, why: &[u8], i: usize) {
+    begin_wrong(rt, why, i);
+    end_wrong(rt.stderr());
 }
 
 // Where the text goes on after the next byte that is a mark.
@@ -220,9 +228,19 @@ fn is_help(word: &[u8]) -> bool {
     is_word_at(b"help ", 0, word) || is_word_at(b"--help ", 0, word)
 }
 
+// How many words the command has, the program's own name being the first of them.
+fn word_count(rt: HostRuntime) -> usize {
+    for i in 0..usize::MAX {
+        if let Err(FillError::NotPresent) = rt.arg(i, &mut []) {
+            return i;
+        }
+    }
+    usize::MAX
+}
+
 // How many words follow the program's own name.
-fn words_given() -> usize {
-    let n = os::arg_count();
+fn words_given(rt: HostRuntime) -> usize {
+    let n = word_count(rt);
     if n == 0 {
         return 0;
     }
@@ -230,15 +248,13 @@ fn words_given() -> usize {
 }
 
 // The question of the command line. No word asks for help.
-fn question(table: &[u8]) -> usize {
-    if os::arg_count() <= QUESTION {
-        return HELP;
-    }
+fn question(rt: HostRuntime, table: &[u8]) -> usize {
     let mut word = [0u8; QUESTION_ROOM];
-    let n = os::arg(QUESTION, &mut word);
-    if os::errno() != 0 {
-        return NO_QUESTION;
-    }
+    let n = match rt.arg(QUESTION, &mut word) {
+        Ok(n) => n,
+        Err(FillError::NotPresent) => return HELP,
+        Err(FillError::TooLong) => return NO_QUESTION,
+    };
     if is_help(&word[..n]) {
         return HELP;
     }
@@ -246,231 +262,254 @@ fn question(table: &[u8]) -> usize {
 }
 
 // Writes what stands between two places of the table.
-fn write_part(table: &[u8], from: usize, to: usize) {
+fn write_part(err: Stderr, table: &[u8], from: usize, to: usize) {
     if from <= to && to <= table.len() {
-        write(&table[from..to]);
+        write(err, &table[from..to]);
     }
 }
 
 // Says that the command has too few or too many words, and how the question is asked.
-fn wrong_count(table: &[u8], from: usize, to: usize) {
-    begin_wrong(b"too few or too many words for the question", QUESTION);
-    write(b", which is asked by ");
-    write_part(table, from, to);
-    end_wrong();
+fn wrong_count(rt: HostRuntime, table: &[u8], from: usize, to: usize) {
+    begin_wrong(rt, b"too few or too many words for the question", QUESTION);
+    write(rt.stderr(), b", which is asked by ");
+    write_part(rt.stderr(), table, from, to);
+    end_wrong(rt.stderr());
 }
 
 // Whether the command has as many words as its question takes; it is said where it has not.
-fn is_counted(table: &[u8], question: usize) -> bool {
+fn is_counted(rt: HostRuntime, table: &[u8], question: usize) -> bool {
     let from = line_of(table, question);
     let to = form_end(table, from);
     let following = words_after(table, from, to);
-    let is_right = words_given() == following;
+    let is_right = words_given(rt) == following;
     if !is_right {
-        wrong_count(table, from, to);
+        wrong_count(rt, table, from, to);
     }
     is_right
 }
 
-// The number that a word of the command line is.
-fn number_at(i: usize) -> usize {
+// The number that a word of the command line is, 0 where the command has no such word.
+fn number_at(rt: HostRuntime, i: usize) -> usize {
     let mut word = [0u8; NUMBER_ROOM];
-    let n = os::arg(i, &mut word);
-    if os::errno() != 0 {
-        return NO_NUMBER;
+    match rt.arg(i, &mut word) {
+        Ok(n) => number_in(&word[..n], NUMBER_MOST),
+        Err(FillError::NotPresent) => 0,
+        Err(FillError::TooLong) => NO_NUMBER,
     }
-    number_in(&word[..n], NUMBER_MOST)
 }
 
-// The same, 0 where the command has no such word; it is said where the word is no number.
-fn number(i: usize) -> usize {
-    if os::arg_count() <= i {
-        return 0;
-    }
-    let n = number_at(i);
+// The same; it is said where the word is no number.
+fn number(rt: HostRuntime, i: usize) -> usize {
+    let n = number_at(rt, i);
     if NO_NUMBER <= n {
-        wrong(b"no number below 4294967296:", i);
+        wrong(rt, b"no number below 4294967296:", i);
     }
     n
 }
 
 // Opens the file that a word names.
-fn opened(i: usize) -> i32 {
-    let mut path = io::buffer();
-    let n = os::arg(i, &mut path);
-    if os::errno() != 0 {
-        return -1;
-    }
-    os::open_read(&path[..n])
+fn opened(rt: HostRuntime, i: usize) -> Option<File> {
+    let mut word = [0u8; WORD_ROOM];
+    let n = rt.arg(i, &mut word).ok()?;
+    let path = str::from_utf8(&word[..n]).ok()?;
+    fs::open(&rt, path).ok()
 }
 
-// Whether a file can be read further or has ended, and reading it did not fail.
-fn reads_on(file: i32) -> bool {
+// Whether a file can be read further or has ended, and reading it does not fail.
+fn reads_on(file: &mut impl Read) -> bool {
     let mut next = [0u8; 1];
-    0 <= libc::read(file, &mut next)
+    file.read(&mut next).is_ok()
+}
+
+// Reads until the room is full or the input ends. It answers how many bytes then stand at the front of the room.
+fn read_full(input: &mut impl Read, room: &mut [u8]) -> io::Result<usize>
+    ensures { IfOk result (λ n. n ≤ length room.new) }
+{
+    let mut got = 0;
+    while got < room.len() {
+        let n = input.read(&mut room[got..])?;
+        if n == 0 {
+            break;
+        }
+        got += n;
+    }
+    Ok(got)
 }
 
 // Reads the file that a word names, as far as there is room.
-fn read_named(i: usize, room: &mut [u8]) -> usize {
-    let file = opened(i);
-    if file < 0 {
-        return NOT_OPENED;
+fn read_named(rt: HostRuntime, i: usize, room: &mut [u8]) -> Result<usize, Unread>
+    ensures { IfOk result (λ n. n ≤ length room.new) }
+{
+    let Some(mut file) = opened(rt, i) else {
+        return Err(Unread::NotOpened);
+    };
+    match read_full(&mut file, room) {
+        Ok(n) if reads_on(&mut file) => Ok(n),
+        _ => Err(Unread::NotRead),
     }
-    let n = io::read_full(file, room);
-    let is_read = reads_on(file);
-    libc::close(file);
-    if !is_read {
-        return NOT_READ;
-    }
-    n
 }
 
-// The same, and says it where it cannot be read.
-fn read_file(i: usize, room: &mut [u8]) -> usize {
-    let n = read_named(i, room);
-    if n == NOT_OPENED {
-        wrong(b"cannot open the file", i);
+// Reads the file that a word names, as far as there is room, and says it where it cannot be read.
+fn read_file(rt: HostRuntime, i: usize, room: &mut [u8]) -> Option<usize>
+    ensures { IfSome result (λ n. n ≤ length room.new) }
+{
+    match read_named(rt, i, room) {
+        Ok(n) => return Some(n),
+        Err(Unread::NotOpened) => wrong(rt, b"cannot open the file", i),
+        Err(Unread::NotRead) => wrong(rt, b"cannot read the file", i),
     }
-    if n == NOT_READ {
-        wrong(b"cannot read the file", i);
-    }
-    n
+    None
 }
 
 // Makes each character of a text the lie that it stands for. It answers whether each stands for one.
 fn become_lies(text: &mut [u8]) -> bool {
     let mut right = true;
-    for k in 0..text.len() {
-        let lie = std::num::wrapping_sub_u8(text[k], NORMAL_CHARACTER);
+    for c in text.iter_mut() {
+        let lie = c.wrapping_sub(NORMAL_CHARACTER);
         right = right & (lie <= UNKNOWN);
-        text[k] = lie;
+        *c = lie;
     }
     right
 }
 
 // Whether a word is the lies themselves, a character for each. They then stand in the room.
-fn are_in_word(i: usize, room: &mut [u8]) -> bool {
-    let n = os::arg(i, room);
-    if os::errno() != 0 {
+fn are_in_word(rt: HostRuntime, i: usize, room: &mut [u8]) -> bool
+    ensures { IsTrue result → 256 ≤ length room.new }
+{
+    let Ok(n) = rt.arg(i, room) else {
         return false;
-    }
+    };
     n == LIES && become_lies(&mut room[..n])
 }
 
 // Reads the lies, from a word or from the file that it names, as far as there is room, and says it where it is neither.
-fn read_lies(i: usize, room: &mut [u8]) -> usize {
-    if are_in_word(i, room) {
-        return LIES;
+fn read_lies(rt: HostRuntime, i: usize, room: &mut [u8]) -> Option<usize>
+    ensures { IfSome result (λ n. n ≤ length room.new) }
+{
+    if are_in_word(rt, i, room) {
+        return Some(LIES);
     }
-    let n = read_named(i, room);
-    if NOT_OPENED <= n {
-        wrong(
-            b"neither a file that can be read nor 256 characters 0, 1 and 2:",
-            i,
-        );
+    if let Ok(n) = read_named(rt, i, room) {
+        return Some(n);
     }
-    n
+    wrong(
+        rt,
+        b"neither a file that can be read nor 256 characters 0, 1 and 2:",
+        i,
+    );
+    None
 }
 
 // Answers a question about one file.
-fn answer(question: usize, f: &[u8], a: usize, b: usize) {
+fn answer(out: Stdout, question: usize, f: &[u8], a: usize, b: usize) {
     if question == X1 {
-        answers::x1(f);
+        answers::x1(out, f);
     } else if question == X1_VERSION_1 {
-        answers::x1_version_1(f);
+        answers::x1_version_1(out, f);
     } else if question == X2 {
-        answers::x2(f);
+        answers::x2(out, f);
     } else if question == HEADER1 {
-        answers::header1(f);
+        answers::header1(out, f);
     } else if question == HEADER2 {
-        answers::header2(f);
+        answers::header2(out, f);
     } else if question == TRACK {
-        answers::track(f, a);
+        answers::track(out, f, a);
     } else if question == POINT {
-        answers::point(f, a, b);
+        answers::point(out, f, a, b);
     } else if question == COORDINATE {
-        answers::coordinate(f, a, b);
+        answers::coordinate(out, f, a, b);
     } else if question == DEGREES {
-        answers::degrees(f, a, b);
+        answers::degrees(out, f, a, b);
     } else if question == POINT_DEGREES {
-        answers::point_degrees(f, a, b);
+        answers::point_degrees(out, f, a, b);
     } else {
-        answers::record(f, a);
+        answers::record(out, f, a);
     }
 }
 
 // The same, about the file that the command line names.
-fn ask(question: usize, a: usize, b: usize) {
-    let mut room = io::large_buffer();
-    let n = read_file(FIRST, &mut room);
-    if ROOM < n {
+fn ask(rt: HostRuntime, question: usize, a: usize, b: usize) {
+    let mut room = [0u8; ROOM];
+    let Some(n) = read_file(rt, FIRST, &mut room) else {
         return;
-    }
-    answer(question, &room[..n], a, b);
+    };
+    answer(rt.stdout(), question, &room[..n], a, b);
 }
 
 // The same, once its numbers are numbers.
-fn ask_with_numbers(question: usize) {
-    let a = number(NUMBER);
+fn ask_with_numbers(rt: HostRuntime, question: usize) {
+    let a = number(rt, NUMBER);
     if NO_NUMBER <= a {
         return;
     }
-    let b = number(NEXT_NUMBER);
+    let b = number(rt, NEXT_NUMBER);
     if NO_NUMBER <= b {
         return;
     }
-    ask(question, a, b);
+    ask(rt, question, a, b);
 }
 
 // Answers the question ahead about a pair of files, by the lies of the command line.
-fn look_ahead(first: &[u8], second: &[u8], offset: usize, link: usize) {
+fn look_ahead(rt: HostRuntime, first: &[u8], second: &[u8], offset: usize, link: usize) {
     let mut lies = [0u8; LIES_ROOM];
-    let n = read_lies(LIES_WORD, &mut lies);
-    if LIES_ROOM < n {
-        return;
+    if let Some(n) = read_lies(rt, LIES_WORD, &mut lies) {
+        answers::ahead(
+            rt.stdout(),
+            first,
+            second,
+            offset,
+            link,
+            &lies[..n],
+            ROOM_LEAST,
+        );
     }
-    answers::ahead(first, second, offset, link, &lies[..n], ROOM_LEAST);
 }
 
 // Answers a question about a pair of files.
-fn answer_pair(question: usize, first: &[u8], second: &[u8], offset: usize, link: usize) {
+fn answer_pair(
+    rt: HostRuntime,
+    question: usize,
+    first: &[u8],
+    second: &[u8],
+    offset: usize,
+    link: usize,
+) {
     if question == PAIR {
-        answers::pair(first, second);
+        answers::pair(rt.stdout(), first, second);
     } else {
-        look_ahead(first, second, offset, link);
+        look_ahead(rt, first, second, offset, link)
     }
 }
 
 // The same, about the files that the command line names.
-fn ask_pair(question: usize, offset: usize, link: usize) {
-    let mut first = io::large_buffer();
-    let n = read_file(FIRST, &mut first);
-    if ROOM < n {
+fn ask_pair(rt: HostRuntime, question: usize, offset: usize, link: usize) {
+    let mut first = [0u8; ROOM];
+    let Some(n) = read_file(rt, FIRST, &mut first) else {
         return;
-    }
-    let mut second = io::large_buffer();
-    let m = read_file(SECOND, &mut second);
-    if ROOM < m {
+    };
+    let mut second = [0u8; ROOM];
+    let Some(m) = read_file(rt, SECOND, &mut second) else {
         return;
-    }
-    answer_pair(question, &first[..n], &second[..m], offset, link);
+    };
+    answer_pair(rt, question, &first[..n], &second[..m], offset, link);
 }
 
 // The same, once its numbers are numbers.
-fn ask_pair_with_numbers(question: usize) {
-    let offset = number(OFFSET);
+fn ask_pair_with_numbers(rt: HostRuntime, question: usize) {
+    let offset = number(rt, OFFSET);
     if NO_NUMBER <= offset {
         return;
     }
-    let link = number(LINK);
+    let link = number(rt, LINK);
     if NO_NUMBER <= link {
         return;
     }
-    ask_pair(question, offset, link);
+    ask_pair(rt, question, offset, link);
 }
 
 // Answers the question routes, by an engine, and says it where the list would fit the words that are asked for and not those that are here.
 fn answer_routes(
+    rt: HostRuntime,
     engine: Engine,
     f: &[u8],
     start: usize,
@@ -478,79 +517,86 @@ fn answer_routes(
     budget: usize,
     words: usize,
 ) {
-    let number = listings::routes(engine, f, start, limit, budget, words);
+    let number = listings::routes(rt.stdout(), engine, f, start, limit, budget, words);
     if number == NO_ROOM && MOST_ROOM < words {
         write(
+            rt.stderr(),
             b"yardask: the list takes more words than the 65535 that this program has room for\n",
         );
     }
 }
 
 // The same, about the file that the command line names.
-fn list_routes(engine: Engine, start: usize, limit: usize, budget: usize, words: usize) {
-    let mut room = io::large_buffer();
-    let n = read_file(FIRST, &mut room);
-    if ROOM < n {
+fn list_routes(
+    rt: HostRuntime,
+    engine: Engine,
+    start: usize,
+    limit: usize,
+    budget: usize,
+    words: usize,
+) {
+    let mut room = [0u8; ROOM];
+    let Some(n) = read_file(rt, FIRST, &mut room) else {
         return;
-    }
-    answer_routes(engine, &room[..n], start, limit, budget, words);
+    };
+    answer_routes(rt, engine, &room[..n], start, limit, budget, words);
 }
 
 // The same, once the last two of its numbers are numbers.
-fn ask_within(engine: Engine, start: usize, limit: usize) {
-    let budget = number(THIRD_NUMBER);
+fn ask_within(rt: HostRuntime, engine: Engine, start: usize, limit: usize) {
+    let budget = number(rt, THIRD_NUMBER);
     if NO_NUMBER <= budget {
         return;
     }
-    let words = number(FOURTH_NUMBER);
+    let words = number(rt, FOURTH_NUMBER);
     if NO_NUMBER <= words {
         return;
     }
-    list_routes(engine, start, limit, budget, words);
+    list_routes(rt, engine, start, limit, budget, words);
 }
 
 // The same, once the first two of its numbers are numbers.
-fn ask_routes(engine: Engine) {
-    let start = number(NUMBER);
+fn ask_routes(rt: HostRuntime, engine: Engine) {
+    let start = number(rt, NUMBER);
     if NO_NUMBER <= start {
         return;
     }
-    let limit = number(NEXT_NUMBER);
+    let limit = number(rt, NEXT_NUMBER);
     if NO_NUMBER <= limit {
         return;
     }
-    ask_within(engine, start, limit);
+    ask_within(rt, engine, start, limit);
 }
 
 // Answers a question whose command has the words that it takes.
-fn ask_question(asked: usize) {
+fn ask_question(rt: HostRuntime, asked: usize) {
     if asked == PAIR || asked == AHEAD {
-        ask_pair_with_numbers(asked);
+        ask_pair_with_numbers(rt, asked)
     } else if asked == ROUTES {
-        ask_routes(Engine::First);
+        ask_routes(rt, Engine::First)
     } else if asked == ROUTES2 {
-        ask_routes(Engine::Second);
+        ask_routes(rt, Engine::Second)
     } else {
-        ask_with_numbers(asked);
+        ask_with_numbers(rt, asked)
     }
 }
 
 // Answers the command, by the table of questions.
-fn command(table: &[u8]) {
-    let asked = question(table);
+fn command(rt: HostRuntime, table: &[u8]) {
+    let asked = question(rt, table);
     if asked == HELP {
-        io::write_all(STDOUT_FILENO, table);
+        let _ = rt.stdout().write_all(table);
         return;
     }
     if asked == NO_QUESTION {
-        wrong(b"unknown question", QUESTION);
+        wrong(rt, b"unknown question", QUESTION);
         return;
     }
-    if is_counted(table, asked) {
-        ask_question(asked);
+    if is_counted(rt, table, asked) {
+        ask_question(rt, asked);
     }
 }
 
-fn main() {
-    command(&QUESTIONS);
+fn main(rt: HostRuntime) {
+    command(rt, &QUESTIONS);
 }

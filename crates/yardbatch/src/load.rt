@@ -1,11 +1,14 @@
 // The question load (02, ticket 6): the first byte string of a case is a sequence of calls of the loader, each in 1 byte what is called (an opening,
 // a piece and a finishing are 1 to 3), in 4 bytes how much of the room is lent, in 4 bytes a length, and so many bytes. It is read call by call,
 // since it may be longer than a file. The room is filled before the first call, and nothing is opened then.
-ghost use Rattle.std.specs.Prelude.{◌≤◌, ◌<◌, ◌≡◌, length};
+ghost use Rattle.std.specs.Prelude.{◌≤◌, ◌<◌, ◌≡◌, length, IfOk};
 
-use crate::{FIRST_LENGTH, NUMBER, NUMBERS, SECOND_LENGTH, passed_over, stop, stop_inside};
-use libc::{STDIN_FILENO, STDOUT_FILENO};
+use crate::{
+    FIRST_LENGTH, NUMBER, NUMBERS, SECOND_LENGTH, passed_over, read_full, stop, stop_inside,
+};
 use octets::{byte_at, least, u32_at};
+use std::io;
+use std::io::{Read, Stderr, Stdout};
 use text::{line, write_number};
 use transfer::finishing::finish;
 use transfer::opening::{nothing_opened, opening};
@@ -94,25 +97,32 @@ fn called(state: State, call: usize, bytes: &[u8], room: &mut [u8]) -> Step {
 }
 
 // The number and the place of an answer, on a line.
-fn answer_line(verdict: Verdict) {
-    write_number(verdict.number());
-    line(b"", verdict.place());
+fn answer_line(out: Stdout, verdict: Verdict) {
+    write_number(out, verdict.number());
+    line(out, b"", verdict.place());
 }
 
 // Makes a call that is lent so much of the room, or all of it where that is less, and prints its answer. It answers the state after it.
-fn call_answered(state: State, call: usize, lent: usize, bytes: &[u8], room: &mut [u8]) -> State {
+fn call_answered(
+    out: Stdout,
+    state: State,
+    call: usize,
+    lent: usize,
+    bytes: &[u8],
+    room: &mut [u8],
+) -> State {
     let part = least(lent, room.len());
     let step = called(state, call, bytes, &mut room[..part]);
     let verdict = step.verdict;
-    answer_line(verdict);
+    answer_line(out, verdict);
     step.state
 }
 
 // ---- the calls of a case
 
 // Says that a case ends inside a call, as `stop` does.
-fn stop_inside_call() -> bool {
-    stop(b"yardbatch: the calls of a case end inside a call\n")
+fn stop_inside_call(err: Stderr) -> io::Result<bool> {
+    stop(err, b"yardbatch: the calls of a case end inside a call\n")
 }
 
 // How far a case has come that ends too early or is bad, once that is said: it goes no further.
@@ -127,101 +137,156 @@ fn stopped(state: State, said: bool) -> Loaded
 }
 
 // Reads the bytes of the call that begins with a head, and answers it. So many bytes of the calls are left after it.
-fn call_with(state: State, head: &[u8], left: usize, bytes: &mut [u8], room: &mut [u8]) -> Loaded
-    ensures { result.left ≤ left }
+fn call_with(
+    input: &mut impl Read,
+    out: Stdout,
+    err: Stderr,
+    state: State,
+    head: &[u8],
+    left: usize,
+    bytes: &mut [u8],
+    room: &mut [u8],
+) -> io::Result<Loaded>
+    ensures { IfOk result (λ loaded. loaded.left ≤ left) }
 {
     let call = byte_at(head, 0);
     if !is_call(call, bytes.len()) {
-        return stopped(
+        return Ok(stopped(
             state,
-            stop(b"yardbatch: an unknown call, or an opening of other than 20 bytes\n"),
-        );
+            stop(
+                err,
+                b"yardbatch: an unknown call, or an opening of other than 20 bytes\n",
+            )?,
+        ));
     }
-    if io::read_full(STDIN_FILENO, bytes) < bytes.len() {
-        return stopped(state, stop_inside());
+    if read_full(input, bytes)? < bytes.len() {
+        return Ok(stopped(state, stop_inside(err)?));
     }
-    let next = call_answered(state, call, u32_at(head, CALL_LENT), bytes, room);
-    Loaded {
+    let next = call_answered(out, state, call, u32_at(head, CALL_LENT), bytes, room);
+    Ok(Loaded {
         state: next,
         left,
         right: true,
-    }
+    })
 }
 
 // The same, where so many bytes of the calls are left after the head.
-fn call_of(state: State, head: &[u8], left: usize, bytes: &mut [u8], room: &mut [u8]) -> Loaded
-    ensures { result.left ≤ left }
+fn call_of(
+    input: &mut impl Read,
+    out: Stdout,
+    err: Stderr,
+    state: State,
+    head: &[u8],
+    left: usize,
+    bytes: &mut [u8],
+    room: &mut [u8],
+) -> io::Result<Loaded>
+    ensures { IfOk result (λ loaded. loaded.left ≤ left) }
 {
     let n = u32_at(head, CALL_LENGTH);
     if left < n {
-        return stopped(state, stop_inside_call());
+        return Ok(stopped(state, stop_inside_call(err)?));
     }
     if bytes.len() < n {
-        return stopped(
+        return Ok(stopped(
             state,
-            stop(b"yardbatch: a call has more than 131072 bytes\n"),
-        );
+            stop(err, b"yardbatch: a call has more than 131072 bytes\n")?,
+        ));
     }
-    call_with(state, head, left - n, &mut bytes[..n], room)
+    call_with(
+        input,
+        out,
+        err,
+        state,
+        head,
+        left - n,
+        &mut bytes[..n],
+        room,
+    )
 }
 
 // Reads and answers the next call, where some bytes of the calls are left.
-fn next_call(state: State, left: usize, bytes: &mut [u8], room: &mut [u8]) -> Loaded
+fn next_call(
+    input: &mut impl Read,
+    out: Stdout,
+    err: Stderr,
+    state: State,
+    left: usize,
+    bytes: &mut [u8],
+    room: &mut [u8],
+) -> io::Result<Loaded>
     requires { 0 < left }
-    ensures { result.left < left }
+    ensures { IfOk result (λ loaded. loaded.left < left) }
 {
     if left < CALL_HEAD {
-        return stopped(state, stop_inside_call());
+        return Ok(stopped(state, stop_inside_call(err)?));
     }
     let mut head = [0u8; CALL_HEAD];
-    if io::read_full(STDIN_FILENO, &mut head) < CALL_HEAD {
-        return stopped(state, stop_inside());
+    if read_full(input, &mut head)? < CALL_HEAD {
+        return Ok(stopped(state, stop_inside(err)?));
     }
-    call_of(state, &head, left - CALL_HEAD, bytes, room)
+    call_of(input, out, err, state, &head, left - CALL_HEAD, bytes, room)
 }
 
 // Reads and answers the calls of a case, of n bytes.
-fn calls_answered(n: usize, bytes: &mut [u8], room: &mut [u8]) -> Loaded {
+fn calls_answered(
+    input: &mut impl Read,
+    out: Stdout,
+    err: Stderr,
+    n: usize,
+    bytes: &mut [u8],
+    room: &mut [u8],
+) -> io::Result<Loaded> {
     let mut loaded = Loaded {
         state: nothing_opened(),
         left: n,
         right: true,
     };
     while 0 < loaded.left {
-        loaded = next_call(loaded.state, loaded.left, bytes, room);
+        loaded = next_call(input, out, err, loaded.state, loaded.left, bytes, room)?;
     }
-    loaded
+    Ok(loaded)
 }
 
 // ---- a case
 
 // What is printed after the calls: the next byte due, the checksum of the room, and the empty line that ends a case.
-fn end_lines(state: State, room: &[u8]) {
-    line(b"due", state.due);
-    line(b"room", checksum::of(room));
-    io::write_all(STDOUT_FILENO, b"\n");
+fn end_lines(out: Stdout, state: State, room: &[u8]) -> io::Result<()> {
+    line(out, b"due", state.due);
+    line(out, b"room", checksum::of(room));
+    out.write_all(b"\n")
 }
 
 // Answers a case, with room for the bytes of a call and for the file. It answers whether there may be a next case.
-fn case_in(head: &[u8], bytes: &mut [u8], room: &mut [u8]) -> bool {
-    let loaded = calls_answered(u32_at(head, FIRST_LENGTH), bytes, room);
+fn case_in(
+    input: &mut impl Read,
+    out: Stdout,
+    err: Stderr,
+    head: &[u8],
+    bytes: &mut [u8],
+    room: &mut [u8],
+) -> io::Result<bool> {
+    let loaded = calls_answered(input, out, err, u32_at(head, FIRST_LENGTH), bytes, room)?;
     if !loaded.right {
-        return false;
+        return Ok(false);
     }
-    if !passed_over(u32_at(head, SECOND_LENGTH)) {
-        return stop_inside();
+    if !passed_over(input, u32_at(head, SECOND_LENGTH))? {
+        return stop_inside(err);
     }
-    end_lines(loaded.state, room);
-    true
+    end_lines(out, loaded.state, room)?;
+    Ok(true)
 }
 
 // Answers the case of load that begins with a head. It answers whether there may be a next case.
-pub fn case_of(head: &[u8]) -> bool {
+pub fn case_of(input: &mut impl Read, out: Stdout, err: Stderr, head: &[u8]) -> io::Result<bool> {
     let size = u32_at(head, NUMBERS);
     if ROOM_MOST < size {
-        return stop(b"yardbatch: a case has a room of more than 65536 bytes\n");
+        return stop(
+            err,
+            b"yardbatch: a case has a room of more than 65536 bytes\n",
+        );
     }
     let mut bytes = call_room();
     let mut room = filled_room();
-    case_in(head, &mut bytes, &mut room[..size])
+    case_in(input, out, err, head, &mut bytes, &mut room[..size])
 }

@@ -10,13 +10,14 @@
 // more, is a line on standard error and ends the run.
 #![tactic(auto)]
 
-ghost use Rattle.std.specs.Prelude.{◌≤◌};
+ghost use Rattle.std.specs.Prelude.{◌≤◌, length, IfOk};
 
 use ahead::LIES;
-use libc::{STDERR_FILENO, STDIN_FILENO, STDOUT_FILENO};
 use listings::{MOST_ROOM, NO_ROOM};
 use octets::{byte_at, least, u32_at};
 use route_question::Engine;
+use std::io;
+use std::io::{Read, Stderr, Stdout};
 
 mod load;
 
@@ -76,163 +77,195 @@ const LIES_ROOM: usize = LIES + 1;
 const PART: usize = 4096;
 
 // Says why the run ends. It answers false: there is no next case.
-fn stop(why: &[u8]) -> bool {
-    io::write_all(STDERR_FILENO, why);
-    false
+fn stop(err: Stderr, why: &[u8]) -> io::Result<bool> {
+    err.write_all(why)?;
+    Ok(false)
 }
 
 // The same, where the input ends too early.
-fn stop_inside() -> bool {
-    stop(b"yardbatch: the input ends inside a case\n")
+fn stop_inside(err: Stderr) -> io::Result<bool> {
+    stop(err, b"yardbatch: the input ends inside a case\n")
+}
+
+// Reads until the room is full or the input ends. It answers how many bytes then stand at the front of the room.
+fn read_full(input: &mut impl Read, room: &mut [u8]) -> io::Result<usize>
+    ensures { IfOk result (λ n. n ≤ length room.new) }
+{
+    let mut got = 0;
+    while got < room.len() {
+        let n = input.read(&mut room[got..])?;
+        if n == 0 {
+            break;
+        }
+        got += n;
+    }
+    Ok(got)
 }
 
 // Passes over n bytes of the input, no more than a part. It answers whether they were there.
-fn part_passed_over(n: usize) -> bool
+fn part_passed_over(input: &mut impl Read, n: usize) -> io::Result<bool>
     requires { n ≤ 4096 }
 {
-    let mut part = io::buffer();
-    let got = io::read_full(STDIN_FILENO, &mut part[..n]);
-    n <= got
+    let mut part = [0u8; PART];
+    let got = read_full(input, &mut part[..n])?;
+    Ok(n <= got)
 }
 
 // Passes over n bytes of the input. It answers whether they were there.
-fn passed_over(n: usize) -> bool {
+fn passed_over(input: &mut impl Read, n: usize) -> io::Result<bool> {
     let mut left = n;
     while 0 < left {
         let part = least(left, PART);
-        if !part_passed_over(part) {
-            return false;
+        if !part_passed_over(input, part)? {
+            return Ok(false);
         }
         left -= part;
     }
-    true
+    Ok(true)
 }
 
 // Reads a file of n bytes, of which there is room for some, and passes over the others. It answers whether all its bytes were there.
-fn read_file(room: &mut [u8], n: usize) -> bool {
+fn read_file(input: &mut impl Read, room: &mut [u8], n: usize) -> io::Result<bool> {
     let kept = room.len();
-    let got = io::read_full(STDIN_FILENO, room);
+    let got = read_full(input, room)?;
     if got < kept {
-        return false;
+        return Ok(false);
     }
     if n < kept {
-        return false;
+        return Ok(false);
     }
-    passed_over(n - kept)
+    passed_over(input, n - kept)
 }
 
 // The list of routes of a case that lends as many words, by an engine. It answers the number of the answer.
-fn listed(engine: Engine, head: &[u8], f: &[u8], words: usize) -> usize {
+fn listed(out: Stdout, engine: Engine, head: &[u8], f: &[u8], words: usize) -> usize {
     let start = u32_at(head, NUMBERS);
     let limit = u32_at(head, NUMBERS + NUMBER);
     let budget = u32_at(head, NUMBERS + 2 * NUMBER);
-    listings::routes(engine, f, start, limit, budget, words)
+    listings::routes(out, engine, f, start, limit, budget, words)
 }
 
 // Answers the question routes, by an engine. It answers whether it could.
-fn routes_answered(engine: Engine, head: &[u8], f: &[u8]) -> bool {
+fn routes_answered(
+    out: Stdout,
+    err: Stderr,
+    engine: Engine,
+    head: &[u8],
+    f: &[u8],
+) -> io::Result<bool> {
     let words = u32_at(head, NUMBERS + 3 * NUMBER);
-    let number = listed(engine, head, f, words);
+    let number = listed(out, engine, head, f, words);
     if number == NO_ROOM && MOST_ROOM < words {
         return stop(
+            err,
             b"yardbatch: a list takes more words than the 65535 that this program has room for\n",
         );
     }
-    true
+    Ok(true)
 }
 
 // Answers a question about a whole file or a pair, and says whether it is one.
-fn file_answered(question: usize, first: &[u8], second: &[u8]) -> bool {
+fn file_answered(out: Stdout, question: usize, first: &[u8], second: &[u8]) -> bool {
     if question == X1 {
-        answers::x1(first);
+        answers::x1(out, first);
         return true;
     }
     if question == X2 {
-        answers::x2(first);
+        answers::x2(out, first);
         return true;
     }
     if question == PAIR {
-        answers::pair(first, second);
+        answers::pair(out, first, second);
         return true;
     }
     if question == HEADER1 {
-        answers::header1(first);
+        answers::header1(out, first);
         return true;
     }
     if question == HEADER2 {
-        answers::header2(first);
+        answers::header2(out, first);
         return true;
     }
     if question == X1_VERSION_1 {
-        answers::x1_version_1(first);
+        answers::x1_version_1(out, first);
         return true;
     }
     false
 }
 
 // Answers a question about what a file holds, by its numbers, and says whether it is one.
-fn part_answered(question: usize, head: &[u8], first: &[u8]) -> bool {
+fn part_answered(out: Stdout, question: usize, head: &[u8], first: &[u8]) -> bool {
     let a = u32_at(head, NUMBERS);
     let b = u32_at(head, NUMBERS + NUMBER);
     if question == TRACK {
-        answers::track(first, a);
+        answers::track(out, first, a);
         return true;
     }
     if question == POINT {
-        answers::point(first, a, b);
+        answers::point(out, first, a, b);
         return true;
     }
     if question == COORDINATE {
-        answers::coordinate(first, a, b);
+        answers::coordinate(out, first, a, b);
         return true;
     }
     if question == RECORD {
-        answers::record(first, a);
+        answers::record(out, first, a);
         return true;
     }
     if question == DEGREES {
-        answers::degrees(first, a, b);
+        answers::degrees(out, first, a, b);
         return true;
     }
     if question == POINT_DEGREES {
-        answers::point_degrees(first, a, b);
+        answers::point_degrees(out, first, a, b);
         return true;
     }
     false
 }
 
 // Answers the question ahead.
-fn ahead_answered(head: &[u8], first: &[u8], second: &[u8], lies: &[u8]) {
+fn ahead_answered(out: Stdout, head: &[u8], first: &[u8], second: &[u8], lies: &[u8]) {
     let offset = u32_at(head, NUMBERS);
     let link = u32_at(head, NUMBERS + NUMBER);
     let room = u32_at(head, NUMBERS + 3 * NUMBER);
-    answers::ahead(first, second, offset, link, lies, room);
+    answers::ahead(out, first, second, offset, link, lies, room);
 }
 
 // Answers the question of a case. It answers whether it could.
-fn answered(head: &[u8], first: &[u8], second: &[u8], lies: &[u8]) -> bool {
+fn answered(
+    out: Stdout,
+    err: Stderr,
+    head: &[u8],
+    first: &[u8],
+    second: &[u8],
+    lies: &[u8],
+) -> io::Result<bool> {
     let question = byte_at(head, 0);
     if question == ROUTES {
-        return routes_answered(Engine::First, head, first);
+        return routes_answered(out, err, Engine::First, head, first);
     }
     if question == ROUTES2 {
-        return routes_answered(Engine::Second, head, first);
+        return routes_answered(out, err, Engine::Second, head, first);
     }
     if question == AHEAD {
-        ahead_answered(head, first, second, lies);
-        return true;
+        ahead_answered(out, head, first, second, lies);
+        return Ok(true);
     }
-    if file_answered(question, first, second) {
-        return true;
+    if file_answered(out, question, first, second) {
+        return Ok(true);
     }
-    if part_answered(question, head, first) {
-        return true;
+    if part_answered(out, question, head, first) {
+        return Ok(true);
     }
-    stop(b"yardbatch: unknown question\n")
+    stop(err, b"yardbatch: unknown question\n")
 }
 
 // Reads the files and the lies of a case, of n, m and k bytes, and answers it. It answers whether there may be a next case.
 fn case_in(
+    input: &mut impl Read,
+    out: Stdout,
+    err: Stderr,
     head: &[u8],
     first: &mut [u8],
     n: usize,
@@ -240,33 +273,43 @@ fn case_in(
     m: usize,
     lies: &mut [u8],
     k: usize,
-) -> bool {
-    if !read_file(first, n) {
-        return stop_inside();
+) -> io::Result<bool> {
+    if !read_file(input, first, n)? {
+        return stop_inside(err);
     }
-    if !read_file(second, m) {
-        return stop_inside();
+    if !read_file(input, second, m)? {
+        return stop_inside(err);
     }
-    if !read_file(lies, k) {
-        return stop_inside();
+    if !read_file(input, lies, k)? {
+        return stop_inside(err);
     }
-    if !answered(head, first, second, lies) {
-        return false;
+    if !answered(out, err, head, first, second, lies)? {
+        return Ok(false);
     }
-    io::write_all(STDOUT_FILENO, b"\n");
-    true
+    out.write_all(b"\n")?;
+    Ok(true)
 }
 
 // The same, with room for the two files and the lies, where the second file has m bytes and there are k lies.
-fn case_with(head: &[u8], m: usize, k: usize) -> bool {
-    let mut first = io::large_buffer();
-    let mut second = io::large_buffer();
+fn case_with(
+    input: &mut impl Read,
+    out: Stdout,
+    err: Stderr,
+    head: &[u8],
+    m: usize,
+    k: usize,
+) -> io::Result<bool> {
+    let mut first = [0u8; ROOM];
+    let mut second = [0u8; ROOM];
     let mut lies = [0u8; LIES_ROOM];
     let n = u32_at(head, FIRST_LENGTH);
     let a = least(n, ROOM);
     let b = least(m, ROOM);
     let c = least(k, LIES_ROOM);
     case_in(
+        input,
+        out,
+        err,
         head,
         &mut first[..a],
         n,
@@ -286,35 +329,38 @@ fn lies_of(head: &[u8]) -> usize {
 }
 
 // Answers the case that begins with a head. It answers whether there may be a next case.
-fn case_of(head: &[u8]) -> bool {
+fn case_of(input: &mut impl Read, out: Stdout, err: Stderr, head: &[u8]) -> io::Result<bool> {
     if byte_at(head, 0) == LOAD {
-        return load::case_of(head);
+        return load::case_of(input, out, err, head);
     }
     let bytes = u32_at(head, SECOND_LENGTH);
     let lies = lies_of(head);
     if bytes < lies {
-        return stop(b"yardbatch: a case has more lies than bytes\n");
+        return stop(err, b"yardbatch: a case has more lies than bytes\n");
     }
-    case_with(head, bytes - lies, lies)
+    case_with(input, out, err, head, bytes - lies, lies)
 }
 
 // Reads and answers a case. It answers whether there may be a next one.
-fn next_case() -> bool {
+fn next_case(input: &mut impl Read, out: Stdout, err: Stderr) -> io::Result<bool> {
     let mut head = [0u8; HEAD];
-    let got = io::read_full(STDIN_FILENO, &mut head);
+    let got = read_full(input, &mut head)?;
     if got == 0 {
-        return false;
+        return Ok(false);
     }
     if got < HEAD {
-        return stop_inside();
+        return stop_inside(err);
     }
-    case_of(&head)
+    case_of(input, out, err, &head)
 }
 
-// A proved loop has to end, and nothing says that the input does: it counts down from a number that no run uses up.
-fn main() {
-    let mut turns = u64::MAX;
-    while turns > 0 && next_case() {
-        turns -= 1;
+// A proved loop has to end, and nothing says that the input does: it stops after as many cases as no run has.
+fn main(rt: HostRuntime) -> io::Result<()> {
+    let mut input = rt.stdin();
+    for _ in 0..u64::MAX {
+        if !next_case(&mut input, rt.stdout(), rt.stderr())? {
+            break;
+        }
     }
+    Ok(())
 }

@@ -3,17 +3,21 @@
 // is said on standard error.
 #![tactic(auto)]
 
-ghost use Rattle.std.specs.Prelude.{◌≡◌, ◌≤◌, length};
+ghost use Rattle.std.specs.Prelude.{◌≡◌, ◌≤◌, length, IfOk, IfSome};
 ghost use Rattle.plan_reading.specs.ReadPlan.{plan_read, named_by, named_in};
 
 use decimal::number_in;
-use libc::STDERR_FILENO;
 use octets::{byte_at, least, less};
 use plan_lines::{Slip, length_before};
 use plan_question::{Compared, MOST_ROOM, PlanAnswer};
 use plan_reading::{NO_START, Reading, Said, take};
 use plan_routes::{is_apart, route_end};
 use route_question::Engine;
+use std::env::FillError;
+use std::fs::File;
+use std::io::{Read, Stderr, Stdout};
+use std::rt::Env;
+use std::{fs, io, str};
 use text::{head, line, write, write_number};
 use verdict::Fault;
 
@@ -43,6 +47,9 @@ const BUDGET_LEFT_OUT: usize = 65535;
 
 const ROOM_LEFT_OUT: usize = 65535;
 
+// The longest word that is shown, and that may name a file.
+const WORD_ROOM: usize = 4096;
+
 // A number of the command is at most this; the longest word that may be one; and what stands for a word that is none.
 const NUMBER_MOST: u32 = 0xFFFF_FFFF;
 
@@ -54,9 +61,6 @@ const NO_NUMBER: usize = 0x1_0000_0000;
 const FILE_ROOM: usize = 65536;
 
 const PLAN_ROOM: usize = 1048577;
-
-// The length of a file that cannot be read: more than there is room for.
-const NO_FILE: usize = 1048578;
 
 // Room for the words of every plan: a route of n offsets takes n + 1 words, and with the end of its line at least 2 * n bytes; n is 2 or more.
 const PLAN_WORDS: usize = 1048577;
@@ -75,85 +79,73 @@ struct Question {
     room: usize,
 }
 
-// Room for the words of a plan, and for its text. The contracts say how much it is, which is all that lending it needs.
-fn plan_words() -> [u16; PLAN_WORDS]
-    ensures { 1048577 ≡ length result }
-{
-    [0; PLAN_WORDS]
-}
-
-fn plan_room() -> [u8; PLAN_ROOM]
-    ensures { 1048577 ≡ length result }
-{
-    [0; PLAN_ROOM]
-}
-
 // ---- standard error
 
 // Some text.
-fn say(text: &[u8]) {
-    io::write_all(STDERR_FILENO, text);
+fn say(err: Stderr, text: &[u8]) {
+    let _ = err.write_all(text);
 }
 
 // What is wrong with the command.
-fn wrong(why: &[u8]) {
-    say(b"yardplan: ");
-    say(why);
-    say(b"\n");
+fn wrong(err: Stderr, why: &[u8]) {
+    say(err, b"yardplan: ");
+    say(err, why);
+    say(err, b"\n");
 }
 
 // What is wrong with a word of it.
-fn wrong_word(why: &[u8], i: usize) {
-    let mut word = io::buffer();
-    let n = os::arg(i, &mut word);
-    say(b"yardplan: ");
-    say(why);
-    say(b" '");
-    say(&word[..n]);
-    say(b"'\n");
+fn wrong_word(rt: HostRuntime, why: &[u8], i: usize) {
+    let mut word = [0u8; WORD_ROOM];
+    let n = rt.arg(i, &mut word).unwrap_or(0);
+    say(rt.stderr(), b"yardplan: ");
+    say(rt.stderr(), why);
+    say(rt.stderr(), b" '");
+    say(rt.stderr(), &word[..n]);
+    say(rt.stderr(), b"'\n");
 }
 
 // What is wrong with a line of the plan.
-fn wrong_line(number: usize, why: &[u8]) {
-    say(b"yardplan: line ");
-    io::print_decimal(STDERR_FILENO, number as u64);
-    say(b" of the plan: ");
-    say(why);
-    say(b"\n");
+fn wrong_line(err: Stderr, number: usize, why: &[u8]) {
+    say(err, b"yardplan: line ");
+    let _ = print!(err; "{number}");
+    say(err, b" of the plan: ");
+    say(err, why);
+    say(err, b"\n");
 }
 
 // The same, by what it is.
-fn slip_line(number: usize, slip: Slip) {
+fn slip_line(err: Stderr, number: usize, slip: Slip) {
     match slip {
-        Slip::From => wrong_line(number, b"'from' takes one offset from 0 to 65535"),
-        Slip::Word => wrong_line(number, b"a word is no offset from 0 to 65535"),
-        Slip::Few => wrong_line(number, b"a route has at least 2 offsets"),
-        Slip::Many => wrong_line(number, b"a route has at most 512 offsets"),
+        Slip::From => wrong_line(err, number, b"'from' takes one offset from 0 to 65535"),
+        Slip::Word => wrong_line(err, number, b"a word is no offset from 0 to 65535"),
+        Slip::Few => wrong_line(err, number, b"a route has at least 2 offsets"),
+        Slip::Many => wrong_line(err, number, b"a route has at most 512 offsets"),
         Slip::Elsewhere => wrong_line(
+            err,
             number,
             b"the route does not start at the offset of the 'from' line above it",
         ),
-        Slip::Again => wrong_line(number, b"the route stands in an earlier line"),
-        Slip::NoRoom => wrong_line(number, b"there is no room for the route"),
+        Slip::Again => wrong_line(err, number, b"the route stands in an earlier line"),
+        Slip::NoRoom => wrong_line(err, number, b"there is no room for the route"),
     }
 }
 
 // ---- the plan
 
 // Names the start that a line names, or says what is wrong with the line.
-fn tell(number: usize, said: Said, named: &mut [bool; STARTS])
+fn tell(err: Stderr, number: usize, said: Said, named: &mut [bool; STARTS])
     ensures { named.new ≡ named_by said named.old }
 {
     match said {
         Said::Nothing => {}
         Said::Start(start) => named[start as usize] = true,
         Said::Route(start) => named[start as usize] = true,
-        Said::Wrong(slip) => slip_line(number, slip),
+        Said::Wrong(slip) => slip_line(err, number, slip),
     }
 }
 
 // Reads a plan: its routes go to the front of `plan`, and its starts are named. It answers how many words the routes take.
-fn read_plan(text: &[u8], plan: &mut [u16], named: &mut [bool; STARTS]) -> usize
+fn read_plan(err: Stderr, text: &[u8], plan: &mut [u16], named: &mut [bool; STARTS]) -> usize
     ensures value { result ≡ (plan_read text.now plan.old).reading.words }
     ensures plan_after { plan.new ≡ (plan_read text.now plan.old).lent }
     ensures named_after { named.new ≡ named_in text.now plan.old named.old }
@@ -170,7 +162,7 @@ fn read_plan(text: &[u8], plan: &mut [u16], named: &mut [bool; STARTS]) -> usize
         let taken = take(&text[at..end], r, plan);
         let said = taken.said;
         lines += 1;
-        tell(lines, said, named);
+        tell(err, lines, said, named);
         r = taken.reading;
         at = end + 1;
     }
@@ -180,114 +172,130 @@ fn read_plan(text: &[u8], plan: &mut [u16], named: &mut [bool; STARTS]) -> usize
 // ---- standard output
 
 // A route after its word, on a line.
-fn route_line(name: &[u8], route: &[u16]) {
-    write(name);
-    let mut k = 0;
-    while k < route.len() {
-        write(b" ");
-        write_number(route[k] as usize);
-        k += 1;
+fn route_line(out: Stdout, name: &[u8], route: &[u16]) {
+    write(out, name);
+    for offset in route {
+        write(out, b" ");
+        write_number(out, *offset as usize);
     }
-    write(b"\n");
+    write(out, b"\n");
 }
 
 // Of the routes in some words those that are from a start and do not stand among others, or all but those; a line for each.
-fn route_lines(name: &[u8], words: &[u16], start: usize, others: &[u16], apart: bool) {
+fn route_lines(out: Stdout, name: &[u8], words: &[u16], start: usize, others: &[u16], apart: bool) {
     let mut at = 0;
     while at < words.len() {
         let end = route_end(words, at);
         let route = &words[at + 1..end];
         if is_apart(route, start, others) == apart {
-            route_line(name, route);
+            route_line(out, name, route);
         }
         at = end;
     }
 }
 
 // How list and plan differ, and the routes of both, those that are missing and those that are extra.
-fn differing_lines(c: Compared, start: usize, plan: &[u16], list: &[u16]) {
-    write(b" differs both ");
-    write_number(less(c.routes, c.extra));
-    write(b" missing ");
-    write_number(c.missing);
-    line(b" extra", c.extra);
-    route_lines(b"both", list, start, plan, false);
-    route_lines(b"missing", plan, start, list, true);
-    route_lines(b"extra", list, start, plan, true);
+fn differing_lines(out: Stdout, c: Compared, start: usize, plan: &[u16], list: &[u16]) {
+    write(out, b" differs both ");
+    write_number(out, less(c.routes, c.extra));
+    write(out, b" missing ");
+    write_number(out, c.missing);
+    line(out, b" extra", c.extra);
+    route_lines(out, b"both", list, start, plan, false);
+    route_lines(out, b"missing", plan, start, list, true);
+    route_lines(out, b"extra", list, start, plan, true);
 }
 
 // What a list and the plan are to each other.
-fn compared_lines(c: Compared, start: usize, plan: &[u16], list: &[u16]) {
+fn compared_lines(out: Stdout, c: Compared, start: usize, plan: &[u16], list: &[u16]) {
     if c.missing == 0 && c.extra == 0 {
-        write(b" agrees ");
-        write_number(c.routes);
-        write(b" routes\n");
+        write(out, b" agrees ");
+        write_number(out, c.routes);
+        write(out, b" routes\n")
     } else {
-        differing_lines(c, start, plan, list);
+        differing_lines(out, c, start, plan, list)
     }
 }
 
 // Why routes are refused.
-fn refused_line(fault: Fault) {
+fn refused_line(out: Stdout, fault: Fault) {
     let reason = fault.reason;
-    line(b" refused", reason.number());
+    line(out, b" refused", reason.number());
 }
 
 // What is answered of a start, with the words that are lent for the list.
-fn answer_lines(f: &[u8], start: usize, q: Question, plan: &[u16], list: &mut [u16]) {
+fn answer_lines(out: Stdout, f: &[u8], start: usize, q: Question, plan: &[u16], list: &mut [u16]) {
     let by = q.engine;
     match plan_question::compare(by, f, start, q.limit, q.budget, plan, list) {
         PlanAnswer::Compared(c) => {
             let n = c.words;
-            compared_lines(c, start, plan, &list[..n])
+            compared_lines(out, c, start, plan, &list[..n])
         }
-        PlanAnswer::Refused(fault) => refused_line(fault),
+        PlanAnswer::Refused(fault) => refused_line(out, fault),
     }
 }
 
 // The routes from a start beside the plan.
-fn start_lines(f: &[u8], start: usize, q: Question, plan: &[u16]) {
-    write(b"from ");
-    write_number(start);
+fn start_lines(out: Stdout, f: &[u8], start: usize, q: Question, plan: &[u16]) {
+    write(out, b"from ");
+    write_number(out, start);
     let mut list = [0u16; MOST_ROOM];
     let room = least(q.room, MOST_ROOM);
-    answer_lines(f, start, q, plan, &mut list[..room]);
+    answer_lines(out, f, start, q, plan, &mut list[..room]);
 }
 
 // The same from each start that is named. It answers whether one is.
-fn every_start(f: &[u8], q: Question, plan: &[u16], named: &[bool; STARTS]) -> bool {
+fn every_start(out: Stdout, f: &[u8], q: Question, plan: &[u16], named: &[bool; STARTS]) -> bool {
     let mut some = false;
     for start in 0..STARTS {
         if named[start] {
             some = true;
-            start_lines(f, start, q, plan);
+            start_lines(out, f, start, q, plan);
         }
     }
     some
 }
 
 // Compares an X.2 file with a plan, with room for the words of its routes.
-fn compare_with(f: &[u8], text: &[u8], q: Question, plan: &mut [u16], named: &mut [bool; STARTS]) {
-    let words = read_plan(text, plan, named);
-    if !every_start(f, q, &plan[..words], named) {
-        wrong(b"the plan names no start");
+fn compare_with(
+    out: Stdout,
+    err: Stderr,
+    f: &[u8],
+    text: &[u8],
+    q: Question,
+    plan: &mut [u16; PLAN_WORDS],
+    named: &mut [bool; STARTS],
+) {
+    let words = read_plan(err, text, plan, named);
+    if !every_start(out, f, q, &plan[..words], named) {
+        wrong(err, b"the plan names no start");
     }
 }
 
 // Compares an X.2 file with a plan.
-fn compare(f: &[u8], text: &[u8], q: Question) {
+fn compare(out: Stdout, err: Stderr, f: &[u8], text: &[u8], q: Question) {
     let v = x2_verdict::verdict_of(f);
-    head(b"verdict", v.number(), v.place());
+    head(out, b"verdict", v.number(), v.place());
     if PLAN_ROOM <= text.len() {
-        wrong(b"the plan is longer than 1048576 bytes");
+        wrong(err, b"the plan is longer than 1048576 bytes");
         return;
     }
     let mut named = [false; STARTS];
-    let mut plan = plan_words();
-    compare_with(f, text, q, &mut plan, &mut named);
+    let mut plan = [0u16; PLAN_WORDS];
+    compare_with(out, err, f, text, q, &mut plan, &mut named);
 }
 
 // ---- the command
+
+// How many words the command has, the program's own name being the first of them.
+fn word_count(rt: HostRuntime) -> usize {
+    for i in 0..usize::MAX {
+        if let Err(FillError::NotPresent) = rt.arg(i, &mut []) {
+            return i;
+        }
+    }
+    usize::MAX
+}
 
 // Whether two texts are the same.
 fn is_same(a: &[u8], b: &[u8]) -> bool {
@@ -300,16 +308,15 @@ fn is_same(a: &[u8], b: &[u8]) -> bool {
 }
 
 // The engine that the last of the words picks, if it stands after both files.
-fn engine(words: usize) -> Engine {
+fn engine(rt: HostRuntime, words: usize) -> Engine {
     if words <= WORDS_LEAST {
         return Engine::First;
     }
     let mut word = [0u8; NUMBER_ROOM];
-    let n = os::arg(words - 1, &mut word);
-    if os::errno() == 0 && is_same(&word[..n], &SECOND_ENGINE) {
-        return Engine::Second;
+    match rt.arg(words - 1, &mut word) {
+        Ok(n) if is_same(&word[..n], &SECOND_ENGINE) => Engine::Second,
+        _ => Engine::First,
     }
-    Engine::First
 }
 
 // The words before the one that picks the engine.
@@ -322,100 +329,117 @@ fn words_before(engine: Engine, words: usize) -> usize {
 
 // The number that a word of the command is, and what it is where that word is none of the first so many. It is said where the word is no
 // number.
-fn number(words: usize, i: usize, left_out: usize) -> usize {
+fn number(rt: HostRuntime, words: usize, i: usize, left_out: usize) -> usize {
     if words <= i {
         return left_out;
     }
     let mut word = [0u8; NUMBER_ROOM];
-    let n = os::arg(i, &mut word);
-    if os::errno() == 0 {
+    if let Ok(n) = rt.arg(i, &mut word) {
         let found = number_in(&word[..n], NUMBER_MOST);
         if found < NO_NUMBER {
             return found;
         }
     }
-    wrong_word(b"no number below 4294967296:", i);
+    wrong_word(rt, b"no number below 4294967296:", i);
     NO_NUMBER
 }
 
 // Opens the file that a word names.
-fn opened(i: usize) -> i32 {
-    let mut path = io::buffer();
-    let n = os::arg(i, &mut path);
-    if os::errno() != 0 {
-        return -1;
-    }
-    os::open_read(&path[..n])
+fn opened(rt: HostRuntime, i: usize) -> Option<File> {
+    let mut word = [0u8; WORD_ROOM];
+    let n = rt.arg(i, &mut word).ok()?;
+    let path = str::from_utf8(&word[..n]).ok()?;
+    fs::open(&rt, path).ok()
 }
 
-// Whether a file can be read further or has ended, and reading it did not fail.
-fn reads_on(file: i32) -> bool {
+// Whether a file can be read further or has ended, and reading it does not fail.
+fn reads_on(file: &mut impl Read) -> bool {
     let mut next = [0u8; 1];
-    0 <= libc::read(file, &mut next)
+    file.read(&mut next).is_ok()
+}
+
+// Reads until the room is full or the input ends. It answers how many bytes then stand at the front of the room.
+fn read_full(input: &mut impl Read, room: &mut [u8]) -> io::Result<usize>
+    ensures { IfOk result (λ n. n ≤ length room.new) }
+{
+    let mut got = 0;
+    while got < room.len() {
+        let n = input.read(&mut room[got..])?;
+        if n == 0 {
+            break;
+        }
+        got += n;
+    }
+    Ok(got)
 }
 
 // Reads the file that a word names, as far as there is room, and says it where it cannot be read.
-fn read_file(i: usize, room: &mut [u8]) -> usize {
-    let file = opened(i);
-    if file < 0 {
-        wrong_word(b"cannot open the file", i);
-        return NO_FILE;
+fn read_file(rt: HostRuntime, i: usize, room: &mut [u8]) -> Option<usize>
+    ensures { IfSome result (λ n. n ≤ length room.new) }
+{
+    let Some(mut file) = opened(rt, i) else {
+        wrong_word(rt, b"cannot open the file", i);
+        return None;
+    };
+    match read_full(&mut file, room) {
+        Ok(n) if reads_on(&mut file) => Some(n),
+        _ => {
+            wrong_word(rt, b"cannot read the file", i);
+            None
+        }
     }
-    let n = io::read_full(file, room);
-    let is_read = reads_on(file);
-    libc::close(file);
-    if !is_read {
-        wrong_word(b"cannot read the file", i);
-        return NO_FILE;
-    }
-    n
+}
+
+// Compares an X.2 file with the plan that the command names, with room for its text.
+fn compare_named(rt: HostRuntime, f: &[u8], q: Question, room: &mut [u8; PLAN_ROOM]) {
+    let Some(n) = read_file(rt, PLAN, room) else {
+        return;
+    };
+    compare(rt.stdout(), rt.stderr(), f, &room[..n], q);
 }
 
 // Compares the files that the command names.
-fn compare_files(q: Question) {
-    let mut file = io::large_buffer();
-    let n = read_file(FILE, &mut file);
-    if FILE_ROOM < n {
+fn compare_files(rt: HostRuntime, q: Question) {
+    let mut file = [0u8; FILE_ROOM];
+    let Some(n) = read_file(rt, FILE, &mut file) else {
         return;
-    }
-    let mut plan = plan_room();
-    let m = read_file(PLAN, &mut plan);
-    if PLAN_ROOM < m {
-        return;
-    }
-    compare(&file[..n], &plan[..m], q);
+    };
+    let mut plan = [0u8; PLAN_ROOM];
+    compare_named(rt, &file[..n], q, &mut plan);
 }
 
 // The same, once the numbers of the command are numbers.
-fn command(engine: Engine, words: usize) {
+fn command(rt: HostRuntime, engine: Engine, words: usize) {
     let q = Question {
         engine: engine,
-        limit: number(words, LIMIT, LIMIT_LEFT_OUT),
-        budget: number(words, BUDGET, BUDGET_LEFT_OUT),
-        room: number(words, ROOM, ROOM_LEFT_OUT),
+        limit: number(rt, words, LIMIT, LIMIT_LEFT_OUT),
+        budget: number(rt, words, BUDGET, BUDGET_LEFT_OUT),
+        room: number(rt, words, ROOM, ROOM_LEFT_OUT),
     };
     if q.limit == NO_NUMBER || q.budget == NO_NUMBER || q.room == NO_NUMBER {
         return;
     }
     if MOST_ROOM < q.room {
         wrong_word(
+            rt,
             b"more words than the 65535 that this program has room for:",
             ROOM,
         );
         return;
     }
-    compare_files(q);
+    compare_files(rt, q);
 }
 
-fn main() {
-    let given = os::arg_count();
-    let picked = engine(given);
+fn main(rt: HostRuntime) {
+    let given = word_count(rt);
+    let picked = engine(rt, given);
     let words = words_before(picked, given);
     if words < WORDS_LEAST || WORDS_MOST < words {
         wrong(
+            rt.stderr(),
             b"too few or too many words; it is asked by yardplan FILE PLAN [LIMIT [BUDGET [ROOM]]] [routes2]",
         );
         return;
     }
-    command(picked, words);
+    command(rt, picked, words);
 }

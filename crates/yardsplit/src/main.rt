@@ -4,12 +4,17 @@
 // to open the file, is one line on standard error, and then nothing stands on standard output.
 #![tactic(auto)]
 
-ghost use Rattle.std.specs.Prelude.{◌≤◌};
+ghost use Rattle.std.specs.Prelude.{◌≤◌, length, IfOk, IfSome};
 
 use decimal::number_in;
 use loading::refusals::opening_refused;
 use loading::said::{say, wrong, wrong_word};
 use octets::{least, u32_at};
+use std::env::FillError;
+use std::fs::File;
+use std::io::{Read, Stderr, Stdout};
+use std::rt::Env;
+use std::{fs, io, str};
 use text::{line, write, write_number};
 use transfer::heads::head_of;
 use transfer::opening::nothing_opened;
@@ -32,6 +37,9 @@ const PIECES_WORDS: usize = 3;
 // The word that asks how the program is asked.
 const HELP: [u8; 4] = *b"help";
 
+// The longest word that may name a file.
+const WORD_ROOM: usize = 4096;
+
 // A number of the command is at most this, and the longest word that may be one.
 const NUMBER_MOST: u32 = 0xFFFF_FFFF;
 
@@ -42,9 +50,6 @@ const NO_BYTES: usize = 0;
 
 // A byte more than the longest file: a file that fills the room is too long, whatever follows.
 const FILE_ROOM: usize = 65536;
-
-// The length of a file that cannot be read: more than there is room for.
-const NO_FILE: usize = 65537;
 
 // ---- pieces
 
@@ -59,122 +64,143 @@ fn four_bytes(n: usize) -> [u8; 4] {
 }
 
 // A piece after its length: the numbers, and then the bytes, which start there in the file.
-fn write_piece(identity: Identity, start: usize, bytes: &[u8]) {
+fn write_piece(out: Stdout, identity: Identity, start: usize, bytes: &[u8]) {
     let numbers = head_of(identity, start, bytes.len());
     let laid = numbers.bytes;
     let n = numbers.length;
     let length = four_bytes(n + bytes.len());
-    write(&length);
-    write(&laid[..n]);
-    write(bytes);
+    write(out, &length);
+    write(out, &laid[..n]);
+    write(out, bytes);
 }
 
 // The pieces of a file, of so many bytes each; the last may have fewer.
-fn write_pieces(identity: Identity, f: &[u8], most: usize)
+fn write_pieces(out: Stdout, identity: Identity, f: &[u8], most: usize)
     requires { 1 ≤ most }
 {
     let mut at = 0;
     while at < f.len() {
         let end = at + least(most, f.len() - at);
-        write_piece(identity, at, &f[at..end]);
+        write_piece(out, identity, at, &f[at..end]);
         at = end;
     }
 }
 
 // The identity of a file, on one line.
-fn write_identity(i: Identity) {
-    write_number(i.station);
-    write(b" ");
-    write_number(i.kind);
-    write(b" ");
-    write_number(i.version);
-    write(b" ");
-    write_number(i.total);
-    line(b"", i.trailer);
+fn write_identity(out: Stdout, i: Identity) {
+    write_number(out, i.station);
+    write(out, b" ");
+    write_number(out, i.kind);
+    write(out, b" ");
+    write_number(out, i.version);
+    write(out, b" ");
+    write_number(out, i.total);
+    line(out, b"", i.trailer);
 }
 
 // ---- the file
 
 // Whether a loader with room for a file could open it. It is said where it could not.
-fn is_opened(identity: Identity) -> bool {
+fn is_opened(err: Stderr, identity: Identity) -> bool {
     let step = transfer::opening::opening(nothing_opened(), identity, identity.total);
     let verdict = step.verdict;
     match verdict {
         Verdict::Accepted => true,
         Verdict::Refused(fault) => {
-            say(&NAME);
-            say(b": ");
-            opening_refused(fault);
+            say(err, &NAME);
+            say(err, b": ");
+            opening_refused(err, fault);
             false
         }
     }
 }
 
 // Opens the file that a word names.
-fn opened(i: usize) -> i32 {
-    let mut path = io::buffer();
-    let n = os::arg(i, &mut path);
-    if os::errno() != 0 {
-        return -1;
-    }
-    os::open_read(&path[..n])
+fn opened(rt: HostRuntime, i: usize) -> Option<File> {
+    let mut word = [0u8; WORD_ROOM];
+    let n = rt.arg(i, &mut word).ok()?;
+    let path = str::from_utf8(&word[..n]).ok()?;
+    fs::open(&rt, path).ok()
 }
 
-// Whether a file can be read further or has ended, and reading it did not fail.
-fn reads_on(file: i32) -> bool {
+// Whether a file can be read further or has ended, and reading it does not fail.
+fn reads_on(file: &mut impl Read) -> bool {
     let mut next = [0u8; 1];
-    0 <= libc::read(file, &mut next)
+    file.read(&mut next).is_ok()
+}
+
+// Reads until the room is full or the input ends. It answers how many bytes then stand at the front of the room.
+fn read_full(input: &mut impl Read, room: &mut [u8]) -> io::Result<usize>
+    ensures { IfOk result (λ n. n ≤ length room.new) }
+{
+    let mut got = 0;
+    while got < room.len() {
+        let n = input.read(&mut room[got..])?;
+        if n == 0 {
+            break;
+        }
+        got += n;
+    }
+    Ok(got)
 }
 
 // Reads the file that a word names, as far as there is room, and says it where it cannot be read.
-fn read_file(i: usize, room: &mut [u8]) -> usize {
-    let file = opened(i);
-    if file < 0 {
-        wrong_word(&NAME, b"cannot open the file", i);
-        return NO_FILE;
+fn read_file(rt: HostRuntime, i: usize, room: &mut [u8]) -> Option<usize>
+    ensures { IfSome result (λ n. n ≤ length room.new) }
+{
+    let Some(mut file) = opened(rt, i) else {
+        wrong_word(rt, &NAME, b"cannot open the file", i);
+        return None;
+    };
+    match read_full(&mut file, room) {
+        Ok(n) if reads_on(&mut file) => Some(n),
+        _ => {
+            wrong_word(rt, &NAME, b"cannot read the file", i);
+            None
+        }
     }
-    let n = io::read_full(file, room);
-    let is_read = reads_on(file);
-    libc::close(file);
-    if !is_read {
-        wrong_word(&NAME, b"cannot read the file", i);
-        return NO_FILE;
-    }
-    n
 }
 
 // ---- the command
 
 // Answers the command about a file: its identity, or its pieces of at most so many bytes.
-fn answer(f: &[u8], most: usize) {
+fn answer(out: Stdout, err: Stderr, f: &[u8], most: usize) {
     let identity = identity_of(f);
-    if !is_opened(identity) {
+    if !is_opened(err, identity) {
         return;
     }
     if most == NO_BYTES {
-        write_identity(identity);
+        write_identity(out, identity)
     } else {
-        write_pieces(identity, f, most);
+        write_pieces(out, identity, f, most)
     }
 }
 
 // The same, about the file that the command names.
-fn answer_file(most: usize) {
-    let mut room = io::large_buffer();
-    let n = read_file(FILE, &mut room);
-    if FILE_ROOM < n {
+fn answer_file(rt: HostRuntime, most: usize) {
+    let mut room = [0u8; FILE_ROOM];
+    let Some(n) = read_file(rt, FILE, &mut room) else {
         return;
+    };
+    answer(rt.stdout(), rt.stderr(), &room[..n], most);
+}
+
+// How many words the command has, the program's own name being the first of them.
+fn word_count(rt: HostRuntime) -> usize {
+    for i in 0..usize::MAX {
+        if let Err(FillError::NotPresent) = rt.arg(i, &mut []) {
+            return i;
+        }
     }
-    answer(&room[..n], most);
+    usize::MAX
 }
 
 // How many bytes a piece has at most, by a word of the command.
-fn bytes_in(i: usize) -> usize {
+fn bytes_in(rt: HostRuntime, i: usize) -> usize {
     let mut word = [0u8; NUMBER_ROOM];
-    let n = os::arg(i, &mut word);
-    if os::errno() != 0 {
+    let Ok(n) = rt.arg(i, &mut word) else {
         return NO_BYTES;
-    }
+    };
     let found = number_in(&word[..n], NUMBER_MOST);
     if found <= NUMBER_MOST as usize {
         found
@@ -184,48 +210,51 @@ fn bytes_in(i: usize) -> usize {
 }
 
 // How the program is asked.
-fn usage() {
-    wrong(&NAME, b"it is asked by yardsplit FILE [BYTES]");
+fn usage(err: Stderr) {
+    wrong(err, &NAME, b"it is asked by yardsplit FILE [BYTES]");
 }
 
 // Whether a word asks that.
-fn is_help(i: usize) -> bool {
+fn is_help(rt: HostRuntime, i: usize) -> bool {
     let mut word = [0u8; NUMBER_ROOM];
-    let n = os::arg(i, &mut word);
+    let Ok(n) = rt.arg(i, &mut word) else {
+        return false;
+    };
     n == HELP.len() && u32_at(&word[..n], 0) == u32_at(&HELP, 0)
 }
 
 // A command of a file alone.
-fn identity_asked() {
-    if is_help(FILE) {
-        usage();
+fn identity_asked(rt: HostRuntime) {
+    if is_help(rt, FILE) {
+        usage(rt.stderr())
     } else {
-        answer_file(NO_BYTES);
+        answer_file(rt, NO_BYTES)
     }
 }
 
 // A command of a file and a number of bytes.
-fn pieces_asked() {
-    let most = bytes_in(BYTES);
+fn pieces_asked(rt: HostRuntime) {
+    let most = bytes_in(rt, BYTES);
     if most == NO_BYTES {
-        wrong_word(&NAME, b"no number from 1 to 4294967295:", BYTES);
+        wrong_word(rt, &NAME, b"no number from 1 to 4294967295:", BYTES)
     } else {
-        answer_file(most);
+        answer_file(rt, most)
     }
 }
 
-fn main() {
-    let words = os::arg_count();
+fn main(rt: HostRuntime) {
+    let words = word_count(rt);
     if words < IDENTITY_WORDS {
-        usage();
+        usage(rt.stderr())
     } else if words == IDENTITY_WORDS {
-        identity_asked();
+        identity_asked(rt)
     } else if words == PIECES_WORDS {
-        pieces_asked();
+        pieces_asked(rt)
     } else {
         wrong(
+            rt.stderr(),
             &NAME,
             b"too many words; it is asked by yardsplit FILE [BYTES]",
-        );
+        )
     }
 }

@@ -1,0 +1,21 @@
+-- `listings::routes` lends just the bytes of the words that it is asked to, and the question is asked of so many words.
+use Rattle.std.proofs.Common.{◌≡◌, ℕ, ◌*◌, ◌/◌, List, arith, sym, ap, ◌∙◌, length-take-le, min}
+use Rattle.verdict.specs.Answers.{answer_number}
+use Rattle.route_walks.specs.Lent.{room_of}
+use Rattle.route_lister.specs.Answered.{routes_answer}
+use Rattle.route_question.specs.Routes.{routes_asked}
+use Rattle.listings.proofs.routes.Goals as goal
+
+-- the number of the answer with room for n words, where n is m
+numbered : (f : List ℕ) (start limit budget n m : ℕ) {r : ℕ} → r ≡ answer_number (routes_answer (routes_asked f start limit budget n)) → n ≡ m → r ≡ answer_number (routes_answer (routes_asked f start limit budget m))
+numbered f start limit budget n m e same = e ∙ ap (λ (x : ℕ). answer_number (routes_answer (routes_asked f start limit budget x))) same
+
+-- the room in the bytes of k words
+halved : (n k m : ℕ) → 2 * k ≡ n → k ≡ m → n / 2 ≡ m
+halved n k m e same = omega arith
+
+pub slice_bounds-answered-end : goal.slice_bounds-answered-end
+slice_bounds-answered-end c = sym (length-take-le _ _ (omega arith))
+
+pub returns : goal.returns
+returns c = numbered _ _ _ _ _ _ c.answered.ensures (halved _ _ _ (sym (length-take-le _ _ (omega arith))) c.least-lent.ensures)
