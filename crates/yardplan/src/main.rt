@@ -79,6 +79,19 @@ struct Question {
     room: usize,
 }
 
+// Room for the words of a plan, and for its text. The contracts say how much it is, which is all that lending it needs.
+fn plan_words() -> [u16; PLAN_WORDS]
+    ensures { 1048577 ≡ length result }
+{
+    [0; PLAN_WORDS]
+}
+
+fn plan_room() -> [u8; PLAN_ROOM]
+    ensures { 1048577 ≡ length result }
+{
+    [0; PLAN_ROOM]
+}
+
 // ---- standard error
 
 // Some text.
@@ -281,7 +294,7 @@ fn compare(out: Stdout, err: Stderr, f: &[u8], text: &[u8], q: Question) {
         return;
     }
     let mut named = [false; STARTS];
-    let mut plan = [0u16; PLAN_WORDS];
+    let mut plan = plan_words();
     compare_with(out, err, f, text, q, &mut plan, &mut named);
 }
 
@@ -404,7 +417,7 @@ fn compare_files(rt: HostRuntime, q: Question) {
     let Some(n) = read_file(rt, FILE, &mut file) else {
         return;
     };
-    let mut plan = [0u8; PLAN_ROOM];
+    let mut plan = plan_room();
     compare_named(rt, &file[..n], q, &mut plan);
 }
 
