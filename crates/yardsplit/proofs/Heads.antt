@@ -1,10 +1,8 @@
 -- The numbers of a piece lie inside their room.
 use Prim.Native.Nat.{ℕ, ◌-◌, ◌≤◌}
 use mathlib.Core.Path.{◌≡◌}
-use mathlib.Core.List.{◌++◌}
 use lib.ListN.{length, replicate, length-append}
 use native.Mathlib.Omega.{arith}
-use Rattle.seven_bits.specs.Numbers.{written}
 use Rattle.seven_bits.proofs.Forms.{written_few}
 use Rattle.transfer.specs.declared.Identity.{Identity}
 use Rattle.transfer.specs.declared.heads.Head.{Head}

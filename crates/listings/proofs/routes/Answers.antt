@@ -1,7 +1,6 @@
 -- `listings::routes` lends just the bytes of the words that it is asked to, and the question is asked of so many words.
-use Rattle.std.proofs.Common.{◌≡◌, ℕ, ◌*◌, ◌/◌, List, arith, sym, ap, ◌∙◌, length-take-le, min}
+use Rattle.std.proofs.Common.{◌≡◌, ℕ, ◌*◌, ◌/◌, List, arith, sym, ap, ◌∙◌, length-take-le}
 use Rattle.verdict.specs.Answers.{answer_number}
-use Rattle.route_walks.specs.Lent.{room_of}
 use Rattle.route_lister.specs.Answered.{routes_answer}
 use Rattle.route_question.specs.Routes.{routes_asked}
 use Rattle.listings.proofs.routes.Goals as goal
