@@ -276,7 +276,7 @@ fn compare_with(
     f: &[u8],
     text: &[u8],
     q: Question,
-    plan: &mut [u16; PLAN_WORDS],
+    plan: &mut [u16],
     named: &mut [bool; STARTS],
 ) {
     let words = read_plan(err, text, plan, named);
@@ -403,14 +403,6 @@ fn read_file(rt: HostRuntime, i: usize, room: &mut [u8]) -> Option<usize>
     }
 }
 
-// Compares an X.2 file with the plan that the command names, with room for its text.
-fn compare_named(rt: HostRuntime, f: &[u8], q: Question, room: &mut [u8; PLAN_ROOM]) {
-    let Some(n) = read_file(rt, PLAN, room) else {
-        return;
-    };
-    compare(rt.stdout(), rt.stderr(), f, &room[..n], q);
-}
-
 // Compares the files that the command names.
 fn compare_files(rt: HostRuntime, q: Question) {
     let mut file = [0u8; FILE_ROOM];
@@ -418,7 +410,10 @@ fn compare_files(rt: HostRuntime, q: Question) {
         return;
     };
     let mut plan = plan_room();
-    compare_named(rt, &file[..n], q, &mut plan);
+    let Some(m) = read_file(rt, PLAN, &mut plan) else {
+        return;
+    };
+    compare(rt.stdout(), rt.stderr(), &file[..n], &plan[..m], q);
 }
 
 // The same, once the numbers of the command are numbers.
