@@ -38,7 +38,7 @@ pub fn degrees(out: Stdout, f: &[u8], number: usize, position: usize) -> usize
     told(out, degrees_at(f, number, position))
 }
 
-// The question point_degrees.
+// The question point-degrees.
 pub fn point_degrees(out: Stdout, f: &[u8], track: usize, index: usize) -> usize
     ensures { result ≡ answer_number (degrees_answer (point_degrees_of f.now track index)) }
 {

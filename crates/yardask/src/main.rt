@@ -29,7 +29,7 @@ yardask track FILE INDEX                       a track of an X.1, by its index f
 yardask point FILE TRACK POINT                 a point of a track of an X.1, both by their indexes from 0\n\
 yardask coordinate FILE TRACKNUMBER POSITION   latitude and longitude at a position (centimetres) of a track\n\
 yardask degrees FILE TRACKNUMBER POSITION      the same, and in degrees: a binary64 each, by its bits in hexadecimal\n\
-yardask point_degrees FILE TRACK POINT         the coordinate of a point, and in degrees\n\
+yardask point-degrees FILE TRACK POINT         the coordinate of a point, and in degrees\n\
 yardask record FILE OFFSET                     the record of an X.2 that starts at an offset\n\
 yardask routes FILE START LIMIT BUDGET ROOM    the routes of an X.2 from a boundary, of at most LIMIT objects (0: 160)\n\
 yardask routes2 FILE START LIMIT BUDGET ROOM   the same, by the second engine\n\

@@ -1,5 +1,5 @@
 // Many questions in one run. Standard input is a sequence of cases: the question in 1 byte (x1, x2, pair, track, point, coordinate,
-// record, routes, header1, header2, routes2, degrees, point_degrees and load are 1 to 14; ahead is 15; x1-version-1 is 16), four numbers of 4
+// record, routes, header1, header2, routes2, degrees, point-degrees and load are 1 to 14; ahead is 15; x1-version-1 is 16), four numbers of 4
 // bytes each, two lengths of 4 bytes each, and the bytes of the first and of the second file; all numbers are little-endian. The numbers of ahead
 // are the offset, the link, how many lies there are, and the room in bytes; so many bytes at the end of its second byte string are the lies, those
 // before them the X.2, so that the string may be longer than a file. The first number of load is the size of the room, 65,536 bytes at most, which
