@@ -102,7 +102,7 @@ use Rattle.exports.proofs.yard_x1_version_1.Reads as x1-version-1-reads
 use Rattle.exports.proofs.yard_x2.Kinds as x2-kinds
 use Rattle.exports.proofs.yard_x2.Reads as x2-reads
 use Rattle.exports.proofs.yard_pair.Kinds as pair-kinds
-use Rattle.exports.proofs.yard_pair.Reads as Pair-reads
+use Rattle.exports.proofs.yard_pair.Reads as pair-reads
 use Rattle.exports.proofs.yard_header1.Kinds as header1-kinds
 use Rattle.exports.proofs.yard_header1.Reads as header1-reads
 use Rattle.exports.proofs.yard_header2.Kinds as header2-kinds
@@ -147,7 +147,7 @@ pub record Returns : Type 0 where
   pub first : Determined 1 x1-kinds.ps x1-kinds.r x1-reads.Pre x1-reads.Post
   pub first_by_version_1 : Determined 1 x1-version-1-kinds.ps x1-version-1-kinds.r x1-version-1-reads.Pre x1-version-1-reads.Post
   pub second : Determined 1 x2-kinds.ps x2-kinds.r x2-reads.Pre x2-reads.Post
-  pub pair : Determined 2 pair-kinds.ps pair-kinds.r Pair-reads.Pre Pair-reads.Post
+  pub pair : Determined 2 pair-kinds.ps pair-kinds.r pair-reads.Pre pair-reads.Post
   pub first_header : Determined 2 header1-kinds.ps header1-kinds.r header1-reads.Pre header1-reads.Post
   pub second_header : Determined 2 header2-kinds.ps header2-kinds.r header2-reads.Pre header2-reads.Post
   pub track : Determined 2 track-kinds.ps track-kinds.r track-reads.Pre track-reads.Post

@@ -10,7 +10,7 @@ use Rattle.rules.proofs.between.Kinds as between-kinds
 use Rattle.rules.proofs.between.Reads as between-reads
 use Rattle.rules.proofs.fits.Kinds as fits-kinds
 use Rattle.rules.proofs.fits.Reads as fits-reads
-use Rattle.rules.proofs.whole.Kinds as whole_Kinds
+use Rattle.rules.proofs.whole.Kinds as whole-kinds
 use Rattle.rules.proofs.whole.Reads as whole-reads
 use Rattle.rules.proofs.ends_at.Kinds as ends-at-kinds
 use Rattle.rules.proofs.ends_at.Reads as ends-at-reads
@@ -37,7 +37,7 @@ between_determined κs a = by_equation (λ v w. refl)
 pub fits_determined : Determined 0 fits-kinds.ps fits-kinds.r fits-reads.Pre fits-reads.Post
 fits_determined κs a = by_equation (λ v w. refl)
 
-pub whole_determined : Determined 0 whole_Kinds.ps whole_Kinds.r whole-reads.Pre whole-reads.Post
+pub whole_determined : Determined 0 whole-kinds.ps whole-kinds.r whole-reads.Pre whole-reads.Post
 whole_determined κs a = by_equation (λ v w. refl)
 
 pub ends_at_determined : Determined 0 ends-at-kinds.ps ends-at-kinds.r ends-at-reads.Pre ends-at-reads.Post

@@ -33,7 +33,7 @@ use Rattle.tables.proofs.has_part.Reads as has-part-reads
 use Rattle.tables.proofs.has_name.Kinds as has-name-kinds
 use Rattle.tables.proofs.has_name.Reads as has-name-reads
 use Rattle.tables.proofs.exactly.Kinds as exactly-kinds
-use Rattle.tables.proofs.exactly.Reads as exactly-Reads
+use Rattle.tables.proofs.exactly.Reads as exactly-reads
 use Rattle.tables.proofs.between.Kinds as between-kinds
 use Rattle.tables.proofs.between.Reads as between-reads
 use Rattle.tables.proofs.within.Kinds as within-kinds
@@ -92,7 +92,7 @@ has_part_determined κs a = by_equation (λ v w. refl)
 pub has_name_determined : Determined 1 has-name-kinds.ps has-name-kinds.r has-name-reads.Pre has-name-reads.Post
 has_name_determined κs a = by_equation (λ v w. refl)
 
-pub exactly_determined : Determined 1 exactly-kinds.ps exactly-kinds.r exactly-Reads.Pre exactly-Reads.Post
+pub exactly_determined : Determined 1 exactly-kinds.ps exactly-kinds.r exactly-reads.Pre exactly-reads.Post
 exactly_determined κs a = by_equation (λ v w. refl)
 
 pub between_determined : Determined 1 between-kinds.ps between-kinds.r between-reads.Pre between-reads.Post

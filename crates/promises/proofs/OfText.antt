@@ -11,7 +11,7 @@ use Rattle.text.proofs.head.Reads as head-reads
 use Rattle.text.proofs.text_line.Kinds as text-line-kinds
 use Rattle.text.proofs.text_line.Reads as text-line-reads
 use Rattle.text.proofs.line.Kinds as line-kinds
-use Rattle.text.proofs.line.Reads as line_reads_lem
+use Rattle.text.proofs.line.Reads as line-reads
 use Rattle.text.proofs.lines.Kinds as lines-kinds
 use Rattle.text.proofs.lines.Reads as lines-reads
 use Rattle.text.proofs.signed_line.Kinds as signed-line-kinds
@@ -35,7 +35,7 @@ head_determined κs a = by_equation (λ v w. refl)
 pub text_line_determined : Determined 2 text-line-kinds.ps text-line-kinds.r text-line-reads.Pre text-line-reads.Post
 text_line_determined κs a = by_equation (λ v w. refl)
 
-pub line_determined : Determined 1 line-kinds.ps line-kinds.r line_reads_lem.Pre line_reads_lem.Post
+pub line_determined : Determined 1 line-kinds.ps line-kinds.r line-reads.Pre line-reads.Post
 line_determined κs a = by_equation (λ v w. refl)
 
 pub lines_determined : Determined 2 lines-kinds.ps lines-kinds.r lines-reads.Pre lines-reads.Post
