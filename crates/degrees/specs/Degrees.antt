@@ -1,4 +1,4 @@
--- Degrees of whole milliarcseconds (02, ticket 14), as binary64 numbers by the kit's account of IEEE 754 (`lib.Ieee`): `of_int` converts a whole
+-- Degrees of whole milliarcseconds (02, ticket 14), as binary64 numbers by the kit's account of IEEE 754 (`Rattle.std.specs.Float.Ieee`): `of_int` converts a whole
 -- number, `div` divides, each to the nearest number, of two equally near ones to the even one.
 use Rattle.std.specs.Prelude.{ℕ, ℤ, pos, Float}
 use Rattle.std.specs.Float.{binary64}

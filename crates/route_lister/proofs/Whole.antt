@@ -120,13 +120,13 @@ lent_none (x ∷ part) out e = absurd (omega arith)
 -- ---- the ways out of a lister, each with the answer and the bytes that it leaves. The question is `start`, `limit` and `budget`; `most` is the limit that
 -- is meant, and `ok` says whether it is in range.
 
-module _ (v : ℕ → Object) (there asked ok : Bool) (start limit most budget : ℕ) (out : List ℕ) (Asked-is : asked ≡ there) (most_is : most ≡ limit_of limit) (ok_is : ok ≡ in_range asked most budget) where
+module _ (v : ℕ → Object) (there asked ok : Bool) (start limit most budget : ℕ) (out : List ℕ) (asked_is : asked ≡ there) (most_is : most ≡ limit_of limit) (ok_is : ok ≡ in_range asked most budget) where
   abbrev Right : RoutesAnswer → List ℕ → Type 0
   Right r out' = (r ≡ answer_of v there start limit budget (room_of out)) × (out' ≡ left_of v there start limit budget out)
 
   -- what is right for the values that the code has found is right for the question as it was put
   as_put : (r : RoutesAnswer) (out' : List ℕ) → r ≡ answer_at v asked start most budget (room_of out) → out' ≡ leaves r (words_of (all_routes v start most)) out → Right r out'
-  as_put r out' a b = (rw (Asked-is, most_is) at a, rw (a, Asked-is, most_is) at b)
+  as_put r out' a b = (rw (asked_is, most_is) at a, rw (a, asked_is, most_is) at b)
 
   pub out_of_range : (r : RoutesAnswer) → r ≡ refused_for Question → not ok ≡ true → Right r out
   unfolding answer_at judged leaves
