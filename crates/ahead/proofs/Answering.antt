@@ -8,10 +8,9 @@ use lib.ListN.{length, get_or, length-append}
 use lib.Dec.{eqb, ltb}
 use borrow.Author.Tests.{lt-ltb, le-ltb, not-true, not-false}
 use Rattle.verdict.specs.declared.Reason.TheVariants.{Question, Room}
-use Rattle.verdict.specs.declared.File.{File}
-use Rattle.verdict.specs.declared.Fault.{Fault}
-use Rattle.verdict.specs.declared.PairVerdict.{PairVerdict}
-use Rattle.verdict.specs.declared.PairVerdict.TheVariants as pair
+use Rattle.verdict.specs.declared.PairFault.{PairFault}
+use Rattle.verdict.specs.Verdicts.{PairVerdict}
+use Rattle.std.specs.Prelude.{Ok, Err}
 use Rattle.x2_layout.specs.declared.Layout.{Layout}
 use Rattle.x2_layout.specs.Layout.{layout_of}
 use Rattle.x2_links.specs.Links.{may_name}
@@ -24,15 +23,13 @@ use Rattle.route_walks.specs.Lent.{lays}
 use Rattle.route_walks.proofs.Lent.{lays_front}
 use Rattle.ahead.specs.declared.Stop.TheVariants as stop
 use Rattle.ahead.specs.declared.Sight.{Sight}
-use Rattle.ahead.specs.declared.AheadAnswer.{AheadAnswer}
-use Rattle.ahead.specs.declared.AheadAnswer.TheVariants as answer
-use Rattle.ahead.specs.declared.ways.Way.{Way}
-use Rattle.ahead.specs.declared.ways.Way.TheVariants.{On, Stops}
+use Rattle.ahead.specs.Results.{AheadAnswer}
+use Rattle.ahead.specs.declared.AheadFault.TheVariants.{OfPair, OfQuestion}
 use Rattle.ahead.specs.Lies.{are_lies}
-use Rattle.ahead.specs.Ways.{way_of}
+use Rattle.ahead.specs.Ways.{Way, way_of}
 use Rattle.ahead.specs.Ahead.{objects_most, seen_bytes}
 use Rattle.ahead.specs.Seen.{Seen, ends, goes_on, ahead_from, sight_of}
-use Rattle.ahead.specs.Asked.{in_range, seen_in, refused_for, judged, answer_in, left_in, pair_fault, ahead_asked, left_asked}
+use Rattle.ahead.specs.Asked.{in_range, seen_in, refused_for, judged, answer_in, left_in, ahead_asked, left_asked}
 
 -- ---- no more are listed than may be
 
@@ -59,8 +56,8 @@ module _ (v : ℕ → Object) (lies : List ℕ) (passed : ℕ) where
           (cond a (ends listed stop.NoLink) (cond b (ends listed stop.Repeated) (goes_on w (λ x. ahead_from v lies passed k (listed ++ (to ∷ [])) to x) (listed ++ (to ∷ [])))))
       three true b w ih = omega arith
       three false true w ih = omega arith
-      three false false (On x) ih = let h = ih x in omega (arith, longer listed to)
-      three false false (Stops s) ih = omega (arith, longer listed to)
+      three false false (Ok x) ih = let h = ih x in omega (arith, longer listed to)
+      three false false (Err s) ih = omega (arith, longer listed to)
 
 -- ---- of an X.2 and its layout
 
@@ -98,12 +95,12 @@ module _ (g : List ℕ) (l : Layout) (offset link : ℕ) (lies out : List ℕ) w
   list_few = seen_few (object_at g l) lies offset objects_most [] offset (get_or (links_of (object_at g l offset)) link 0)
 
   inside : (s : Sight) (o : List ℕ) → in_range g l offset link lies ≡ true → seen_bytes ≤ length out → s ≡ sight_of (seen_in g l offset link lies)
-      → o ≡ lays out 0 (seen_in g l offset link lies).objects → Told (answer.Listed s) o
+      → o ≡ lays out 0 (seen_in g l offset link lies).objects → Told (Ok s) o
   unfolding answer_in left_in judged
   inside s o e h q r =
       let few = list_few in
       record {
-        answered = rw (e, le-ltb (length out) seen_bytes h) (ap answer.Listed q);
+        answered = rw (e, le-ltb (length out) seen_bytes h) (ap Ok q);
         left = rw (e, le-ltb (length out) seen_bytes h) (r ∙ lays_front (seen_in g l offset link lies).objects out (omega arith));
       }
 
@@ -130,18 +127,18 @@ module _ (g : List ℕ) (l : Layout) (offset link : ℕ) (lies out : List ℕ) w
         no_room h = short ranged h
 
         pub listed : (s : Sight) (o : List ℕ) → seen_bytes ≤ length out → s ≡ sight_of (seen_in g l offset link lies) → o ≡ lays out 0 (seen_in g l offset link lies).objects
-            → Told (answer.Listed s) o
+            → Told (Ok s) o
         listed s o h q r = inside s o ranged h q r
 
 -- ---- of a pair
 
 module _ (f g : List ℕ) (offset link : ℕ) (lies out : List ℕ) (v : PairVerdict) (is : v ≡ pair_of f g) where
-  pub pair_refused : (d : File) (t : Fault) (a : AheadAnswer) → v ≡ pair.Refused d t → a ≡ pair_fault v
+  pub pair_refused : (p : PairFault) (a : AheadAnswer) → v ≡ Err p → a ≡ Err (OfPair p)
       → (a ≡ ahead_asked f g offset link lies (length out)) × (out ≡ left_asked f g offset link lies out)
   unfolding ahead_asked left_asked
-  pair_refused d t a e q = (q ∙ rw (← is, e) refl, rw (← is, e) refl)
+  pair_refused p a e q = (q ∙ rw (← is, e) refl, rw (← is, e) refl)
 
-  pub pair_accepted : (a : AheadAnswer) (o : List ℕ) → v ≡ pair.Accepted → a ≡ answer_in g (layout_of g) offset link lies (length out) → o ≡ left_in g (layout_of g) offset link lies out
+  pub pair_accepted : (a : AheadAnswer) (o : List ℕ) → v ≡ Ok tt → a ≡ answer_in g (layout_of g) offset link lies (length out) → o ≡ left_in g (layout_of g) offset link lies out
       → (a ≡ ahead_asked f g offset link lies (length out)) × (o ≡ left_asked f g offset link lies out)
   unfolding ahead_asked left_asked left_in
   pair_accepted a o e q r = (rw (← is, e) q, rw (← is, e) r)

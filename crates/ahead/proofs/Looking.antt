@@ -14,9 +14,8 @@ use Rattle.route_walks.specs.Walks.{has}
 use Rattle.ahead.specs.declared.Stop.{Stop}
 use Rattle.ahead.specs.declared.Stop.TheVariants.{NoLink, Repeated, Full}
 use Rattle.ahead.specs.declared.Sight.{Sight}
-use Rattle.ahead.specs.declared.ways.Way.{Way}
-use Rattle.ahead.specs.declared.ways.Way.TheVariants.{On, Stops}
-use Rattle.ahead.specs.Ways.{way_of}
+use Rattle.std.specs.Prelude.{Ok, Err}
+use Rattle.ahead.specs.Ways.{Way, way_of}
 use Rattle.ahead.specs.Ahead.{objects_most}
 use Rattle.ahead.specs.Seen.{Seen, ends, goes_on, ahead_from, sight_of}
 use Rattle.ahead.specs.inner.Followed.{Followed}
@@ -94,10 +93,10 @@ module _ (v : ℕ → Object) (lies : List ℕ) (passed first : ℕ) (path : Lis
             let at : take (n + 1) (set path n to) ≡ take n path ++ (to ∷ []) = rw add-one (take-suc-set path n to (omega arith)) in
             rw (k, at, y) (from_more v lies passed (take n path) from to z (objects_most - (n + 1)) (sym q ∙ f))
 
-        pub stops : (r : Stop) → w ≡ Stops r → Followed all (set path n to) (record { objects = n + 1; stop = r })
+        pub stops : (r : Stop) → w ≡ Err r → Followed all (set path n to) (record { objects = n + 1; stop = r })
         stops r e = followed all (set path n to) (n + 1) r kept fewer (sym g.is ∙ further ∙ rw e refl)
 
-        pub goes_on_lem : (x : ℕ) → w ≡ On x → Looking v lies passed first (set path n to) (n + 1) to x
+        pub goes_on_lem : (x : ℕ) → w ≡ Ok x → Looking v lies passed first (set path n to) (n + 1) to x
         goes_on_lem x e = record { small = fewer; room = kept; is = sym (further ∙ rw e refl) ∙ g.is }
 
 -- ---- what was followed

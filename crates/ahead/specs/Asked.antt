@@ -3,8 +3,8 @@
 use Rattle.std.specs.Prelude.{ℕ, ◌*◌, Bool, true, false, ◌&&◌, List, [], ◌∷◌, ◌++◌, pos, length, get_or, drop, ltb}
 use Rattle.verdict.specs.declared.Reason.{Reason}
 use Rattle.verdict.specs.declared.Reason.TheVariants.{Question, Room}
-use Rattle.verdict.specs.declared.PairVerdict.{PairVerdict}
-use Rattle.verdict.specs.declared.PairVerdict.TheVariants as pair
+use Rattle.verdict.specs.Verdicts.{PairVerdict}
+use Rattle.std.specs.Prelude.{Ok, Err}
 use Rattle.verdict.specs.Reasons.{file_of}
 use Rattle.verdict.specs.Answers.{Answer, answered, refused, refusal}
 use Rattle.x2_layout.specs.declared.Layout.{Layout}
@@ -13,8 +13,8 @@ use Rattle.x2_links.specs.Links.{may_name}
 use Rattle.pair.specs.Pair.{pair_of}
 use Rattle.route_graph.specs.Objects.{object_at, links_of}
 use Rattle.route_walks.specs.Lent.{word_size, octets_of}
-use Rattle.ahead.specs.declared.AheadAnswer.{AheadAnswer}
-use Rattle.ahead.specs.declared.AheadAnswer.TheVariants as answer
+use Rattle.ahead.specs.Results.{AheadAnswer}
+use Rattle.ahead.specs.declared.AheadFault.TheVariants.{OfPair, OfQuestion}
 use Rattle.ahead.specs.Lies.{are_lies}
 use Rattle.ahead.specs.Ahead.{objects_most, seen_bytes, stop_number}
 use Rattle.ahead.specs.Seen.{Seen, ahead_from, sight_of}
@@ -34,14 +34,14 @@ seen_in g l offset link lies =
 
 -- a refusal for a reason, at place 0
 abbrev pub refused_for : Reason → AheadAnswer
-refused_for reason = answer.Refused (refusal reason)
+refused_for reason = Err (OfQuestion (refusal reason))
 
 -- whether the question is in range, whether the room is under 128 bytes, and the list
 -- 02: Ticket9.9
 unfoldable pub judged : Bool → Bool → Seen → AheadAnswer
 judged false short s = refused_for Question
 judged true true s = refused_for Room
-judged true false s = answer.Listed (sight_of s)
+judged true false s = Ok (sight_of s)
 
 unfoldable pub answer_in : List ℕ → Layout → ℕ → ℕ → List ℕ → ℕ → AheadAnswer
 answer_in g l offset link lies room = judged (in_range g l offset link lies) (ltb room seen_bytes) (seen_in g l offset link lies)
@@ -49,25 +49,20 @@ answer_in g l offset link lies room = judged (in_range g l offset link lies) (lt
 -- the objects stand in front, two bytes each, low byte first, and what stands after them is left; a refusal leaves every byte
 -- 02: Ticket9.9
 abbrev pub leaves : AheadAnswer → List ℕ → List ℕ → List ℕ
-leaves (answer.Listed s) objects out = octets_of objects ++ drop (word_size * length objects) out
-leaves (answer.Faulty d t) objects out = out
-leaves (answer.Refused t) objects out = out
+leaves (Ok s) objects out = octets_of objects ++ drop (word_size * length objects) out
+leaves (Err (OfPair p)) objects out = out
+leaves (Err (OfQuestion t)) objects out = out
 
 unfoldable pub left_in : List ℕ → Layout → ℕ → ℕ → List ℕ → List ℕ → List ℕ
 left_in g l offset link lies out = leaves (answer_in g l offset link lies (length out)) (seen_in g l offset link lies).objects out
 
 -- ---- of a pair: its own fault first
 
--- what an accepted pair has here is never asked for
-abbrev pub pair_fault : PairVerdict → AheadAnswer
-pair_fault pair.Accepted = refused_for Question
-pair_fault (pair.Refused d t) = answer.Faulty d t
-
 -- 01: Form.5
 -- 02: Ticket9.9
 abbrev pub after_pair : PairVerdict → AheadAnswer → AheadAnswer
-after_pair pair.Accepted a = a
-after_pair (pair.Refused d t) a = answer.Faulty d t
+after_pair (Ok tt) a = a
+after_pair (Err p) a = Err (OfPair p)
 
 -- 02: Ticket9.1
 unfoldable pub ahead_asked : List ℕ → List ℕ → ℕ → ℕ → List ℕ → ℕ → AheadAnswer
@@ -84,12 +79,12 @@ left_asked f g offset link lies out =
 -- the stop's number, and how many objects are listed
 -- 01: Form.10
 abbrev pub ahead_answer : AheadAnswer → Answer
-ahead_answer (answer.Listed s) = answered (pos (stop_number s.stop) ∷ pos s.objects ∷ [])
-ahead_answer (answer.Faulty d t) = refused 2 t
-ahead_answer (answer.Refused t) = refused 2 t
+ahead_answer (Ok s) = answered (pos (stop_number s.stop) ∷ pos s.objects ∷ [])
+ahead_answer (Err (OfPair p)) = refused 2 p.fault
+ahead_answer (Err (OfQuestion t)) = refused 2 t
 
 -- 01: Form.10
 abbrev pub ahead_file : AheadAnswer → ℕ
-ahead_file (answer.Listed s) = 0
-ahead_file (answer.Faulty d t) = file_of d
-ahead_file (answer.Refused t) = 0
+ahead_file (Ok s) = 0
+ahead_file (Err (OfPair p)) = file_of p.file
+ahead_file (Err (OfQuestion t)) = 0

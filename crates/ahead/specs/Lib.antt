@@ -1,3 +1,4 @@
+pub mod Results
 pub mod Lies
 pub mod Ways
 pub mod Ahead

@@ -5,9 +5,8 @@ use Rattle.route_walks.specs.Walks.{has}
 use Rattle.ahead.specs.declared.Stop.{Stop}
 use Rattle.ahead.specs.declared.Stop.TheVariants as stop
 use Rattle.ahead.specs.declared.Sight.{Sight}
-use Rattle.ahead.specs.declared.ways.Way.{Way}
-use Rattle.ahead.specs.declared.ways.Way.TheVariants.{On, Stops}
-use Rattle.ahead.specs.Ways.{way_of}
+use Rattle.std.specs.Prelude.{Ok, Err}
+use Rattle.ahead.specs.Ways.{Way, way_of}
 
 -- the objects listed, and why no more
 pub record Seen : Type 0 where
@@ -20,8 +19,8 @@ ends listed s = record { objects = listed; stop = s }
 -- after an object that was listed last: on by a link, or no further
 -- 02: Ticket9.5
 abbrev pub goes_on : Way → (ℕ → Seen) → List ℕ → Seen
-goes_on (On x) more listed = more x
-goes_on (Stops s) more listed = ends listed s
+goes_on (Ok x) more listed = more x
+goes_on (Err s) more listed = ends listed s
 
 -- by the link `to` of the object `from`, where some are listed and k more may be
 -- 02: Ticket9.2

@@ -7,8 +7,7 @@ use Rattle.route_graph.specs.declared.Object.TheVariants.{Boundary, Plain, Turno
 use Rattle.route_graph.specs.Ways.{onward_of}
 use Rattle.ahead.specs.declared.Stop.{Stop}
 use Rattle.ahead.specs.declared.Stop.TheVariants as stop
-use Rattle.ahead.specs.declared.ways.Way.{Way}
-use Rattle.ahead.specs.declared.ways.Way.TheVariants.{On, Stops}
+use Rattle.std.specs.Prelude.{Result, Ok, Err}
 use Rattle.ahead.specs.Lies.{normal, reverse, unknown, lie_of}
 
 -- ---- in the ticket's words
@@ -43,13 +42,17 @@ StopsAt Nothing from lies s = ⊥
 
 -- ---- computed
 
+-- on by a link, or no further
+abbrev pub Way : Type 0
+Way = Result ℕ Stop
+
 -- through a turnout of a lie: entered at the front, and at a leg that is trailed against one of the lies
 unfoldable pub front_of : TurnoutLinks → ℕ → Way
-front_of t lie = cond (eqb lie normal) (On t.normal) (cond (eqb lie reverse) (On t.reverse) (Stops stop.UnknownLie))
+front_of t lie = cond (eqb lie normal) (Ok t.normal) (cond (eqb lie reverse) (Ok t.reverse) (Err stop.UnknownLie))
 
 -- 02: Ticket9.4
 unfoldable pub trail_of : TurnoutLinks → ℕ → ℕ → Way
-trail_of t lie against = cond (eqb lie against) (Stops stop.AgainstLie) (On t.front)
+trail_of t lie against = cond (eqb lie against) (Err stop.AgainstLie) (Ok t.front)
 
 -- through a turnout that was entered from `from`
 unfoldable pub leg_of : TurnoutLinks → ℕ → ℕ → Way
@@ -57,7 +60,7 @@ leg_of t from lie = cond (eqb t.front from) (front_of t lie) (cond (eqb t.normal
 
 -- from an object that was entered from `from`; a place where none stands is never reached in an accepted file
 unfoldable pub way_of : Object → ℕ → List ℕ → Way
-way_of (Boundary link) from lies = Stops stop.Boundary
-way_of (Plain p) from lies = On (onward_of p from)
+way_of (Boundary link) from lies = Err stop.Boundary
+way_of (Plain p) from lies = Ok (onward_of p from)
 way_of (Turnout t) from lies = leg_of t from (lie_of lies t.number)
-way_of Nothing from lies = On 0
+way_of Nothing from lies = Ok 0

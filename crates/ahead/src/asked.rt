@@ -4,17 +4,17 @@ ghost use Rattle.ahead.specs.Asked.{refused_for, answer_in, left_in};
 
 use crate::list::list;
 use crate::ways::are_lies;
-use crate::{AheadAnswer, ROOM_LEAST};
+use crate::{AheadFault, ROOM_LEAST, Sight};
 use route_graph::object_at;
 use verdict::{Reason, refusal};
 use x2_layout::Layout;
 use x2_links::may_name;
 
-// The answer that is refused for a reason.
-fn refused(reason: Reason) -> AheadAnswer
+// The question refused for a reason.
+fn refused(reason: Reason) -> Result<Sight, AheadFault>
     ensures { result ≡ refused_for reason }
 {
-    AheadAnswer::Refused(refusal(reason))
+    Err(AheadFault::OfQuestion(refusal(reason)))
 }
 
 // The objects ahead, of any X.2 and any layout.
@@ -25,7 +25,7 @@ pub fn look(
     link: usize,
     lies: &[u8],
     out: &mut [u8],
-) -> AheadAnswer
+) -> Result<Sight, AheadFault>
     ensures value { result ≡ answer_in g.now l offset link lies.now (length out.old) }
     ensures out_after { out.new ≡ left_in g.now l offset link lies.now out.old }
 {
@@ -40,5 +40,5 @@ pub fn look(
     if out.len() < ROOM_LEAST {
         return refused(Reason::Room);
     }
-    AheadAnswer::Listed(list(g, l, lies, passed, o.link(link), out))
+    Ok(list(g, l, lies, passed, o.link(link), out))
 }

@@ -2,14 +2,14 @@
 // why the list stops. A layer above the pair and the graph of X.2: the pair is judged once, and then links are followed.
 #![tactic(auto)]
 
-ghost use Rattle.std.specs.Prelude.{◌≡◌, length};
+ghost use Rattle.std.specs.Prelude.{◌≡◌, length, Err};
 ghost use Rattle.verdict.specs.Answers.{answer_number, answer_place};
 ghost use Rattle.ahead.specs.Ahead.{stop_number};
-ghost use Rattle.ahead.specs.Asked.{ahead_answer, ahead_file, pair_fault, ahead_asked, left_asked};
+ghost use Rattle.ahead.specs.Asked.{ahead_answer, ahead_file, ahead_asked, left_asked};
 
 use crate::asked::look;
 use pair::pair_verdict;
-use verdict::{Fault, File, PairVerdict, Reason, refusal};
+use verdict::{Fault, PairFault};
 use x2_layout::layout_of;
 
 mod asked;
@@ -21,7 +21,7 @@ pub const OBJECTS_MOST: usize = 64;
 
 pub const LIES: usize = 256;
 
-// The lies.
+// The bytes of the lies.
 pub const NORMAL: u8 = 0;
 
 pub const REVERSE: u8 = 1;
@@ -35,17 +35,17 @@ pub const ROOM_LEAST: usize = 128;
 #[derive(Clone, Copy)]
 pub enum Stop {
     // at a boundary, which stands last
-    Boundary,
+    Boundary = 1,
     // at a missing link
-    NoLink,
+    NoLink = 2,
     // at a turnout, entered at the front, whose lie is unknown; it stands last
-    UnknownLie,
+    UnknownLie = 3,
     // before an object that is listed already or was last passed
-    Repeated,
+    Repeated = 4,
     // at a turnout, entered at a leg, that is known to lie for the other; it stands last
-    AgainstLie,
+    AgainstLie = 5,
     // before a new sixty-fifth
-    Full,
+    Full = 6,
 }
 
 // How many objects are listed, and why no more.
@@ -55,14 +55,13 @@ pub struct Sight {
     pub stop: Stop,
 }
 
-// The answer.
+// Why nothing is listed.
 #[derive(Clone, Copy)]
-pub enum AheadAnswer {
-    Listed(Sight),
+pub enum AheadFault {
     // the pair's own fault, with its file
-    Faulty(File, Fault),
+    OfPair(PairFault),
     // the question itself is refused
-    Refused(Fault),
+    OfQuestion(Fault),
 }
 
 impl Stop {
@@ -70,65 +69,48 @@ impl Stop {
     pub fn number(self) -> usize
         ensures { result ≡ stop_number self }
     {
-        match self {
-            Stop::Boundary => 1,
-            Stop::NoLink => 2,
-            Stop::UnknownLie => 3,
-            Stop::Repeated => 4,
-            Stop::AgainstLie => 5,
-            Stop::Full => 6,
-        }
+        self as usize
     }
 }
 
-impl AheadAnswer {
-    // The number of the answer: 0 where objects are listed.
+impl AheadFault {
+    // The number of the answer.
     pub fn number(self) -> usize
-        ensures { result ≡ answer_number (ahead_answer self) }
+        ensures { result ≡ answer_number (ahead_answer (Err self)) }
     {
         match self {
-            AheadAnswer::Listed(_) => 0,
-            AheadAnswer::Faulty(_, fault) => {
-                let reason = fault.reason;
-                reason.number()
+            AheadFault::OfPair(p) => {
+                let fault = p.fault;
+                fault.number()
             }
-            AheadAnswer::Refused(fault) => {
-                let reason = fault.reason;
-                reason.number()
-            }
+            AheadFault::OfQuestion(fault) => fault.number(),
         }
     }
 
-    // The place of the answer: 0 where objects are listed, and where the question itself is refused.
+    // The place of the answer: 0 where the question itself is refused.
     pub fn place(self) -> usize
-        ensures { result ≡ answer_place (ahead_answer self) }
+        ensures { result ≡ answer_place (ahead_answer (Err self)) }
     {
         match self {
-            AheadAnswer::Listed(_) => 0,
-            AheadAnswer::Faulty(_, fault) => fault.place,
-            AheadAnswer::Refused(fault) => fault.place,
+            AheadFault::OfPair(p) => {
+                let fault = p.fault;
+                fault.place
+            }
+            AheadFault::OfQuestion(fault) => fault.place,
         }
     }
 
     // The file at fault: 0 where it is none.
     pub fn file(self) -> usize
-        ensures { result ≡ ahead_file self }
+        ensures { result ≡ ahead_file (Err self) }
     {
         match self {
-            AheadAnswer::Listed(_) => 0,
-            AheadAnswer::Faulty(file, _) => file.number(),
-            AheadAnswer::Refused(_) => 0,
+            AheadFault::OfPair(p) => {
+                let file = p.file;
+                file.number()
+            }
+            AheadFault::OfQuestion(_) => 0,
         }
-    }
-}
-
-// The pair's own fault. The arm of an accepted pair is never reached; it stands because an `else` cannot bind the fault.
-fn pair_fault(v: PairVerdict) -> AheadAnswer
-    ensures { result ≡ pair_fault v }
-{
-    match v {
-        PairVerdict::Accepted => AheadAnswer::Refused(refusal(Reason::Question)),
-        PairVerdict::Refused(file, fault) => AheadAnswer::Faulty(file, fault),
     }
 }
 
@@ -141,13 +123,14 @@ pub fn ahead(
     link: usize,
     lies: &[u8],
     out: &mut [u8],
-) -> AheadAnswer
+) -> Result<Sight, AheadFault>
     ensures value { result ≡ ahead_asked first.now second.now offset link lies.now (length out.old) }
     ensures out_after { out.new ≡ left_asked first.now second.now offset link lies.now out.old }
 {
+    // The form is 01's: the verdict is taken apart by let .. else, and its fault is returned at once.
     let v = pair_verdict(first, second);
-    let PairVerdict::Accepted = v else {
-        return pair_fault(v);
+    let Ok(()) = v else {
+        return Err(AheadFault::OfPair(v.unwrap_err()));
     };
     look(second, layout_of(second), offset, link, lies, out)
 }

@@ -1,15 +1,15 @@
 // The list of the objects ahead: a link is followed after the other, until the list stops.
-ghost use Rattle.std.specs.Prelude.{◌≡◌, ◌*◌, ◌≤◌, ◌<◌, [], length};
+ghost use Rattle.std.specs.Prelude.{◌≡◌, []};
 ghost use Rattle.route_graph.specs.Objects.{object_at};
-ghost use Rattle.route_walks.specs.Lent.{word_size, room_of, lay, lays};
-ghost use Rattle.ahead.specs.Ahead.{objects_most, seen_bytes};
+ghost use Rattle.route_walks.specs.Lent.{lays};
+ghost use Rattle.ahead.specs.Ahead.{objects_most};
 ghost use Rattle.ahead.specs.Seen.{ahead_from, sight_of};
 ghost use Rattle.ahead.specs.inner.Followed.{Followed};
 
-use crate::ways::{Way, way_of};
+use crate::ways::way_of;
 use crate::{OBJECTS_MOST, Sight, Stop};
 use route_graph::object_at;
-use route_walks::{BYTE_VALUES, WORD_SIZE, stands_in};
+use route_walks::{put_words, stands_in};
 use x2_layout::Layout;
 
 // A list of n objects that stops for a reason.
@@ -20,10 +20,17 @@ fn ends(n: usize, stop: Stop) -> Sight
 }
 
 // Follows the links from the object that was last passed, by the link `first`, and puts each object that it lists in the path.
-fn follow(g: &[u8], l: Layout, lies: &[u8], passed: u16, first: u16, path: &mut [u16]) -> Sight
-    requires { length path.old ≡ objects_most }
+fn follow(
+    g: &[u8],
+    l: Layout,
+    lies: &[u8],
+    passed: u16,
+    first: u16,
+    path: &mut [u16; OBJECTS_MOST],
+) -> Sight
     ensures { Followed (ahead_from (object_at g.now l) lies.now passed objects_most [] passed first) path.new result }
 {
+    // Stays (6): a project rule, no heap: the objects listed stand in fixed memory.
     let mut n: usize = 0;
     let mut from = passed;
     let mut to = first;
@@ -39,12 +46,9 @@ fn follow(g: &[u8], l: Layout, lies: &[u8], passed: u16, first: u16, path: &mut 
         }
         path[n] = to;
         n += 1;
-        let way = way_of(object_at(g, l, to), from, lies);
-        match way {
-            Way::Stops(stop) => {
-                return ends(n, stop);
-            }
-            Way::On(next) => {
+        match way_of(object_at(g, l, to), from, lies) {
+            Err(stop) => return ends(n, stop),
+            Ok(next) => {
                 from = to;
                 to = next;
             }
@@ -52,36 +56,13 @@ fn follow(g: &[u8], l: Layout, lies: &[u8], passed: u16, first: u16, path: &mut 
     }
 }
 
-// Stores an object in two bytes, low byte first. There is room for it.
-fn store(out: &mut [u8], at: usize, object: u16)
-    requires { at < room_of out.old }
-    ensures { out.new ≡ lay out.old at object }
-{
-    out[WORD_SIZE * at] = (object % BYTE_VALUES) as u8;
-    out[WORD_SIZE * at + 1] = (object / BYTE_VALUES) as u8;
-}
-
-// Stores objects in the bytes lent, two for each, low byte first. There is room for them.
-fn put(objects: &[u16], out: &mut [u8])
-    requires { word_size * length objects.now ≤ length out.old }
-    ensures { out.new ≡ lays out.old 0 objects.now }
-{
-    let mut i = 0;
-    while i < objects.len() {
-        store(out, i, objects[i]);
-        i += 1;
-    }
-}
-
-// The objects ahead in the bytes lent, for which there is room.
+// The objects ahead in the bytes lent, as many as find room: two bytes for each, low byte first.
 pub fn list(g: &[u8], l: Layout, lies: &[u8], passed: u16, first: u16, out: &mut [u8]) -> Sight
-    requires { seen_bytes ≤ length out.old }
     ensures seen { result ≡ sight_of (ahead_from (object_at g.now l) lies.now passed objects_most [] passed first) }
     ensures stored { out.new ≡ lays out.old 0 (ahead_from (object_at g.now l) lies.now passed objects_most [] passed first).objects }
 {
     let mut path = [0u16; OBJECTS_MOST];
     let seen = follow(g, l, lies, passed, first, &mut path);
-    let n = seen.objects;
-    put(&path[..n], out);
+    put_words(out, 0, &path[..seen.objects]);
     seen
 }

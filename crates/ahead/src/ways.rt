@@ -1,29 +1,26 @@
 // How the list goes on from an object that it has reached, by the lies of the turnouts.
-ghost use Rattle.std.specs.Prelude.{◌≡◌};
-ghost use Rattle.ahead.specs.Lies.{lie_of, all_lies, are_lies};
+ghost use Rattle.std.specs.Prelude.{◌≡◌, nat_le};
+ghost use Rattle.std.specs.List.{list_all};
+ghost use Rattle.ahead.specs.Lies.{unknown, lie_of, are_lies};
 ghost use Rattle.ahead.specs.Ways.{front_of, trail_of, leg_of, way_of};
+ghost use Rattle.ahead.specs.inner.Lie.{byte_of, lie_named};
 
 use crate::{LIES, NORMAL, REVERSE, Stop, UNKNOWN};
 use route_graph::{Object, TurnoutLinks};
 
-// On by a link, or no further.
-#[derive(Clone, Copy)]
-pub enum Way {
-    On(u16),
-    Stops(Stop),
+// How turnouts lie.
+#[derive(Clone, Copy, PartialEq)]
+pub enum Lie {
+    Normal,
+    Reverse,
+    Unknown,
 }
 
 // Whether every byte is one of the three lies.
 fn all_lies(lies: &[u8]) -> bool
-    ensures { result ≡ all_lies lies.now }
+    ensures { result ≡ list_all (λ lie. nat_le lie unknown) lies.now }
 {
-    let mut right = true;
-    let mut i = 0;
-    while i < lies.len() {
-        right = right & (lies[i] <= UNKNOWN);
-        i += 1;
-    }
-    right
+    lies.iter().all(|lie| *lie <= UNKNOWN)
 }
 
 // Whether they are lies: 256 of them, each one of the three.
@@ -33,60 +30,67 @@ pub fn are_lies(lies: &[u8]) -> bool
     (lies.len() == LIES) & all_lies(lies)
 }
 
-// The lie of the turnouts of a number.
-fn lie_of(lies: &[u8], number: u8) -> u8
-    ensures { result ≡ lie_of lies.now number }
+// The lie that a byte names; one that is no lie counts as unknown.
+fn lie_named(byte: u8) -> Lie
+    ensures { result ≡ lie_named byte }
 {
-    let i = number as usize;
-    if i < lies.len() { lies[i] } else { UNKNOWN }
+    match byte {
+        NORMAL => Lie::Normal,
+        REVERSE => Lie::Reverse,
+        _ => Lie::Unknown,
+    }
+}
+
+// The lie of the turnouts of a number.
+fn lie_of(lies: &[u8], number: u8) -> Lie
+    ensures { result ≡ lie_named (lie_of lies.now number) }
+{
+    lie_named(lies.get(usize::from(number)).copied().unwrap_or(UNKNOWN))
 }
 
 // Through a turnout that was entered at the front, by its lie.
-fn at_front(t: TurnoutLinks, lie: u8) -> Way
-    ensures { result ≡ front_of t lie }
+fn at_front(t: TurnoutLinks, lie: Lie) -> Result<u16, Stop>
+    ensures { result ≡ front_of t (byte_of lie) }
 {
-    if lie == NORMAL {
-        return Way::On(t.normal);
+    match lie {
+        Lie::Normal => Ok(t.normal),
+        Lie::Reverse => Ok(t.reverse),
+        Lie::Unknown => Err(Stop::UnknownLie),
     }
-    if lie == REVERSE {
-        return Way::On(t.reverse);
-    }
-    Way::Stops(Stop::UnknownLie)
 }
 
 // Through a turnout that was entered at a leg: by the front, unless it is known to lie against that leg.
-fn at_leg(t: TurnoutLinks, lie: u8, against: u8) -> Way
-    ensures { result ≡ trail_of t lie against }
+fn at_leg(t: TurnoutLinks, lie: Lie, against: Lie) -> Result<u16, Stop>
+    ensures { result ≡ trail_of t (byte_of lie) (byte_of against) }
 {
     if lie == against {
-        return Way::Stops(Stop::AgainstLie);
+        return Err(Stop::AgainstLie);
     }
-    Way::On(t.front)
+    Ok(t.front)
 }
 
 // Through a turnout that was entered from `from`.
-fn through(t: TurnoutLinks, from: u16, lie: u8) -> Way
-    ensures { result ≡ leg_of t from lie }
+fn through(t: TurnoutLinks, from: u16, lie: Lie) -> Result<u16, Stop>
+    ensures { result ≡ leg_of t from (byte_of lie) }
 {
-    let front = t.front;
-    if front == from {
+    if t.front == from {
         return at_front(t, lie);
     }
-    let normal = t.normal;
-    if normal == from {
-        return at_leg(t, lie, REVERSE);
+    if t.normal == from {
+        return at_leg(t, lie, Lie::Reverse);
     }
-    at_leg(t, lie, NORMAL)
+    at_leg(t, lie, Lie::Normal)
 }
 
-// How the list goes on from an object that was entered from `from`. A place where none stands is never reached in an accepted file.
-pub fn way_of(o: Object, from: u16, lies: &[u8]) -> Way
+// How the list goes on from an object that was entered from `from`: on by a link, or no further. A place where none stands is never reached in an
+// accepted file.
+pub fn way_of(o: Object, from: u16, lies: &[u8]) -> Result<u16, Stop>
     ensures { result ≡ way_of o from lies.now }
 {
     match o {
-        Object::Boundary(_) => Way::Stops(Stop::Boundary),
-        Object::Plain(p) => Way::On(p.onward(from)),
+        Object::Boundary(_) => Err(Stop::Boundary),
+        Object::Plain(p) => Ok(p.onward(from)),
         Object::Turnout(t) => through(t, from, lie_of(lies, t.number)),
-        Object::Nothing => Way::On(0),
+        Object::Nothing => Ok(0),
     }
 }

@@ -12,9 +12,8 @@ use borrow.Author.Tests.{ltb-true, ltb-false}
 use Rattle.verdict.specs.declared.File.{File}
 use Rattle.verdict.specs.declared.File.TheVariants.{First, Second}
 use Rattle.verdict.specs.declared.Reason.TheVariants as reason
-use Rattle.verdict.specs.declared.Verdict.TheVariants as verdict
-use Rattle.verdict.specs.declared.PairVerdict.{PairVerdict}
-use Rattle.verdict.specs.declared.PairVerdict.TheVariants as pair
+use Rattle.std.specs.Prelude.{Ok, Err}
+use Rattle.verdict.specs.Verdicts.{PairVerdict}
 use Rattle.verdict.specs.Reasons.{shown_of, file_of, pair_number_in, pair_place_in, pair_file_in}
 use Rattle.verdict.specs.Answers.{refused, answer_number, answer_place, refusal}
 use Rattle.verdict.specs.Order.{Check, check, Answered}
@@ -34,8 +33,8 @@ use Rattle.route_walks.proofs.Lent.{octets_length, read_back}
 use Rattle.route_theorems.proofs.Listed.{linked}
 use Rattle.ahead.specs.declared.Sight.{Sight}
 use Rattle.ahead.specs.declared.Stop.{Stop}
-use Rattle.ahead.specs.declared.AheadAnswer.{AheadAnswer}
-use Rattle.ahead.specs.declared.AheadAnswer.TheVariants as answer
+use Rattle.ahead.specs.Results.{AheadAnswer}
+use Rattle.ahead.specs.declared.AheadFault.TheVariants.{OfPair, OfQuestion}
 use Rattle.ahead.specs.Ahead.{seen_bytes}
 use Rattle.ahead.specs.Seen.{Seen, sight_of}
 use Rattle.ahead.specs.Asked.{in_range, seen_in, judged, answer_in, leaves, after_pair, ahead_asked, left_asked, ahead_answer, ahead_file}
@@ -49,7 +48,7 @@ use Rattle.ahead_theorems.proofs.Range.{lies_iff, in_links, range_iff}
 
 -- ---- the question's own checks
 
-module _ (g : List ℕ) (e : application.verdict_of g ≡ verdict.Accepted) (offset link : ℕ) (lies : List ℕ) (room : ℕ) where
+module _ (g : List ℕ) (e : application.verdict_of g ≡ Ok tt) (offset link : ℕ) (lies : List ℕ) (room : ℕ) where
   abbrev last : List Check
   last = check 15 (128 ≤ room) (λ p. p ≡ 0) ∷ []
 
@@ -64,7 +63,7 @@ module _ (g : List ℕ) (e : application.verdict_of g ≡ verdict.Accepted) (off
       (failed (128 ≤ room) [] reason.Room 2 (λ h. omega arith))
   own true false p q =
       let enough = ltb-false room seen_bytes q in
-      let seen = ahead_answer (answer.Listed (sight_of (seen_in g (layout_of g) offset link lies))) in
+      let seen = ahead_answer (Ok (sight_of (seen_in g (layout_of g) offset link lies))) in
       passed (InRange g offset link lies) last 13 seen ((range_iff g e offset link lies).0 p) (λ z. omega arith)
       (passed (128 ≤ room) [] 15 seen (omega arith) (λ z. omega arith) (all_passed _))
 
@@ -90,14 +89,14 @@ some_file First e = omega arith
 some_file Second e = omega arith
 
 -- of a pair that obeys the X.2 is accepted
-pub second_accepted : (f g : List ℕ) → PairObeys f g → application.verdict_of g ≡ verdict.Accepted
+pub second_accepted : (f g : List ℕ) → PairObeys f g → application.verdict_of g ≡ Ok tt
 second_accepted f g o = ap shown_of ((accepted_obeys g).1 o.second)
 
 module _ (f g : List ℕ) (offset link : ℕ) (lies : List ℕ) (room : ℕ) where
   by_pair : (v : PairVerdict) → pair_of f g ≡ v → (d n p : ℕ)
       → Shows (after_pair v (answer_in g (layout_of g) offset link lies room)) d n p ↔ AheadAnswered f g offset link lies room d n p
   unfolding answer_in
-  by_pair pair.Accepted e d n p =
+  by_pair (Ok tt) e d n p =
       let o = (pair_accepted f g).0 e in
       let file = no_file (in_range g (layout_of g) offset link lies) (ltb room seen_bytes) (seen_in g (layout_of g) offset link lies) in
       let is = (own_is g (second_accepted f g o) offset link lies room).exactly n p in
@@ -108,18 +107,18 @@ module _ (f g : List ℕ) (offset link : ℕ) (lies : List ℕ) (room : ℕ) whe
           → AheadAnswered f g offset link lies room d n p → Shows (answer_in g (layout_of g) offset link lies room) d n p
       back is file (asked.fault_of_pair z y w) = absurd (y (sym ((pair_is f g d n p).1 w).0 ∙ ap pair_file_in e))
       back is file (asked.of_question o i w) = (file ∙ sym i, is.1 w)
-  by_pair (pair.Refused x t) e d n p = (there, back)
+  by_pair (Err q) e d n p = (there, back)
     where
-      there : Shows (answer.Faulty x t) d n p → AheadAnswered f g offset link lies room d n p
+      there : Shows (Err (OfPair q)) d n p → AheadAnswered f g offset link lies room d n p
       there h =
-          asked.fault_of_pair (λ z. some_number t.reason (h.1.0 ∙ z)) (λ z. some_file x (h.0 ∙ z))
+          asked.fault_of_pair (λ z. some_number q.fault.reason (h.1.0 ∙ z)) (λ z. some_file q.file (h.0 ∙ z))
           ((pair_is f g d n p).0 (ap pair_file_in e ∙ h.0, (ap pair_number_in e ∙ h.1.0, ap pair_place_in e ∙ h.1.1)))
 
-      back : AheadAnswered f g offset link lies room d n p → Shows (answer.Faulty x t) d n p
+      back : AheadAnswered f g offset link lies room d n p → Shows (Err (OfPair q)) d n p
       back (asked.fault_of_pair z y w) =
           let s = (pair_is f g d n p).1 w in
           (sym (ap pair_file_in e) ∙ s.0, (sym (ap pair_number_in e) ∙ s.1.0, sym (ap pair_place_in e) ∙ s.1.1))
-      back (asked.of_question o i w) = absurd (some_file x (sym (ap pair_file_in e) ∙ ap pair_file_in ((pair_accepted f g).1 o)))
+      back (asked.of_question o i w) = absurd (some_file q.file (sym (ap pair_file_in e) ∙ ap pair_file_in ((pair_accepted f g).1 o)))
 
   -- THEOREM: which file, number and place are answered, for every input
   pub which : (d n p : ℕ) → Shows (ahead_asked f g offset link lies room) d n p ↔ AheadAnswered f g offset link lies room d n p
@@ -130,24 +129,24 @@ module _ (f g : List ℕ) (offset link : ℕ) (lies : List ℕ) (room : ℕ) whe
 
 -- what it says of the pair and of the two tests
 record Told (v : PairVerdict) (r s : Bool) (x : Seen) (u : Sight) : Type 0 where
-  pub pair_is : v ≡ pair.Accepted
+  pub pair_is : v ≡ Ok tt
   pub in_range_lem : r ≡ true
   pub enough : s ≡ false
   pub same : sight_of x ≡ u
 
-told_by : (v : PairVerdict) (r s : Bool) (x : Seen) (u : Sight) → after_pair v (judged r s x) ≡ answer.Listed u → Told v r s x u
+told_by : (v : PairVerdict) (r s : Bool) (x : Seen) (u : Sight) → after_pair v (judged r s x) ≡ Ok u → Told v r s x u
 unfolding judged
-told_by (pair.Refused d t) r s x u e = let z = ap ahead_file e in absurd (some_file d z)
-told_by pair.Accepted false s x u e = let z : ◌≡◌ {A = ℕ} 13 0 = ap answer_number (ap ahead_answer e) in absurd (omega arith)
-told_by pair.Accepted true true x u e = let z : ◌≡◌ {A = ℕ} 15 0 = ap answer_number (ap ahead_answer e) in absurd (omega arith)
-told_by pair.Accepted true false x u e = record { pair_is = refl; in_range_lem = refl; enough = refl; same = cc }
+told_by (Err q) r s x u e = let z = ap ahead_file e in absurd (some_file q.file z)
+told_by (Ok tt) false s x u e = let z : ◌≡◌ {A = ℕ} 13 0 = ap answer_number (ap ahead_answer e) in absurd (omega arith)
+told_by (Ok tt) true true x u e = let z : ◌≡◌ {A = ℕ} 15 0 = ap answer_number (ap ahead_answer e) in absurd (omega arith)
+told_by (Ok tt) true false x u e = record { pair_is = refl; in_range_lem = refl; enough = refl; same = cc }
 
 -- the bytes of some objects that find room, with what stands after them
 front_whole : (xs out : List ℕ) → word_size * length xs ≤ length out → length (octets_of xs ++ drop (word_size * length xs) out) ≡ length out
 front_whole xs out h = omega (arith, length-append (octets_of xs) (drop (word_size * length xs) out), length-drop (word_size * length xs) out, octets_length xs)
 
 module _ (f g : List ℕ) (offset link : ℕ) (lies : List ℕ) where
-  module _ (s : Sight) (room : ℕ) (e : ahead_asked f g offset link lies room ≡ answer.Listed s) where
+  module _ (s : Sight) (room : ℕ) (e : ahead_asked f g offset link lies room ≡ Ok s) where
     told : Told (pair_of f g) (in_range g (layout_of g) offset link lies) (ltb room seen_bytes) (seen_in g (layout_of g) offset link lies) s
     unfolding ahead_asked answer_in
     told = told_by (pair_of f g) _ _ _ s e
@@ -182,7 +181,7 @@ module _ (f g : List ℕ) (offset link : ℕ) (lies : List ℕ) where
 
   module _ (out : List ℕ) where
     -- THEOREM: what is answered is the list that lies ahead, in the bytes lent, and nothing else is changed
-    pub listed : (s : Sight) → ahead_asked f g offset link lies (length out) ≡ answer.Listed s → Listed g offset link lies s out (left_asked f g offset link lies out)
+    pub listed : (s : Sight) → ahead_asked f g offset link lies (length out) ≡ Ok s → Listed g offset link lies s out (left_asked f g offset link lies out)
     unfolding left_asked
     listed s e =
         let t = told s (length out) e in
@@ -207,6 +206,6 @@ module _ (f g : List ℕ) (offset link : ℕ) (lies : List ℕ) where
     refused_keeps n = keeps (ahead_asked f g offset link lies (length out)) n
       where
         keeps : (a : AheadAnswer) → (answer_number (ahead_answer a) ≡ 0 → ⊥) → leaves a (seen_in g (layout_of g) offset link lies).objects out ≡ out
-        keeps (answer.Listed s) n = absurd (n refl)
-        keeps (answer.Faulty d t) n = refl
-        keeps (answer.Refused t) n = refl
+        keeps (Ok s) n = absurd (n refl)
+        keeps (Err (OfPair p)) n = refl
+        keeps (Err (OfQuestion t)) n = refl

@@ -20,10 +20,9 @@ use Rattle.route_walks.proofs.Legal.{enters}
 use Rattle.route_walks.proofs.Paths.{mem_has, has_mem, not_has, has_not}
 use Rattle.ahead.specs.declared.Stop.{Stop}
 use Rattle.ahead.specs.declared.Stop.TheVariants as stop
-use Rattle.ahead.specs.declared.ways.Way.{Way}
-use Rattle.ahead.specs.declared.ways.Way.TheVariants.{On, Stops}
+use Rattle.std.specs.Prelude.{Ok, Err}
 use Rattle.ahead.specs.Lies.{are_lies}
-use Rattle.ahead.specs.Ways.{LeadsOn, StopsAt, way_of}
+use Rattle.ahead.specs.Ways.{Way, LeadsOn, StopsAt, way_of}
 use Rattle.ahead.specs.Ahead.{objects_most, Ahead}
 use Rattle.ahead.specs.Seen.{Seen, ends, ahead_from}
 use Rattle.ahead.proofs.Looking.{from_none, from_again, from_full, from_more}
@@ -34,10 +33,10 @@ use Rattle.ahead_theorems.proofs.Leads.{leads_iff, stops_iff, leads_left}
 module _ (v : ℕ → Object) (Good : ℕ → Type 0) (joined : Joined v Good) (lies : List ℕ) (right : are_lies lies ≡ true) (passed : ℕ) where
   -- from what a link of a good place names the way is what the words say, and they lead to one of its links again
   module _ (from to : ℕ) (g : Good from) (m : Memᴰ to (links_of (v from))) (n : ¬ (to ≡ 0)) where
-    goes_iff : (x : ℕ) → (way_of (v to) from lies ≡ On x) ↔ LeadsOn (v to) from lies x
+    goes_iff : (x : ℕ) → (way_of (v to) from lies ≡ Ok x) ↔ LeadsOn (v to) from lies x
     goes_iff x = let h = enters v Good joined from to g m n in leads_iff lies right (v to) from x (joined.single to h.place) h.link (joined.placed from g)
 
-    ends_iff : (s : Stop) → (way_of (v to) from lies ≡ Stops s) ↔ StopsAt (v to) from lies s
+    ends_iff : (s : Stop) → (way_of (v to) from lies ≡ Err s) ↔ StopsAt (v to) from lies s
     ends_iff s = let h = enters v Good joined from to g m n in stops_iff lies right (v to) from s (joined.single to h.place) h.link (joined.placed from g)
 
   next_link : (from to x : ℕ) → LeadsOn (v to) from lies x → Memᴰ x (links_of (v to))
@@ -87,11 +86,11 @@ module _ (v : ℕ → Object) (Good : ℕ → Type 0) (joined : Joined v Good) (
       go n a rec = on (way_of (v to) from lies) refl
         where
           on : (w : Way) → way_of (v to) from lies ≡ w → Some listed from to
-          on (On x) w =
+          on (Ok x) w =
               let p = (goes_iff from to g m n x).0 w in
               let r = rec x (next_link from to x p) in
               (to ∷ r.0, r.1, (refl, n, a, omega arith, inr (x, p, r.2)))
-          on (Stops s) w = (to ∷ [], s, (refl, n, a, omega arith, inl ((ends_iff from to g m n s).0 w, refl)))
+          on (Err s) w = (to ∷ [], s, (refl, n, a, omega arith, inl ((ends_iff from to g m n s).0 w, refl)))
 
   -- THEOREM: by a link of a good place the objects follow, and the list stops for s, exactly where that is computed
   pub ahead_iff : (k : ℕ) (listed : List ℕ) (from to : ℕ) → Good from → Memᴰ to (links_of (v from)) → length listed + k ≡ objects_most

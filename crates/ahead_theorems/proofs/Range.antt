@@ -8,7 +8,7 @@ use mathlib.Core.List.{List, [], ◌∷◌, Memᴰ}
 use lib.ListN.{length, get_or}
 use lib.Dec.{eqb, leb, ltb}
 use borrow.Author.Tests.{eqb-true, eq-eqb, leb-true, le-leb, ltb-true, lt-ltb}
-use Rattle.verdict.specs.declared.Verdict.TheVariants.{Accepted}
+use Rattle.std.specs.Prelude.{Ok, Err}
 use Rattle.verdict.proofs.Orders.{and-true}
 use Rattle.x2_layout.specs.Layout.{layout_of}
 use Rattle.x2_layout.proofs.Starts.{start_below}
@@ -65,7 +65,7 @@ in_links (x ∷ xs) (suc i) h = Memᴰ.tail (in_links xs i (omega arith))
 
 -- ---- an accepted X.2
 
-module _ (g : List ℕ) (e : verdict_of g ≡ Accepted) where
+module _ (g : List ℕ) (e : verdict_of g ≡ Ok tt) where
   -- THEOREM: a link may name a place exactly where an object starts that it may name
   pub named_iff : (x : ℕ) → (may_name g (layout_of g) x ≡ true) ↔ Target g (layout_of g) x
   named_iff x =

@@ -4,7 +4,7 @@ ghost use Rattle.verdict.specs.Answers.{answer_number};
 ghost use Rattle.ahead.specs.Asked.{ahead_asked, ahead_answer};
 
 use crate::pair_answers::pair_head;
-use ahead::{AheadAnswer, OBJECTS_MOST, ROOM_LEAST, Sight, Stop};
+use ahead::{OBJECTS_MOST, ROOM_LEAST, Sight, Stop};
 use octets::{least, u16_at};
 use route_walks::WORD_SIZE;
 use std::io::Stdout;
@@ -39,16 +39,6 @@ fn sight_lines(out: Stdout, s: Sight, lent: &[u8]) {
     objects_line(out, lent, s.objects);
 }
 
-// An answer with its objects, which stand in the bytes lent.
-fn answer_lines(out: Stdout, answer: AheadAnswer, lent: &[u8]) {
-    pair_head(out, answer.number(), answer.place(), answer.file());
-    match answer {
-        AheadAnswer::Listed(s) => sight_lines(out, s, lent),
-        AheadAnswer::Faulty(_, _) => {}
-        AheadAnswer::Refused(_) => {}
-    }
-}
-
 // The question ahead, with the bytes that are lent.
 fn told(
     out: Stdout,
@@ -61,9 +51,18 @@ fn told(
 ) -> usize
     ensures { result ≡ answer_number (ahead_answer (ahead_asked first.now second.now offset link lies.now (length lent.old))) }
 {
-    let answer = ahead::ahead(first, second, offset, link, lies, lent);
-    answer_lines(out, answer, lent);
-    answer.number()
+    match ahead::ahead(first, second, offset, link, lies, lent) {
+        Ok(s) => {
+            pair_head(out, 0, 0, 0);
+            sight_lines(out, s, lent);
+            0
+        }
+        Err(fault) => {
+            let n = fault.number();
+            pair_head(out, n, fault.place(), fault.file());
+            n
+        }
+    }
 }
 
 // The question ahead, with room for as many bytes. More than the objects can take are not needed.

@@ -8,7 +8,8 @@ use crate::geography_answers::{coordinate_lines, refused};
 use degrees::bits_of;
 use std::io::Stdout;
 use text::bits_line;
-use x1_degrees::{DegreesAnswer, Surveyed, degrees_at};
+use verdict::Fault;
+use x1_degrees::{Surveyed, degrees_at};
 
 fn surveyed_lines(out: Stdout, s: Surveyed) {
     let coordinate = s.coordinate;
@@ -19,15 +20,15 @@ fn surveyed_lines(out: Stdout, s: Surveyed) {
 }
 
 // An answer in degrees.
-fn told(out: Stdout, a: DegreesAnswer) -> usize
+fn told(out: Stdout, a: Result<Surveyed, Fault>) -> usize
     ensures { result ≡ answer_number (degrees_answer a) }
 {
     match a {
-        DegreesAnswer::Surveyed(s) => {
+        Ok(s) => {
             surveyed_lines(out, s);
             0
         }
-        DegreesAnswer::Refused(fault) => refused(out, fault),
+        Err(fault) => refused(out, fault),
     }
 }
 

@@ -8,16 +8,15 @@ ghost use Rattle.x1_questions.specs.Answers.{track_answer, point_answer, coordin
 
 use std::io::Stdout;
 use text::{head, line, lines, signed_line, text_line};
-use verdict::{Fault, Verdict};
-use x1_questions::{Coordinate, CoordinateAnswer, PointAnswer, TrackAnswer};
-use x1_records::{Height, Point, Track};
+use verdict::Fault;
+use x1_questions::Coordinate;
+use x1_records::{Point, Track};
 
 // A refusal.
 pub fn refused(out: Stdout, fault: Fault) -> usize
     ensures { result ≡ number_of fault.reason }
 {
-    let reason = fault.reason;
-    let n = reason.number();
+    let n = fault.number();
     head(out, b"answer", n, fault.place);
     n
 }
@@ -28,12 +27,16 @@ pub fn answered(out: Stdout) {
 }
 
 // A verdict.
-pub fn judged(out: Stdout, v: Verdict) -> usize
+pub fn judged(out: Stdout, v: Result<(), Fault>) -> usize
     ensures { result ≡ number_in v }
 {
-    let n = v.number();
-    head(out, b"answer", n, v.place());
-    n
+    match v {
+        Ok(()) => {
+            answered(out);
+            0
+        }
+        Err(fault) => refused(out, fault),
+    }
 }
 
 // The question x1.
@@ -77,19 +80,19 @@ pub fn track(out: Stdout, f: &[u8], index: usize) -> usize
     ensures { result ≡ answer_number (track_answer (track_of f.now index)) }
 {
     match x1_questions::track(f, index) {
-        TrackAnswer::Track(t) => {
+        Ok(t) => {
             track_lines(out, t);
             0
         }
-        TrackAnswer::Refused(fault) => refused(out, fault),
+        Err(fault) => refused(out, fault),
     }
 }
 
 // A point's height; a dash for none.
-fn height_line(out: Stdout, h: Height) {
+fn height_line(out: Stdout, h: Option<i64>) {
     match h {
-        Height::Decimetres(z) => signed_line(out, b"height", z),
-        Height::NoHeight => text_line(out, b"height", b"-"),
+        Some(z) => signed_line(out, b"height", z),
+        None => text_line(out, b"height", b"-"),
     }
 }
 
@@ -109,11 +112,11 @@ pub fn point(out: Stdout, f: &[u8], track: usize, index: usize) -> usize
     ensures { result ≡ answer_number (point_answer (point_of f.now track index)) }
 {
     match x1_questions::point(f, track, index) {
-        PointAnswer::Point(p) => {
+        Ok(p) => {
             point_lines(out, p);
             0
         }
-        PointAnswer::Refused(fault) => refused(out, fault),
+        Err(fault) => refused(out, fault),
     }
 }
 
@@ -129,10 +132,10 @@ pub fn coordinate(out: Stdout, f: &[u8], number: usize, position: usize) -> usiz
     ensures { result ≡ answer_number (coordinate_answer (coordinate_asked f.now number position)) }
 {
     match x1_questions::coordinate(f, number, position) {
-        CoordinateAnswer::Coordinate(c) => {
+        Ok(c) => {
             coordinate_lines(out, c);
             0
         }
-        CoordinateAnswer::Refused(fault) => refused(out, fault),
+        Err(fault) => refused(out, fault),
     }
 }

@@ -10,8 +10,7 @@ use crate::geography_answers::{answered, refused};
 use envelope::Header;
 use std::io::Stdout;
 use text::{lines, message_line};
-use x1_questions::HeaderAnswer;
-use x2_verdict::{NamedHeader, NamedHeaderAnswer};
+use x2_verdict::NamedHeader;
 
 fn header_lines(out: Stdout, h: Header) {
     answered(out);
@@ -24,11 +23,11 @@ pub fn header1(out: Stdout, f: &[u8]) -> usize
     ensures { result ≡ answer_number (header_answer (header_of f.now)) }
 {
     match x1_questions::header(f) {
-        HeaderAnswer::Header(h) => {
+        Ok(h) => {
             header_lines(out, h);
             0
         }
-        HeaderAnswer::Refused(fault) => refused(out, fault),
+        Err(fault) => refused(out, fault),
     }
 }
 
@@ -43,10 +42,10 @@ pub fn header2(out: Stdout, f: &[u8]) -> usize
     ensures { result ≡ answer_number (named_header_answer (named_header_of f.now)) }
 {
     match x2_verdict::header(f) {
-        NamedHeaderAnswer::Header(h) => {
+        Ok(h) => {
             named_header_lines(out, f, h);
             0
         }
-        NamedHeaderAnswer::Refused(fault) => refused(out, fault),
+        Err(fault) => refused(out, fault),
     }
 }

@@ -13,7 +13,6 @@ use text::{line, lines, message_line, name_line, text_line};
 use x2_records::{
     Balise, Boundary, Facing, GroupDirection, Joint, Nature, Record, Siding, Signal, Turnout,
 };
-use x2_verdict::RecordAnswer;
 
 // The question x2.
 pub fn x2(out: Stdout, f: &[u8]) -> usize
@@ -211,10 +210,10 @@ pub fn record(out: Stdout, f: &[u8], offset: usize) -> usize
     ensures { result ≡ answer_number (record_answer (record_of f.now offset)) }
 {
     match x2_verdict::record_at(f, offset) {
-        RecordAnswer::Record(r) => {
+        Ok(r) => {
             record_lines(out, f, r);
             0
         }
-        RecordAnswer::Refused(fault) => refused(out, fault),
+        Err(fault) => refused(out, fault),
     }
 }

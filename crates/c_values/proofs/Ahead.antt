@@ -3,7 +3,7 @@ use Prim.Native.Nat.{ℕ, ◌+◌, ◌*◌, ◌%◌, ◌<◌}
 use native.Mathlib.Omega.{arith}
 use mathlib.Core.Path.{◌≡◌}
 use Rattle.verdict.specs.Answers.{answer_number, answer_place}
-use Rattle.ahead.specs.declared.AheadAnswer.{AheadAnswer}
+use Rattle.ahead.specs.Results.{AheadAnswer}
 use Rattle.ahead.specs.Asked.{ahead_answer, ahead_file}
 use Rattle.c_values.specs.Words.{over_byte, over_word, answer_word, number_part, file_part, place_part}
 use Rattle.c_values.specs.Ahead.{over_six, over_seven, stop_of, count_of, ahead_shown, stop_part, objects_part}

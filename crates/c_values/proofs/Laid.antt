@@ -2,19 +2,17 @@
 -- the output, with what was after them.
 use Prim.Native.Nat.{ℕ, suc, ◌+◌, ◌*◌, ◌≤◌, ◌<◌}
 use native.Mathlib.Omega.{arith}
-use mathlib.Core.Path.{◌≡◌, refl, ap, ◌∙◌}
+use mathlib.Core.Path.{◌≡◌, refl, sym, ap, ◌∙◌}
 use mathlib.Core.List.{List, [], ◌∷◌, ◌++◌}
-use lib.ListN.{length, get_or, drop, set, drop_of_length-le}
+use lib.ListN.{length, get_or, take, drop, drop_of_length-le}
+use Rattle.std.proofs.Common.{drop-drop}
+use Rattle.std.proofs.lemmas.List.{append_assoc}
 use lib.Seq.{sets, length-sets, sets-eq, drop-cons}
 use Rattle.c_values.specs.Words.{value_size, word_bytes, laid_bytes}
 
--- four stores one after the other
-pub four : (out : List ℕ) (at w a b c d : ℕ) → (a ∷ b ∷ c ∷ d ∷ []) ≡ word_bytes w → set (set (set (set out at a) (at + 1) b) (at + 2) c) (at + 3) d ≡ sets out at (word_bytes w)
-four out at w a b c d e =
-    let p : at + 1 ≡ suc at = omega arith in
-    let q : at + 2 ≡ suc (suc at) = omega arith in
-    let r : at + 3 ≡ suc (suc (suc at)) = omega arith in
-    rw (← e, p, q, r) refl
+-- bytes copied to a place, as stores one after the other
+pub copied : (out vs : List ℕ) (at k : ℕ) → length vs ≡ k → at + k ≤ length out → take at out ++ (vs ++ drop k (drop at out)) ≡ sets out at vs
+copied out vs at k e h = simp (drop-drop, ← e) (sym (append_assoc (take at out) vs (drop (at + length vs) out)) ∙ sym (sets-eq vs out at (omega arith)))
 
 -- one value more
 pub lay_more : (words out out' : List ℕ) (i : ℕ) → i < length words → out' ≡ sets out (value_size * i) (word_bytes (get_or words i 0)) → sets out' (value_size * (i + 1)) (laid_bytes (drop (i + 1) words)) ≡ sets out (value_size * i) (laid_bytes (drop i words))

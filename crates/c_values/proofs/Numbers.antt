@@ -1,22 +1,19 @@
 -- The number that is returned has its three parts in it, each of which comes back; every number of the paper is one byte. A value as four
--- bytes, from how far it is from 0; the two values of a height.
+-- bytes; the two values of a height.
 use Prim.Native.Nat.{ℕ, suc, ◌+◌, ◌-◌, ◌*◌, ◌%◌, ◌^◌, ◌<◌}
 use native.Mathlib.Omega.{arith}
-use mathlib.Core.Path.{◌≡◌, refl, sym, ap, ◌∙◌, subst}
-use mathlib.Core.Bool.{true, false}
+use mathlib.Core.Path.{◌≡◌, refl, ap, ◌∙◌}
 use mathlib.Core.List.{List, [], ◌∷◌}
-use lib.Dec.{T, leb-zero}
 use lib.ListN.{get_or}
-use lib.IntN.{ℤ, pos, negsuc, nat_abs}
-use lib.Signed.{mag, le_z}
+use lib.IntN.{ℤ}
+use lib.Signed.{mag}
 use Rattle.verdict.specs.declared.Reason.{Reason}
 use Rattle.verdict.specs.declared.Reason.TheVariants as reason
 use Rattle.verdict.specs.declared.File.{File}
 use Rattle.verdict.specs.declared.File.TheVariants as file
 use Rattle.verdict.specs.Reasons.{number_of, file_of}
 use Rattle.x1_records.specs.Tracks.{height_values}
-use Rattle.x1_records.specs.declared.Height.{Height}
-use Rattle.x1_records.specs.declared.Height.TheVariants.{Decimetres, NoHeight}
+use Rattle.std.specs.Prelude.{Option, Some, None}
 use Rattle.octets.proofs.Signs.{read, kept}
 use Rattle.c_values.specs.Words.{over_byte, over_word, answer_word, number_part, file_part, place_part, word_of, value_words}
 
@@ -62,21 +59,7 @@ pub file_fits : (d : File) → file_of d < over_byte
 file_fits file.First = omega arith
 file_fits file.Second = omega arith
 
--- ---- a value from its distance
-
-pub up_word : (z : ℤ) → le_z (pos 0) z ≡ true → word_of (pos (nat_abs z)) ≡ word_of z
-up_word (pos n) e = refl
-up_word (negsuc n) e = absurd (subst T (sym e) tt)
-
-pub down_word : (z : ℤ) → le_z (pos 0) z ≡ false → over_word - 1 - (nat_abs z - 1) % over_word ≡ word_of z
-unfolding word_of
-down_word (pos n) e = absurd (subst T (sym (leb-zero n) ∙ e) tt)
-down_word (negsuc n) e = let k : suc n - 1 ≡ n = omega arith in rw k refl
-
--- a negative number is at least 1 away from 0
-pub down_far : (z : ℤ) → le_z (pos 0) z ≡ false → 0 < nat_abs z
-down_far (pos n) e = absurd (subst T (sym (leb-zero n) ∙ e) tt)
-down_far (negsuc n) e = omega arith
+-- ---- a value
 
 -- a signed field as the machine reads it back
 pub value_read : (z : ℤ) → mag z < 2 ^ 63 → (r : ℕ) → r ≡ word_of (read z) → r ≡ word_of z
@@ -85,6 +68,6 @@ value_read z h r e = e ∙ ap word_of (kept z h)
 -- ---- a height
 
 -- its two values one after the other
-pub height_two : (h : Height) (w : List ℕ) → w ≡ value_words (height_values h) → (get_or w 0 0 ∷ get_or w 1 0 ∷ []) ≡ value_words (height_values h)
-height_two (Decimetres z) w e = rw e refl
-height_two NoHeight w e = rw e refl
+pub height_two : (h : Option ℤ) (w : List ℕ) → w ≡ value_words (height_values h) → (get_or w 0 0 ∷ get_or w 1 0 ∷ []) ≡ value_words (height_values h)
+height_two (Some z) w e = rw e refl
+height_two None w e = rw e refl

@@ -8,8 +8,8 @@ use mathlib.Core.List.{List}
 use lib.ListN.{length}
 use lib.Dec.{eqb, leb}
 use borrow.Author.Tests.{leb-true, eqb-true, le-leb, eq-eqb, le-ltb}
-use Rattle.verdict.specs.declared.Verdict.{Verdict}
-use Rattle.verdict.specs.declared.Verdict.TheVariants.{Accepted, Refused}
+use Rattle.verdict.specs.Verdicts.{Verdict}
+use Rattle.std.specs.Prelude.{Ok, Err}
 use Rattle.verdict.specs.Answers.{answered}
 use Rattle.verdict.proofs.Orders.{and-true}
 use Rattle.transfer.specs.declared.State.{State}
@@ -30,8 +30,8 @@ open_iff b = (
 -- of a call that is refused no state is put in the bytes
 pub after_call : (v : Verdict) (new old : State) → state_answer v (changed v new old) ≡ state_answer v new
 unfolding changed
-after_call Accepted new old = refl
-after_call (Refused f) new old = refl
+after_call (Ok tt) new old = refl
+after_call (Err f) new old = refl
 
 -- where the bytes are enough, laying a state in them returns 0
 long_shown : (b : List ℕ) (t : State) → state_size ≤ length b → shown (answered (state_values t)) b ≡ answer_word 0 0 0
@@ -43,5 +43,5 @@ pub piece_shown_lem : (b s : List ℕ) (n : ℕ) → shown (state_answer (piece_
 piece_shown_lem b s n = by_verdict (piece_verdict (state_in b) s n) refl
   where
     by_verdict : (v : Verdict) → piece_verdict (state_in b) s n ≡ v → shown (state_answer v (moved (state_in b) s)) b ≡ verdict_shown v
-    by_verdict Accepted e = long_shown b (moved (state_in b) s) ((open_iff b).0 (passed (state_in b) s n e).opened).0
-    by_verdict (Refused f) e = refl
+    by_verdict (Ok tt) e = long_shown b (moved (state_in b) s) ((open_iff b).0 (passed (state_in b) s n e).opened).0
+    by_verdict (Err f) e = refl

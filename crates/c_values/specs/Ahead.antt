@@ -2,8 +2,8 @@
 -- the answer's number, file and place below, as every answer has them, and above these why the list stops and how many objects it has.
 use Rattle.std.specs.Prelude.{ℕ, ◌+◌, ◌*◌, ◌/◌, ◌%◌}
 use Rattle.verdict.specs.Answers.{answer_number, answer_place}
-use Rattle.ahead.specs.declared.AheadAnswer.{AheadAnswer}
-use Rattle.ahead.specs.declared.AheadAnswer.TheVariants as answer
+use Rattle.ahead.specs.Results.{AheadAnswer}
+use Rattle.std.specs.Prelude.{Ok, Err}
 use Rattle.ahead.specs.Ahead.{stop_number}
 use Rattle.ahead.specs.Asked.{ahead_answer, ahead_file}
 use Rattle.c_values.specs.Words.{over_byte, answer_word}
@@ -17,14 +17,12 @@ over_seven = 0x100000000000000
 
 -- the number of the stop, and how many objects are listed; both 0 in a refusal
 abbrev pub stop_of : AheadAnswer → ℕ
-stop_of (answer.Listed s) = stop_number s.stop
-stop_of (answer.Faulty d t) = 0
-stop_of (answer.Refused t) = 0
+stop_of (Ok s) = stop_number s.stop
+stop_of (Err t) = 0
 
 abbrev pub count_of : AheadAnswer → ℕ
-count_of (answer.Listed s) = s.objects
-count_of (answer.Faulty d t) = 0
-count_of (answer.Refused t) = 0
+count_of (Ok s) = s.objects
+count_of (Err t) = 0
 
 -- the number that is returned: the answer's number, its file and its place in six bytes, the stop in the seventh, and the objects in the last
 -- 01: Form.4

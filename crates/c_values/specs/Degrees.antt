@@ -5,8 +5,8 @@ use Rattle.std.specs.Float.Ieee.{to_bits}
 use Rattle.verdict.specs.Answers.{Answer, answered, refused}
 use Rattle.x1_questions.specs.Answers.{coordinate_values}
 use Rattle.x1_degrees.specs.declared.Surveyed.{Surveyed}
-use Rattle.x1_degrees.specs.declared.DegreesAnswer.{DegreesAnswer}
-use Rattle.x1_degrees.specs.declared.DegreesAnswer.TheVariants as answer
+use Rattle.x1_degrees.specs.Results.{DegreesAnswer}
+use Rattle.std.specs.Prelude.{Ok, Err}
 use Rattle.c_values.specs.Words.{halves}
 
 -- latitude and longitude in milliarcseconds, and then the bits of both in degrees
@@ -16,5 +16,5 @@ surveyed_values s =
 
 -- 02: Ticket14.1
 abbrev pub degrees_laid : DegreesAnswer → Answer
-degrees_laid (answer.Surveyed s) = answered (surveyed_values s)
-degrees_laid (answer.Refused t) = refused 6 t
+degrees_laid (Ok s) = answered (surveyed_values s)
+degrees_laid (Err t) = refused 6 t

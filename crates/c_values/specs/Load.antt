@@ -1,8 +1,8 @@
 -- The loader's state as it crosses the boundary (02, ticket 6): bytes that the caller keeps and lends to each call. What they hold, what a call
 -- returns, and what it leaves in them. What it leaves in the room is said in crate transfer (piece_room).
 use Rattle.std.specs.Prelude.{ℕ, ◌*◌, ◌&&◌, List, [], ◌∷◌, ℤ, pos, length, eqb, leb}
-use Rattle.verdict.specs.declared.Verdict.{Verdict}
-use Rattle.verdict.specs.declared.Verdict.TheVariants.{Accepted, Refused}
+use Rattle.verdict.specs.Verdicts.{Verdict}
+use Rattle.std.specs.Prelude.{Ok, Err}
 use Rattle.verdict.specs.Answers.{Answer, answered, refused}
 use Rattle.octets.specs.Octets.{num_at}
 use Rattle.transfer.specs.declared.Identity.{Identity}
@@ -56,8 +56,8 @@ state_words t = value_words (state_values t)
 -- the state after an accepted call is put at the start of the bytes like the values of every answer, and so refused with 15 where they are too few,
 -- after every other refusal; a refusal leaves every byte
 abbrev pub state_answer : Verdict → State → Answer
-state_answer Accepted t = answered (state_values t)
-state_answer (Refused f) t = refused state_count f
+state_answer (Ok tt) t = answered (state_values t)
+state_answer (Err f) t = refused state_count f
 
 -- opening, with the identity that five numbers are
 abbrev pub identity_from : ℕ → ℕ → ℕ → ℕ → ℕ → Identity

@@ -3,8 +3,8 @@
 -- refusal leaves every byte.
 use Rattle.std.specs.Prelude.{ℕ, ◌*◌, Bool, cond, List, ◌++◌, ltb, length, drop}
 use Rattle.verdict.specs.declared.Reason.TheVariants.{Room}
-use Rattle.verdict.specs.declared.Verdict.{Verdict}
-use Rattle.verdict.specs.declared.PairVerdict.{PairVerdict}
+use Rattle.verdict.specs.Verdicts.{Verdict}
+use Rattle.verdict.specs.Verdicts.{PairVerdict}
 use Rattle.verdict.specs.Reasons.{number_of, number_in, place_in, pair_number_in, pair_place_in, pair_file_in}
 use Rattle.verdict.specs.Answers.{Answer, answered, refused}
 use Rattle.c_values.specs.Words.{answer_word, value_size, value_words, laid_bytes}

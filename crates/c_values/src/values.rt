@@ -15,7 +15,7 @@ use names::Name;
 use route_walks::Tally;
 use x1_degrees::Surveyed;
 use x1_questions::Coordinate;
-use x1_records::{Height, Point, Track};
+use x1_records::{Point, Track};
 use x2_records::{Balise, Boundary, Joint, Record, Siding, Signal, Turnout};
 use x2_verdict::NamedHeader;
 
@@ -96,12 +96,12 @@ pub fn track_words(t: Track) -> [u32; TRACK_VALUES]
 }
 
 // Whether a point has a height, and the height.
-fn height_words(h: Height) -> [u32; HEIGHT_VALUES]
+fn height_words(h: Option<i64>) -> [u32; HEIGHT_VALUES]
     ensures { result ≡ value_words (height_values h) }
 {
     match h {
-        Height::Decimetres(z) => [1, signed_word(z)],
-        Height::NoHeight => [0, 0],
+        Some(z) => [1, signed_word(z)],
+        None => [0, 0],
     }
 }
 

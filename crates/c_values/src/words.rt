@@ -1,19 +1,18 @@
 // Numbers as they cross the boundary: the one number that a question returns, and values as four bytes each.
+#![tactic(auto, unfolding(crate::specs::Words::answer_word, crate::specs::Words::word_of))]
+
 ghost use Rattle.std.specs.Prelude.{◌≡◌, ◌+◌, ◌≤◌, ◌*◌, pos, length};
 ghost use Rattle.std.proofs.lemmas.List.Edits.{sets};
-ghost use Rattle.verdict.specs.Reasons.{number_of};
+ghost use Rattle.verdict.specs.Reasons.{number_of, file_of};
 ghost use Rattle.c_values.specs.Words.{answer_word, value_size, word_of, word_bytes, laid_bytes};
 ghost use Rattle.c_values.specs.Shown.{words_shown, words_leave};
 
-use octets::distance;
-use verdict::{Fault, Reason};
+use verdict::{Fault, PairFault, Reason};
 
 // How many values a byte, two bytes, three and four have.
 pub const OVER_BYTE: usize = 0x100;
 
 const OVER_TWO: usize = 0x1_0000;
-
-const OVER_THREE: usize = 0x100_0000;
 
 pub const OVER_WORD: usize = 0x1_0000_0000;
 
@@ -37,8 +36,16 @@ pub fn answer(number: usize, file: usize, place: usize) -> u64
 pub fn refused(fault: Fault) -> u64
     ensures { result ≡ answer_word (number_of fault.reason) 0 fault.place }
 {
-    let reason = fault.reason;
-    answer(reason.number(), 0, fault.place)
+    answer(fault.number(), 0, fault.place)
+}
+
+// The number that is returned for a refusal about a pair.
+pub fn pair_refused(p: PairFault) -> u64
+    ensures { result ≡ answer_word (number_of p.fault.reason) (file_of p.file) p.fault.place }
+{
+    let file = p.file;
+    let fault = p.fault;
+    answer(fault.number(), file.number(), fault.place)
 }
 
 // A number as a value.
@@ -52,7 +59,7 @@ pub fn word(n: usize) -> u32
 pub fn signed_word(z: i64) -> u32
     ensures { result ≡ word_of z }
 {
-    let n = distance(z);
+    let n = z.unsigned_abs() as usize;
     if z >= 0 {
         return word(n);
     }
@@ -65,15 +72,7 @@ fn put_word(out: &mut [u8], at: usize, word: u32)
     requires { at + value_size ≤ length out.old }
     ensures { out.new ≡ sets out.old at (word_bytes word) }
 {
-    let w = word as usize;
-    let first = (w % OVER_BYTE) as u8;
-    let second = (w / OVER_BYTE % OVER_BYTE) as u8;
-    let third = (w / OVER_TWO % OVER_BYTE) as u8;
-    let fourth = (w / OVER_THREE % OVER_BYTE) as u8;
-    out[at] = first;
-    out[at + 1] = second;
-    out[at + 2] = third;
-    out[at + 3] = fourth;
+    out[at..at + VALUE_SIZE].copy_from_slice(&word.to_le_bytes());
 }
 
 // Puts the values at the start of the output.
@@ -81,10 +80,8 @@ fn lay(words: &[u32], out: &mut [u8])
     requires { value_size * length words.now ≤ length out.old }
     ensures { out.new ≡ sets out.old 0 (laid_bytes words.now) }
 {
-    let mut i = 0;
-    while i < words.len() {
-        put_word(out, VALUE_SIZE * i, words[i]);
-        i += 1;
+    for (i, word) in words.iter().enumerate() {
+        put_word(out, VALUE_SIZE * i, *word);
     }
 }
 

@@ -1,6 +1,6 @@
 -- The plain way, bit by bit, is the definition. Where a one leaves the register, the definition takes the understood term off that one, and
 -- nothing is left of both: so the code lets it go and takes off the page's terms alone. A byte's bits enter from the highest place down.
-use mathlib.Core.Path.{◌≡◌, refl, sym, ap, ap₂, ◌∙◌}
+use mathlib.Core.Path.{◌≡◌, sym, ap, ap₂, ◌∙◌}
 use mathlib.Core.List.{List, [], ◌∷◌}
 use Prim.Native.Nat.{ℕ, zero, suc, ◌+◌, ◌*◌, ◌/◌, ◌%◌, ◌^◌, ◌<◌}
 use native.Mathlib.Nat.{zero-add}

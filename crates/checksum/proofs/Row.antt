@@ -2,12 +2,14 @@
 -- goes from block to block, and a row after which bytes are left. At the end all is joined: few bytes are left that have the same checksum.
 use mathlib.Core.Path.{◌≡◌, refl, sym, ap, ◌∙◌, subst, subst₂}
 use mathlib.Core.List.{List, [], ◌∷◌, ◌++◌, append-nil, append_assoc}
-use Prim.Native.Nat.{ℕ, zero, suc, ◌+◌, ◌≤◌, ◌<◌}
+use Prim.Native.Nat.{ℕ, zero, suc, ◌+◌, ◌*◌, ◌≤◌, ◌<◌}
+use native.Mathlib.Nat.{zero-mul, suc-mul}
 use native.Mathlib.Omega.{arith}
 use lib.ListN.{length, get_or, set, take, drop, replicate, length-drop, length-replicate, get_or-replicate, length-set, drop_of_length-le}
-use lib.Seq.{get_or-set_same, get_or-set_other, take_all, take-suc, take-add, drop-cons, take-suc-set}
+use lib.Seq.{get_or-set_same, get_or-set_other, take_all, take-suc, take-add, drop-cons, drop-drop, take-suc-set}
 use lib.Bits.{bit_xor}
-use borrow.Author.Count.{below_more}
+use Rattle.std.specs.Simd.{first_chunks}
+use Rattle.std.proofs.lemmas.List.{take-append-drop}
 use Rattle.checksum.specs.inner.Reach.{lead, brought, brought_at, passed, left, Holds, Passes, Few}
 use Rattle.checksum.proofs.Passed.{zeros, short}
 
@@ -69,33 +71,6 @@ pub after_all : (row₀ s row : List ℕ) (k : ℕ) → length s ≡ k → After
 after_all row₀ s row k e kept ps held =
     subst₂ (λ (n : ℕ) (l : List ℕ). Holds (341 + n) (passed ps l) row) (sym e) (take_all k s (omega arith)) (kept ps held)
 
--- MOVING by n places: the bytes before the place i have come to their places, and the others are where they were at first
-pub record Moved (row₀ : List ℕ) (n i : ℕ) (row : List ℕ) : Type 0 where
-  pub room : length row ≡ 341 + 2048
-  pub here : (j : ℕ) → j < i → get_or row j 0 ≡ get_or row₀ (n + j) 0
-  pub still : (j : ℕ) → i ≤ j → get_or row j 0 ≡ get_or row₀ j 0
-
-pub moved_none : (row : List ℕ) (n : ℕ) → length row ≡ 341 + 2048 → Moved row n 0 row
-moved_none row n room = record { room = room; here = λ j h. omega arith; still = λ j h. refl }
-
-pub moved_on : (row₀ row : List ℕ) (n i : ℕ) → i < 341 → Moved row₀ n i row → Moved row₀ n (i + 1) (set row i (get_or row (n + i) 0))
-moved_on row₀ row n i h moved =
-    let b : ℕ = get_or row (n + i) 0 in
-    record {
-      room = length-set row i b ∙ moved.room;
-      here =
-          below_more (λ (j : ℕ). get_or (set row i b) j 0 ≡ get_or row₀ (n + j) 0) i
-          (λ j l. get_or-set_other row i j b 0 (λ q. omega arith) ∙ moved.here j l)
-          (get_or-set_same row i b 0 (omega (arith, moved.room)) ∙ moved.still (n + i) (omega arith));
-      still = λ j l. get_or-set_other row i j b 0 (λ q. omega arith) ∙ moved.still j (omega arith);
-    }
-
-pub moved_all : (row₀ row : List ℕ) (n i : ℕ) → 341 ≤ i → (length row₀ ≡ 341 + 2048 → Moved row₀ n i row)
-    → (ps : List ℕ) → Holds (341 + n) ps row₀ → Holds 341 ps row
-moved_all row₀ row n i h moved ps held =
-    let m = moved held.room in
-    record { room = m.room; each = λ i j e. m.here i (omega arith) ∙ held.each (n + i) j (omega arith) }
-
 -- a block is passed on, and the row is moved
 pub passes : (row₀ row₁ row₂ s : List ℕ)
     → ((ps : List ℕ) → Holds 341 ps row₀ → Holds (341 + length s) (passed ps s) row₁)
@@ -104,23 +79,35 @@ pub passes : (row₀ row₁ row₂ s : List ℕ)
 unfolding Passes
 passes row₀ row₁ row₂ s on moved ps held = moved (passed ps s) (on ps held)
 
--- BLOCK BY BLOCK
+-- BLOCK BY BLOCK, of n bytes each
 pub passes_none : (row s : List ℕ) → Passes (take 0 s) row row
 unfolding Passes passed
 passes_none row s ps held = held
 
-pub passes_on : (row₀ row₁ row₂ s : List ℕ) (i n k : ℕ) → i + n ≡ k → Passes (take i s) row₀ row₁ → Passes (take n (drop i s)) row₁ row₂
-    → Passes (take k s) row₀ row₂
+passes_append : (row₀ row₁ row₂ s t : List ℕ) → Passes s row₀ row₁ → Passes t row₁ row₂ → Passes (s ++ t) row₀ row₂
 unfolding Passes
-passes_on row₀ row₁ row₂ s i n k e first then ps held =
-    subst (λ (l : List ℕ). Holds 341 l row₂)
-    (sym (passed_append (take i s) (take n (drop i s)) ps) ∙ ap (passed ps) (sym (take-add i n s) ∙ ap (λ (m : ℕ). take m s) e))
-    (then (passed ps (take i s)) (first ps held))
+passes_append row₀ row₁ row₂ s t first then ps held =
+    subst (λ (l : List ℕ). Holds 341 l row₂) (sym (passed_append s t ps)) (then (passed ps s) (first ps held))
 
-pub passes-end : (row₀ row₁ row₂ s : List ℕ) (i n : ℕ) → length s ≤ i + n → Passes (take i s) row₀ row₁ → Passes (take n (drop i s)) row₁ row₂
-    → Passes s row₀ row₂
-passes-end row₀ row₁ row₂ s i n h first then =
-    subst (λ (l : List ℕ). Passes l row₀ row₂) (take_all (i + n) s h) (passes_on row₀ row₁ row₂ s i n (i + n) refl first then)
+-- the block i
+block_at : (n k i : ℕ) (s : List ℕ) → i < k → get_or (first_chunks n k s) i [] ≡ take n (drop (i * n) s)
+block_at n zero i s h = absurd (omega arith)
+block_at n (suc k) zero s h = ap (λ (j : ℕ). take n (drop j s)) (sym (zero-mul n))
+block_at n (suc k) (suc i) s h =
+    block_at n k i (drop n s) (omega arith)
+    ∙ ap (take n) (drop-drop (i * n) n s ∙ ap (λ (j : ℕ). drop j s) (omega (arith, suc-mul i n)))
+
+pub passes_on : (n k i : ℕ) (row₀ row₁ row₂ s : List ℕ) (blocks : List (List ℕ)) → blocks ≡ first_chunks n k s → i < k
+    → Passes (take (i * n) s) row₀ row₁ → Passes (get_or blocks i []) row₁ row₂ → Passes (take ((i + 1) * n) s) row₀ row₂
+passes_on n k i row₀ row₁ row₂ s blocks e h first then =
+    subst (λ (l : List ℕ). Passes l row₀ row₂)
+    (sym (take-add (i * n) n s) ∙ ap (λ (j : ℕ). take j s) (omega (arith, suc-mul i n)))
+    (passes_append row₀ row₁ row₂ (take (i * n) s) (take n (drop (i * n) s)) first
+    (subst (λ (l : List ℕ). Passes l row₁ row₂) (ap (λ (l : List (List ℕ)). get_or l i []) e ∙ block_at n k i s h) then))
+
+pub passes_all : (row₀ row₁ row₂ s rest : List ℕ) (j : ℕ) → rest ≡ drop j s → Passes (take j s) row₀ row₁ → Passes rest row₁ row₂ → Passes s row₀ row₂
+passes_all row₀ row₁ row₂ s rest j e first then =
+    subst (λ (l : List ℕ). Passes l row₀ row₂) (ap (λ (l : List ℕ). take j s ++ l) e ∙ take-append-drop j s) (passes_append row₀ row₁ row₂ (take j s) rest first then)
 
 -- LEAVING: of the last bytes, s, the first k are left, and the row has nothing for them
 pub record Leaves (row₀ s : List ℕ) (k : ℕ) (row few : List ℕ) : Type 0 where

@@ -8,9 +8,9 @@ mod reach;
 mod table;
 mod terms;
 
-ghost use Rattle.std.specs.Prelude.{◌≡◌, ℕ, ◌+◌, ◌%◌, ◌≤◌, ◌<◌, length, take, drop};
+ghost use Rattle.std.specs.Prelude.{◌≡◌, ℕ, ◌+◌, ◌≤◌, ◌<◌, length, take, slice_index};
 ghost use Rattle.checksum.specs.Checksum.{byte_step, checksum_from, checksum_of, Checksum};
-ghost use Rattle.checksum.specs.inner.Table.{word_of, in_turns, in_fours, empty_steps, RightTable, RightTables};
+ghost use Rattle.checksum.specs.inner.Table.{word_of, empty_steps, RightTable, RightTables};
 
 use reach::{REACH, leave_few};
 use table::{BYTES, ENTRIES, FAR, NEAR};
@@ -47,19 +47,20 @@ fn byte_step(near: &[u32; ENTRIES], register: u32, byte: u8) -> u32
 }
 
 // Four bytes as one number, the first byte highest.
-fn word(a: u8, b: u8, c: u8, d: u8) -> u32
-    ensures { result ≡ word_of a b c d }
+// Stays (4): by `u32::from_be_bytes` 700 bytes take 9 in 100 longer: those that meet an empty register are then not read one by one.
+fn word(four: &[u8; STEP]) -> u32
+    ensures { result ≡ word_of (slice_index four.now 0) (slice_index four.now 1) (slice_index four.now 2) (slice_index four.now 3) }
 {
+    let [a, b, c, d] = *four;
     ((a as u32) << THREE_BYTES) + ((b as u32) << TWO_BYTES) + ((c as u32) << BYTE) + (d as u32)
 }
 
-// What the register becomes when the four bytes from a place on enter, and then the empty bytes of the table's first row: each byte meets
-// a byte of the register, and what they make together has an entry.
-fn four_step(table: &[u32; ENTRIES], register: u32, s: &[u8], at: usize) -> u32
-    requires { at + 4 ≤ length s.now }
-    ensures { (n : ℕ) → RightTable n table.now → result ≡ empty_steps n (checksum_from register (take 4 (drop at s.now))) }
+// What the register becomes when four bytes enter, and then the empty bytes of the table's first row: each byte meets a byte of the
+// register, and what they make together has an entry.
+fn four_step(table: &[u32; ENTRIES], register: u32, four: &[u8; STEP]) -> u32
+    ensures { (n : ℕ) → RightTable n table.now → result ≡ empty_steps n (checksum_from register four.now) }
 {
-    let met = (register ^ word(s[at], s[at + 1], s[at + 2], s[at + 3])) as usize;
+    let met = (register ^ word(four)) as usize;
     let first = entry(table, 3, met >> THREE_BYTES);
     let second = entry(table, 2, (met >> TWO_BYTES) % BYTES);
     let third = entry(table, 1, (met >> BYTE) % BYTES);
@@ -67,74 +68,39 @@ fn four_step(table: &[u32; ENTRIES], register: u32, s: &[u8], at: usize) -> u32
     (first ^ second) ^ (third ^ fourth)
 }
 
-// What the register becomes when the sixteen bytes from a place on enter. The last twelve enter an empty register, four after four; they
-// come first here, since they need not wait for the register.
+// What the register becomes when sixteen bytes enter. The last twelve enter an empty register, four after four; they come first here, since
+// they need not wait for the register.
 fn sixteen_step(
     near: &[u32; ENTRIES],
     far: &[u32; ENTRIES],
     register: u32,
-    s: &[u8],
-    at: usize,
+    turn: &[u8; TURN],
 ) -> u32
-    requires { RightTables near.now far.now × (at + 16 ≤ length s.now) }
-    ensures { result ≡ checksum_from register (take 16 (drop at s.now)) }
-{
-    let second = four_step(near, 0, s, at + STEP);
-    let third = four_step(near, second, s, at + 2 * STEP);
-    let fourth = four_step(near, third, s, at + 3 * STEP);
-    fourth ^ four_step(far, register, s, at)
-}
-
-// What the register becomes when the bytes of all whole turns enter.
-fn turns(near: &[u32; ENTRIES], far: &[u32; ENTRIES], register: u32, s: &[u8]) -> u32
     requires { RightTables near.now far.now }
-    ensures { result ≡ checksum_from register (take (in_turns (length s.now)) s.now) }
+    ensures { result ≡ checksum_from register turn.now }
 {
-    let mut turned = register;
-    let mut i = 0;
-    while s.len() - i >= TURN {
-        turned = sixteen_step(near, far, turned, s, i);
-        i += TURN;
-    }
-    turned
+    let (fours, _) = turn.as_chunks::<STEP>();
+    let second = four_step(near, 0, &fours[1]);
+    let third = four_step(near, second, &fours[2]);
+    let fourth = four_step(near, third, &fours[3]);
+    fourth ^ four_step(far, register, &fours[0])
 }
 
-// What the register becomes when the bytes from a place on enter four by four, as far as there are four; whole fours stand before the place.
-fn fours(near: &[u32; ENTRIES], register: u32, s: &[u8], at: usize) -> u32
-    requires { RightTable 0 near.now × (at ≤ length s.now) × (at % 4 ≡ 0) }
-    ensures { checksum_from result (drop (in_fours (length s.now)) s.now) ≡ checksum_from register (drop at s.now) }
-{
-    let mut stepped = register;
-    let mut i = at;
-    while s.len() - i >= STEP {
-        stepped = four_step(near, stepped, s, i);
-        i += STEP;
-    }
-    stepped
-}
-
-// What the register becomes when the bytes from a place on enter, one by one.
-fn rest(near: &[u32; ENTRIES], register: u32, s: &[u8], at: usize) -> u32
-    requires { RightTable 0 near.now }
-    ensures { result ≡ checksum_from register (drop at s.now) }
-{
-    let mut stepped = register;
-    let mut i = at;
-    while i < s.len() {
-        stepped = byte_step(near, stepped, s[i]);
-        i += 1;
-    }
-    stepped
-}
-
-// What the register becomes when the bytes s enter.
+// What the register becomes when the bytes s enter: turn after turn, then four after four, and then the rest, one by one.
 fn by_table(near: &[u32; ENTRIES], far: &[u32; ENTRIES], register: u32, s: &[u8]) -> u32
     requires { RightTables near.now far.now }
     ensures { result ≡ checksum_from register s.now }
 {
-    let turned = turns(near, far, register, s);
-    let stepped = fours(near, turned, s, s.len() - s.len() % TURN);
-    rest(near, stepped, s, s.len() - s.len() % STEP)
+    let (turns, later) = s.as_chunks::<TURN>();
+    let (fours, rest) = later.as_chunks::<STEP>();
+    let turned = turns
+        .iter()
+        .fold(register, |r, turn| sixteen_step(near, far, r, turn));
+    let stepped = fours
+        .iter()
+        .fold(turned, |r, four| four_step(near, r, four));
+    rest.iter()
+        .fold(stepped, |r, byte| byte_step(near, r, *byte))
 }
 
 // Lays the tables, and answers by them what the register becomes when the bytes s enter.
@@ -173,8 +139,5 @@ pub fn of(s: &[u8]) -> usize
 pub fn of_first(s: &[u8], n: usize) -> usize
     ensures { Checksum (take n s.now) result }
 {
-    if n < s.len() {
-        return of(&s[..n]);
-    }
-    of(s)
+    of(&s[..n.min(s.len())])
 }

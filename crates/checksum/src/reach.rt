@@ -50,10 +50,8 @@ fn pass_on(row: &mut [u8; ROOM], s: &[u8])
     requires { length s.now ≤ 2048 }
     ensures { (ps : List ℕ) → Holds 341 ps row.old → Holds (341 + length s.now) (passed ps s.now) row.new }
 {
-    let mut k = 0;
-    while k < s.len() {
-        row[REACH + k] = s[k] ^ brought(row, k);
-        k += 1;
+    for (k, byte) in s.iter().enumerate() {
+        row[REACH + k] = *byte ^ brought(row, k);
     }
 }
 
@@ -62,11 +60,7 @@ fn move_row(row: &mut [u8; ROOM], n: usize)
     requires { n ≤ 2048 }
     ensures { (ps : List ℕ) → Holds (341 + n) ps row.old → Holds 341 ps row.new }
 {
-    let mut i = 0;
-    while i < REACH {
-        row[i] = row[n + i];
-        i += 1;
-    }
+    row.copy_within(n..n + REACH, 0);
 }
 
 // Passes on the bytes s, no more than a block, and moves the row.
@@ -82,12 +76,11 @@ fn pass_part(row: &mut [u8; ROOM], s: &[u8])
 fn pass_all(row: &mut [u8; ROOM], s: &[u8])
     ensures { Passes s.now row.old row.new }
 {
-    let mut i = 0;
-    while s.len() - i > BLOCK {
-        pass_part(row, &s[i..i + BLOCK]);
-        i += BLOCK;
+    let (blocks, rest) = s.as_chunks::<BLOCK>();
+    for block in blocks {
+        pass_part(row, block);
     }
-    pass_part(row, &s[i..]);
+    pass_part(row, rest);
 }
 
 // The few bytes that are left: the last ones, s, each with what is brought to it. They are not passed on, so the row has nothing for them.
@@ -95,11 +88,9 @@ fn leave(row: &mut [u8; ROOM], s: &[u8], few: &mut [u8; REACH])
     requires { (length s.now ≡ 341) × (length few.old ≡ 341) }
     ensures { (ps : List ℕ) → Holds 341 ps row.old → few.new ≡ left ps s.now }
 {
-    let mut k = 0;
-    while k < REACH {
-        few[k] = s[k] ^ brought(row, k);
+    for (k, byte) in s.iter().enumerate() {
+        few[k] = *byte ^ brought(row, k);
         row[REACH + k] = 0;
-        k += 1;
     }
 }
 

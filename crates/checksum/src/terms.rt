@@ -64,9 +64,7 @@ fn byte_step(register: u32, byte: u8) -> u32
     ensures { result ≡ byte_step register byte }
 {
     let mut stepped = register;
-    let mut place = BYTE;
-    while place > 0 {
-        place -= 1;
+    for place in (0..BYTE).rev() {
         stepped = bit_step(stepped, ((byte as u32) >> place) % 2);
     }
     stepped
@@ -76,13 +74,8 @@ fn byte_step(register: u32, byte: u8) -> u32
 fn checksum_from(register: u32, s: &[u8]) -> u32
     ensures { result ≡ checksum_from register s.now }
 {
-    let mut stepped = register;
-    let mut i = 0;
-    while i < s.len() {
-        stepped = byte_step(stepped, s[i]);
-        i += 1;
-    }
-    stepped
+    s.iter()
+        .fold(register, |stepped, byte| byte_step(stepped, *byte))
 }
 
 // What the bytes make of the start value, with no final change.

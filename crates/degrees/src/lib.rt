@@ -34,7 +34,7 @@ pub fn in_degrees(latitude: i32, longitude: i32) -> Degrees
 pub fn bits_of(x: f64) -> u64
     ensures { result ≡ to_bits binary64 x }
 {
-    if x != x {
+    if x.is_nan() {
         return NOT_A_NUMBER;
     }
     f64::to_bits(x)

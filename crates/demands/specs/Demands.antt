@@ -7,14 +7,13 @@ use mathlib.Core.List.{List, [], ◌∷◌, ◌++◌, reverse, Memᴰ}
 use Rattle.std.specs.Float.{binary64}
 use Rattle.std.specs.Float.Ieee.{to_bits, lt}
 use Rattle.verdict.specs.declared.Fault.{Fault}
-use Rattle.verdict.specs.declared.Verdict.TheVariants as verdict
+use Rattle.std.specs.Prelude.{Ok, Err}
 use Rattle.verdict.specs.Reasons.{number_in, place_in, pair_number_in, pair_place_in, pair_file_in}
 use Rattle.verdict.specs.Answers.{Answer, answer_number, answer_place, answer_values}
 use Rattle.verdict.specs.Order.{Answered, Reported, Asked}
 use Rattle.promises.specs.Determined.{Determined}
 use Rattle.promises.specs.Agree.{Agree}
 use Rattle.x1_questions.specs.declared.answers.Coordinate.{Coordinate}
-use Rattle.x1_questions.specs.declared.answers.PointAnswer.TheVariants as point-answer
 use Rattle.x1_records.specs.declared.Point.{Point}
 use Rattle.x1_layout.specs.Layout.{count_of}
 use Rattle.x1_verdict.specs.Facts.{verdict_by as x1VerdictBy, verdict_of as x1Verdict}
@@ -28,12 +27,10 @@ use Rattle.x1_theorems.specs.Asked as survey
 use Rattle.x1_questions.specs.Questions.{header_of, track_of, point_of, coordinate_asked}
 use Rattle.x1_questions.specs.Stretch.{end_position_of}
 use Rattle.x1_questions.specs.Coordinate.{CoordinateAt}
-use Rattle.x1_questions.specs.declared.answers.CoordinateAnswer.TheVariants as coordinate
 use Rattle.degrees.specs.Degrees.{degree}
 use Rattle.degrees_theorems.specs.Wholes.{IsWhole, told_apart}
 use Rattle.x1_degrees.specs.declared.Surveyed.{Surveyed}
-use Rattle.x1_degrees.specs.declared.DegreesAnswer.{DegreesAnswer}
-use Rattle.x1_degrees.specs.declared.DegreesAnswer.TheVariants as in-degrees
+use Rattle.x1_degrees.specs.Results.{DegreesAnswer}
 use Rattle.x1_degrees.specs.Answers.{coordinate_in, degrees_in, degrees_answer}
 use Rattle.x1_degrees.specs.Questions.{degrees_asked, point_degrees_of}
 use Rattle.x1_theorems.specs.Degrees.{DegreesOf, InDegrees, StandsAt}
@@ -58,7 +55,7 @@ use Rattle.route_walks.specs.declared.Tally.{Tally}
 use Rattle.route_walks.specs.Lent.{room_of}
 use Rattle.route_walks.specs.Legal.{Follows, NoneTwice, last_object, Walk, Route}
 use Rattle.route_walks.specs.All.{AllRoutes}
-use Rattle.route_lister.specs.declared.RoutesAnswer.TheVariants as routes
+use Rattle.std.specs.Prelude.{Ok, Err}
 use Rattle.route_lister.specs.Answered.{limit_of, routes_answer}
 use Rattle.route_lister.specs.Listing.{Listing}
 use Rattle.route_question.specs.Routes.{routes_asked, left_asked}
@@ -70,7 +67,7 @@ use Rattle.route_backwards.specs.Calls.{CalledBy, seen_calling}
 use Rattle.ahead.specs.declared.Stop.{Stop}
 use Rattle.ahead.specs.declared.Stop.TheVariants as stop
 use Rattle.ahead.specs.declared.Sight.{Sight}
-use Rattle.ahead.specs.declared.AheadAnswer.TheVariants as ahead
+use Rattle.ahead.specs.declared.AheadFault.TheVariants.{OfPair, OfQuestion}
 use Rattle.ahead.specs.Asked.{ahead_answer, ahead_file, ahead_asked, left_asked as leftAhead}
 use Rattle.ahead_theorems.specs.Stops.{EndsFor}
 use Rattle.ahead_theorems.specs.Asked.{InRange, AheadAnswered, objects_of, link_of, LiesAhead, Listed}
@@ -170,7 +167,7 @@ pub record Returns : Type 0 where
   pub output_kept : (a : Answer) (out : List ℕ) → (answer_number a ≡ 0 → ⊥) → leaves a out ≡ out
   -- 01: Ask.6
   pub words_kept : (f : List ℕ) (start limit budget : ℕ) (out : List ℕ) (t : Fault)
-      → routes_asked f start limit budget (room_of out) ≡ routes.Refused t → left_asked f start limit budget out ≡ out
+      → routes_asked f start limit budget (room_of out) ≡ Err t → left_asked f start limit budget out ≡ out
   -- 02: Ticket9.9
   pub objects_kept : (f g : List ℕ) (offset link : ℕ) (lies out : List ℕ)
       → (answer_number (ahead_answer (ahead_asked f g offset link lies (length out))) ≡ 0 → ⊥) → leftAhead f g offset link lies out ≡ out
@@ -200,15 +197,15 @@ pub record Accepts : Type 0 where
   pub record_there : (f : List ℕ) (x n p : ℕ) → Shows (record_answer (record_of f x)) n p
       ↔ Asked (x2Verdict f) (application.record_checks f x) n p
   -- what an enum stands for is the number that is stored; every byte of a file is below 256
-  pub enums : (f : List ℕ) → ((i : ℕ) → get_or f i 0 < 256) → x2Verdict f ≡ verdict.Accepted → (at : ℕ)
+  pub enums : (f : List ℕ) → ((i : ℕ) → get_or f i 0 < 256) → x2Verdict f ≡ Ok tt → (at : ℕ)
       → Memᴰ at (starts f (layout_of f)) → EnumsKept f at (record_at f (kind_at (layout_of f) at) at)
   -- what a record has for a name is the name that stands there, with as many bytes as the rule says
   -- 02: Ticket10.7
-  pub names : (f : List ℕ) → x2Verdict f ≡ verdict.Accepted → (at : ℕ)
+  pub names : (f : List ℕ) → x2Verdict f ≡ Ok tt → (at : ℕ)
       → Memᴰ at (starts f (layout_of f)) → NamesRead f at (record_at f (kind_at (layout_of f) at) at)
   -- the height of a point is the one that its bytes mean, and a file of version 1 has none
   -- 02: Ticket11.2
-  pub heights : (f : List ℕ) (i j : ℕ) (p : Point) → point_of f i j ≡ point-answer.Point p
+  pub heights : (f : List ℕ) (i j : ℕ) (p : Point) → point_of f i j ≡ Ok p
       → HeightRead f (point_place f (size_of f) (entry_place i) j) p.height
   -- a file of version 1 reads as ever, alone and in a pair
   -- 02: Ticket11.5
@@ -227,10 +224,10 @@ pub record Accepts : Type 0 where
   pub record_back : (f out : List ℕ) → ((i : ℕ) → get_or f i 0 < 256) → (x : ℕ) → AnswerBack record_signed (record_answer (record_of f x)) out
   -- at each position up to the end of a track, the nearest to the exact value between two neighbouring points; and no other
   pub nearest : (f : List ℕ) → X1Obeys f → (i : ℕ) → i < count_of f → (x : ℕ) → x ≤ end_position_of f (entry_place i)
-      → (r : Coordinate) × (coordinate_asked f (number_at f (entry_place i)) x ≡ coordinate.Coordinate r)
+      → (r : Coordinate) × (coordinate_asked f (number_at f (entry_place i)) x ≡ Ok r)
       × CoordinateAt f (size_of f) (entry_place i) x r
   pub no_other : (f : List ℕ) → X1Obeys f → (i : ℕ) → i < count_of f → (x : ℕ) (r : Coordinate) → CoordinateAt f (size_of f) (entry_place i) x r
-      → coordinate_asked f (number_at f (entry_place i)) x ≡ coordinate.Coordinate r
+      → coordinate_asked f (number_at f (entry_place i)) x ≡ Ok r
   -- in degrees too, at a position and of a point (02, ticket 14): the refusals are those of the coordinate and of the point, and a refusal's values
   -- are 0, the bits of 0.0 among them
   -- 02: Ticket14.4
@@ -245,15 +242,15 @@ pub record Accepts : Type 0 where
       ∷ pos (to_bits binary64 (degrees_in a).latitude) ∷ pos (to_bits binary64 (degrees_in a).longitude) ∷ []
   -- the milliarcseconds are those of the coordinate, and of a point its track's start plus its increment
   -- 02: Ticket14.3
-  pub degrees_record : (f : List ℕ) (number x : ℕ) (s : Surveyed) → degrees_asked f number x ≡ in-degrees.Surveyed s
-      → coordinate_asked f number x ≡ coordinate.Coordinate s.coordinate
+  pub degrees_record : (f : List ℕ) (number x : ℕ) (s : Surveyed) → degrees_asked f number x ≡ Ok s
+      → coordinate_asked f number x ≡ Ok s.coordinate
   -- 02: Ticket14.3
-  pub point_degrees_record : (f : List ℕ) (i j : ℕ) (s : Surveyed) → point_degrees_of f i j ≡ in-degrees.Surveyed s → StandsAt f i j s.coordinate
+  pub point_degrees_record : (f : List ℕ) (i j : ℕ) (s : Surveyed) → point_degrees_of f i j ≡ Ok s → StandsAt f i j s.coordinate
   -- the two numbers beside them are each one division of them by 3,600,000, and so their exact quotient, rounded once; and finite
   -- 02: Ticket14.2
-  pub degrees_beside : (f : List ℕ) (number x : ℕ) (s : Surveyed) → degrees_asked f number x ≡ in-degrees.Surveyed s → InDegrees s
+  pub degrees_beside : (f : List ℕ) (number x : ℕ) (s : Surveyed) → degrees_asked f number x ≡ Ok s → InDegrees s
   -- 02: Ticket14.2
-  pub point_degrees_beside : (f : List ℕ) (i j : ℕ) (s : Surveyed) → point_degrees_of f i j ≡ in-degrees.Surveyed s → InDegrees s
+  pub point_degrees_beside : (f : List ℕ) (i j : ℕ) (s : Surveyed) → point_degrees_of f i j ≡ Ok s → InDegrees s
   -- every whole degree is exact
   -- 02: Ticket14.2
   pub whole_degrees : (k : ℤ) (x : Float) → nat_abs k ≤ 180 → DegreesOf (k *ℤ pos degree) x → IsWhole x k
@@ -278,15 +275,15 @@ pub record Lists : Type 0 where
   pub which : (f : List ℕ) (start limit budget room n p : ℕ) → Shows (routes_answer (routes_asked f start limit budget room)) n p
       ↔ Asked (x2Verdict f) (routes_checks f start limit budget room) n p
   -- what a listing is: all routes, each once and in their order, their words in the memory lent, and nothing else changed
-  pub listed : (f : List ℕ) → x2Verdict f ≡ verdict.Accepted → (start limit budget : ℕ) (out : List ℕ) (t : Tally)
-      → routes_asked f start limit budget (room_of out) ≡ routes.Listed t
+  pub listed : (f : List ℕ) → x2Verdict f ≡ Ok tt → (start limit budget : ℕ) (out : List ℕ) (t : Tally)
+      → routes_asked f start limit budget (room_of out) ≡ Ok t
       → Listing (object_at f (layout_of f)) start (limit_of limit) budget t out (left_asked f start limit budget out)
   -- there is no second such list
-  pub one_list : (f : List ℕ) → x2Verdict f ≡ verdict.Accepted → (start : ℕ) → BoundaryHere f start → (limit : ℕ) (a b : List (List ℕ))
+  pub one_list : (f : List ℕ) → x2Verdict f ≡ Ok tt → (start : ℕ) → BoundaryHere f start → (limit : ℕ) (a b : List (List ℕ))
       → AllRoutes (object_at f (layout_of f)) start limit a → AllRoutes (object_at f (layout_of f)) start limit b → a ≡ b
   -- of a group of balises a walk meets the first alone (02, ticket 2)
   -- 02: Ticket2.5
-  pub first_only : (f : List ℕ) → x2Verdict f ≡ verdict.Accepted → (start : ℕ) → BoundaryHere f start → (limit : ℕ) (w : List ℕ)
+  pub first_only : (f : List ℕ) → x2Verdict f ≡ Ok tt → (start : ℕ) → BoundaryHere f start → (limit : ℕ) (w : List ℕ)
       → Walk (object_at f (layout_of f)) start limit w → (x : ℕ) → Memᴰ x w → Member f (layout_of f) x → ⊥
   -- what the lister reads of a record is what the record's bytes mean
   pub objects : (f : List ℕ) (at : ℕ) → object_at f (layout_of f) at ≡ object_of (record_at f (kind_at (layout_of f) at) at)
@@ -302,7 +299,7 @@ pub record Lists : Type 0 where
   pub engines : Agree 3 routes-kinds.ps routes-kinds.r routes-reads.Post routes-flat-reads.Post
   -- a route read backwards is a route: in an accepted file w leads from a to b within a limit exactly when its reverse leads from b to a
   -- 02: Ticket13.1
-  pub route_back : (f : List ℕ) → x2Verdict f ≡ verdict.Accepted → (a b : ℕ) → BoundaryHere f a → BoundaryHere f b → (limit : ℕ) (w : List ℕ)
+  pub route_back : (f : List ℕ) → x2Verdict f ≡ Ok tt → (a b : ℕ) → BoundaryHere f a → BoundaryHere f b → (limit : ℕ) (w : List ℕ)
       → RouteTo (object_at f (layout_of f)) a b limit w ↔ RouteTo (object_at f (layout_of f)) b a limit (reverse w)
   -- 'listed' is said of the words in the memory after a listing that is not refused: they are read in one way, and what is listed there are the
   -- routes
@@ -330,7 +327,7 @@ pub record LooksAhead : Type 0 where
       ↔ AheadAnswered f g offset link lies room d n p
   -- what an answer is: the list that lies ahead, with its stop, in the memory lent, and nothing else changed
   -- 02: Ticket9.2
-  pub listed : (f g : List ℕ) (offset link : ℕ) (lies out : List ℕ) (s : Sight) → ahead_asked f g offset link lies (length out) ≡ ahead.Listed s
+  pub listed : (f g : List ℕ) (offset link : ℕ) (lies out : List ℕ) (s : Sight) → ahead_asked f g offset link lies (length out) ≡ Ok s
       → Listed g offset link lies s out (leftAhead f g offset link lies out)
   -- there is no second such list
   -- 02: Ticket9.2
@@ -390,7 +387,7 @@ pub record Loads : Type 0 where
       → ((number_in (finish_verdict t room) ≡ n) × (place_in (finish_verdict t room) ≡ p)) ↔ FinishAnswered t room n p
   -- a refused call changes neither state nor room, finishing changes nothing, and openings write no byte
   -- 02: Ticket6.6
-  pub refused_keeps : (w : World) (c : Call) (t : Fault) → answer w c ≡ verdict.Refused t → after w c ≡ w
+  pub refused_keeps : (w : World) (c : Call) (t : Fault) → answer w c ≡ Err t → after w c ≡ w
   -- 02: Ticket6.6
   pub finishing_keeps : (w : World) (n : ℕ) → after w (finishing n) ≡ w
   -- 02: Ticket6.12
@@ -398,33 +395,33 @@ pub record Loads : Type 0 where
   -- after any run of calls since a granted opening the room holds the bytes of the pieces accepted since, in order and without gap, all of them under
   -- one identity; what lies behind is as it was
   -- 02: Ticket6.4
-  pub gathers : (w : World) (n : ℕ) (i : Identity) → answer w (opening n i) ≡ verdict.Accepted → (cs : List Call)
+  pub gathers : (w : World) (n : ℕ) (i : Identity) → answer w (opening n i) ≡ Ok tt → (cs : List Call)
       → Gathered (taken_since w n i cs) (run_since w n i cs)
   -- a finishing that is accepted means: the reader accepts exactly those bytes, and their header, length and trailer are the identity's
   -- 02: Ticket6.5
-  pub one_version : (w : World) (n : ℕ) (i : Identity) → answer w (opening n i) ≡ verdict.Accepted → (cs : List Call) (m : ℕ)
-      → answer (run_since w n i cs) (finishing m) ≡ verdict.Accepted → OneVersion (taken_since w n i cs) (run_since w n i cs).room
+  pub one_version : (w : World) (n : ℕ) (i : Identity) → answer w (opening n i) ≡ Ok tt → (cs : List Call) (m : ℕ)
+      → answer (run_since w n i cs) (finishing m) ≡ Ok tt → OneVersion (taken_since w n i cs) (run_since w n i cs).room
   -- THE INCIDENT was the head of one data version joined to the tail of the next. No accepted file holds bytes of pieces with two identities, and every
   -- piece in it stated the data version that stands in its header.
   -- 02: Ticket6.4
-  pub never_joined : (w : World) (n : ℕ) (i : Identity) → answer w (opening n i) ≡ verdict.Accepted → (cs : List Call) (m : ℕ)
-      → answer (run_since w n i cs) (finishing m) ≡ verdict.Accepted
+  pub never_joined : (w : World) (n : ℕ) (i : Identity) → answer w (opening n i) ≡ Ok tt → (cs : List Call) (m : ℕ)
+      → answer (run_since w n i cs) (finishing m) ≡ Ok tt
       → (head tail : List ℕ) → Memᴰ head (taken_since w n i cs).pieces → Memᴰ tail (taken_since w n i cs).pieces
       → ((stated_in head).identity ≡ (stated_in tail).identity)
       × ((stated_in tail).identity.version ≡ num_at 2 (take (taken_since w n i cs).identity.total (run_since w n i cs).room) data_at)
   -- and it refuses no one who keeps to the ticket: a file that the reader accepts, opened with its own identity in a room that holds it and sent in
   -- pieces of any sizes, arrives
   -- 02: Ticket6.4
-  pub arrives : (f : List ℕ) → ((k : ℕ) → get_or f k 0 < 256) → reader_of (identity_of f).kind f ≡ verdict.Accepted
+  pub arrives : (f : List ℕ) → ((k : ℕ) → get_or f k 0 < 256) → reader_of (identity_of f).kind f ≡ Ok tt
       → (parts : List (List ℕ)) → EachSome parts → together parts ≡ f → (w : World) (n : ℕ) → length f ≤ length (lent n w) → Arrives w n f parts
   -- refused calls may as well not have been made: a transfer that broke off goes on where it stopped, and the file arrives
   -- 02: Ticket6.6
   pub resumes : (w : World) (cs : List Call) → run w cs ≡ run w (accepted_in w cs)
   -- 02: Ticket6.4
-  pub arrives_resumed : (f : List ℕ) → ((k : ℕ) → get_or f k 0 < 256) → reader_of (identity_of f).kind f ≡ verdict.Accepted
+  pub arrives_resumed : (f : List ℕ) → ((k : ℕ) → get_or f k 0 < 256) → reader_of (identity_of f).kind f ≡ Ok tt
       → (parts : List (List ℕ)) → EachSome parts → together parts ≡ f → (w : World) (n : ℕ) → length f ≤ length (lent n w)
       → (cs : List Call) → accepted_in (after w (opening n (identity_of f))) cs ≡ sending n f parts
-      → (answer (run_since w n (identity_of f) cs) (finishing n) ≡ verdict.Accepted) × (take (length f) (run_since w n (identity_of f) cs).room ≡ f)
+      → (answer (run_since w n (identity_of f) cs) (finishing n) ≡ Ok tt) × (take (length f) (run_since w n (identity_of f) cs).room ≡ f)
   -- a number of a piece: what is read is what is written for it, and each number has just one form that is read
   -- 02: Ticket6.3
   pub number_read : (s : List ℕ) (at v next : ℕ) → ((k : ℕ) → get_or s k 0 < 256) → (numberRead s at ≡ found v next) ↔ Form s at v next

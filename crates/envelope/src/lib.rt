@@ -1,16 +1,16 @@
 // What both files have alike (01, 'Bytes and checksum' and 'Verdicts and their order'): how long they are at most, End, the first fields
 // of the header, and the checks of the checksum, the file type and the structure version, 2 to 4 in 01's table.
-#![tactic(auto)]
+#![tactic(auto, unfolding(verdict::specs::Facts::first_fault))]
 
 ghost use Rattle.std.specs.Prelude.{◌≡◌};
-ghost use Rattle.verdict.specs.Facts.{judge};
+ghost use Rattle.verdict.specs.Facts.{first_fault};
 ghost use Rattle.envelope.specs.Seal.{end_of, structure_of, seal_facts};
 ghost use Rattle.envelope.specs.Header.{header_in};
 
 use octets::Width;
 use rules::is_number;
 use tables::{Field, number_between, number_is, number_of};
-use verdict::{Judged, Reason};
+use verdict::{Mark, Reason};
 
 // The most bytes of a file.
 pub const MOST_LENGTH: usize = 65535;
@@ -60,10 +60,7 @@ impl Header {
 pub fn end_of(f: &[u8]) -> usize
     ensures { result ≡ end_of f.now }
 {
-    if f.len() < CHECKSUM_SIZE {
-        return 0;
-    }
-    f.len() - CHECKSUM_SIZE
+    f.len().saturating_sub(CHECKSUM_SIZE)
 }
 
 // A file's structure version.
@@ -73,16 +70,16 @@ pub fn structure_of(f: &[u8]) -> usize
     number_of(f, HEADER, STRUCTURE)
 }
 
-// The verdict so far, then the checksum, the file type and the structure version, which is one of those up to the newest that is known.
-pub fn check_seal(v: Judged, f: &[u8], kind: usize, newest: usize) -> Judged
-    ensures { result ≡ judge v (seal_facts f.now kind newest) }
+// The checksum, the file type and the structure version, which is one of those up to the newest that is known.
+// Stays (1): `kind` is the number that 01 has the field of the file type hold, and is compared with it as any other number is with its field.
+pub fn check_seal(f: &[u8], kind: usize, newest: usize) -> Result<(), Mark>
+    ensures { result ≡ first_fault (seal_facts f.now kind newest) }
 {
     let end = end_of(f);
     let sum = checksum::of_first(f, end);
-    let mut w = is_number(v, f, Reason::Checksum, 0, end, Width::Four, sum);
-    w = number_is(w, f, Reason::FileType, HEADER, TYPE, kind);
+    is_number(f, Reason::Checksum, 0, end, Width::Four, sum)?;
+    number_is(f, Reason::FileType, HEADER, TYPE, kind)?;
     number_between(
-        w,
         f,
         Reason::Structure,
         HEADER,

@@ -3,8 +3,8 @@
 use mathlib.Core.Path.{◌≡◌, refl, sym, subst, ◌∙◌}
 use mathlib.Core.List.{[], ◌∷◌, Memᴰ}
 use lib.ListN.{replicate}
-use Rattle.verdict.specs.declared.Verdict.{Verdict}
-use Rattle.verdict.specs.declared.Verdict.TheVariants.{Accepted, Refused}
+use Rattle.verdict.specs.Verdicts.{Verdict}
+use Rattle.std.specs.Prelude.{Ok, Err}
 use Rattle.verdict.specs.Reasons.{number_in}
 use Rattle.verdict.proofs.Questions.{no_fault, some_number}
 use Rattle.x2_layout.specs.Layout.{layout_of}
@@ -16,7 +16,7 @@ use Rattle.route_graph.specs.Objects.{object_at, boundary_starts}
 use Rattle.route_walks.specs.Legal.{last_object, Route}
 use Rattle.route_walks.specs.Walks.{all_routes, words_of}
 use Rattle.route_walks.proofs.Order.{all_routes_lem}
-use Rattle.route_lister.specs.declared.RoutesAnswer.TheVariants as answer
+use Rattle.std.specs.Prelude.{Err}
 use Rattle.route_lister.specs.Answered.{limit_of, judged, answer_at}
 use Rattle.route_question.specs.Routes.{routes_asked}
 use Rattle.plan_routes.proofs.Listed.{words_one_way}
@@ -26,11 +26,11 @@ use Rattle.route_backwards.proofs.Backwards.{listed_iff, lists_back}
 use Rattle.examples_proved.specs.Table.{y, worked}
 use Rattle.examples_proved.specs.Judged as judged-cases
 
-no_number : (v : Verdict) → number_in v ≡ 0 → v ≡ Accepted
-no_number Accepted e = refl
-no_number (Refused t) e = absurd (some_number t.reason e)
+no_number : (v : Verdict) → number_in v ≡ 0 → v ≡ Ok tt
+no_number (Ok tt) e = refl
+no_number (Err t) e = absurd (some_number t.reason e)
 
-accepted : verdict_of y ≡ Accepted
+accepted : verdict_of y ≡ Ok tt
 accepted = no_number (verdict_of y) (judged-cases.judged).0.0
 
 -- the two listings, in bytes that hold just their words
@@ -43,7 +43,7 @@ from_44 = record {
   budget = 4;
   lent = replicate 16 0;
   tally = record { walks = 4; routes = 2; words = 8 };
-  listed = no_fault answer.Refused (verdict_of y) _ accepted ∙ rw worked.1.1.1.1.1.1.1.1.1.0.0 refl;
+  listed = no_fault Err (verdict_of y) _ accepted ∙ rw worked.1.1.1.1.1.1.1.1.1.0.0 refl;
 }
 
 pub from_68 : NotRefused
@@ -55,7 +55,7 @@ from_68 = record {
   budget = 3;
   lent = replicate 8 0;
   tally = record { walks = 3; routes = 1; words = 4 };
-  listed = no_fault answer.Refused (verdict_of y) _ accepted ∙ rw worked.1.1.1.1.1.1.1.1.1.1.0.0 refl;
+  listed = no_fault Err (verdict_of y) _ accepted ∙ rw worked.1.1.1.1.1.1.1.1.1.1.0.0 refl;
 }
 
 -- every route from 44, as 01's example has their words

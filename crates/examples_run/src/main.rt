@@ -3,12 +3,12 @@
 // yardlist prints of Y. The expected output is the paper's.
 #![tactic(auto)]
 
-ghost use Rattle.std.specs.Prelude.{◌≡◌, ◌<◌, length};
+ghost use Rattle.std.specs.Prelude.{◌<◌, ◌≤◌, length};
 
 use route_walks::WORD_SIZE;
 use std::io;
 use std::io::Stdout;
-use verdict::Verdict;
+use verdict::{Fault, answer_number, answer_place};
 
 // Yard Y with a checksum of zeros, in rows: type, versions and station; station name; start boundaries (how many, track, offset); end
 // boundaries (the same); group offsets; the boundaries at 44, 56 and 68 (type, link, neighbour station, type and track, position, track);
@@ -46,115 +46,90 @@ const TRACK: [u8; 68] = *b"\
 // Where the last offset of the track stands.
 const LAST: usize = 36;
 
-// Sets the byte at a place.
-fn put(b: &mut [u8], at: usize, x: u8) {
-    if at < b.len() {
-        b[at] = x;
-    }
+// How many bytes a checksum has. They stand last.
+const CHECKSUM: usize = 4;
+
+fn line(out: Stdout, what: &str, number: usize, place: usize) -> io::Result<()> {
+    println!(out; "{what}: {number} at {place}")
 }
 
-// The byte of a number that counts in these units.
-fn byte_of(n: usize, unit: usize) -> u8
-    requires { 0 < unit }
+// The number and the place of an answer, by its fault.
+fn answer_line(out: Stdout, what: &str, fault: Option<Fault>) -> io::Result<()> {
+    line(out, what, answer_number(fault), answer_place(fault))
+}
+
+// Repairs the checksum of a file.
+fn repair(f: &mut [u8])
+    requires { 4 ≤ length f.old }
 {
-    (n / unit % 256) as u8
+    let end = f.len() - CHECKSUM;
+    let sum = checksum::of_first(f, end);
+    f[end..].copy_from_slice(&sum.to_le_bytes()[..CHECKSUM]);
 }
 
-// Writes a checksum into the four bytes from a place on.
-fn put_sum(b: &mut [u8], at: usize, sum: usize)
-    requires { at < 65536 }
+// A file with the byte at a place set, and its checksum repaired.
+fn changed<const N: usize>(file: [u8; N], at: usize, x: u8) -> [u8; N]
+    requires place { at < N }
+    requires size { 4 ≤ N }
 {
-    put(b, at, byte_of(sum, 1));
-    put(b, at + 1, byte_of(sum, 0x100));
-    put(b, at + 2, byte_of(sum, 0x1_0000));
-    put(b, at + 3, byte_of(sum, 0x100_0000));
+    let mut f = file;
+    f[at] = x;
+    repair(&mut f);
+    f
 }
 
-fn line(out: Stdout, what: &[u8], number: usize, place: usize) -> io::Result<()> {
-    out.write_all(what)?;
-    println!(out; ": {number} at {place}")
-}
-
-fn verdict_line(out: Stdout, what: &[u8], v: Verdict) -> io::Result<()> {
-    line(out, what, v.number(), v.place())
-}
-
-// Yard Y with a reverse link, its checksum repaired.
-fn yard(reverse: u8) -> [u8; 108]
-    ensures { 108 ≡ length result }
-{
-    let mut b = YARD;
-    b[REVERSE] = reverse;
-    let sum = checksum::of_first(&b, 104);
-    put_sum(&mut b, 104, sum);
-    b
-}
-
-// The verdict of yard Y with a reverse link.
-fn yard_line(out: Stdout, what: &[u8], reverse: u8) -> io::Result<()> {
-    let b = yard(reverse);
-    verdict_line(out, what, x2_verdict::verdict_of(&b))
-}
-
-// The verdict of the X.1 file with a last offset, its checksum repaired.
-fn track_line(out: Stdout, what: &[u8], last: u8) -> io::Result<()> {
-    let mut b = TRACK;
-    b[LAST] = last;
-    let sum = checksum::of_first(&b, 64);
-    put_sum(&mut b, 64, sum);
-    verdict_line(out, what, x1_verdict::verdicts::verdict_of(&b))
-}
-
-// The routes of Y from 44 within a budget, in the bytes lent.
-fn routes_line(out: Stdout, what: &[u8], budget: usize, lent: &mut [u8]) -> io::Result<()> {
-    let b = yard(68);
-    let answer = route_question::routes(&b, 44, 8, budget, lent);
-    line(out, what, answer.number(), answer.place())
-}
-
-// Y from 44 within two budgets.
-fn budget_lines(out: Stdout) -> io::Result<()> {
-    let mut lent = [0u8; WORD_SIZE * 8];
-    routes_line(out, b"Y from 44, budget 3", 3, &mut lent)?;
-    routes_line(out, b"Y from 44, budget 4", 4, &mut lent)
-}
-
-// Y from 44 with two bytes for each word that its two routes take, and with a byte less, which is room for a word less.
-fn room_lines(out: Stdout) -> io::Result<()> {
-    let mut fewer = [0u8; WORD_SIZE * 8 - 1];
-    routes_line(out, b"Y from 44, room 7", 4, &mut fewer)?;
-    let mut lent = [0u8; WORD_SIZE * 8];
-    routes_line(out, b"Y from 44, room 8", 4, &mut lent)
+// Yard Y with a reverse link.
+fn yard(reverse: u8) -> [u8; 108] {
+    changed(YARD, REVERSE, reverse)
 }
 
 // The verdicts of Y and of Y with another reverse link.
 fn yard_lines(out: Stdout) -> io::Result<()> {
-    yard_line(out, b"Y", 68)?;
-    yard_line(out, b"Y, reverse link 57", 57)?;
-    yard_line(out, b"Y, reverse link 80", 80)?;
-    yard_line(out, b"Y, reverse link 0", 0)?;
-    yard_line(out, b"Y, reverse link 56", 56)
+    for (what, reverse) in [
+        ("Y", 68),
+        ("Y, reverse link 57", 57),
+        ("Y, reverse link 80", 80),
+        ("Y, reverse link 0", 0),
+        ("Y, reverse link 56", 56),
+    ] {
+        answer_line(out, what, x2_verdict::verdict_of(&yard(reverse)).err())?;
+    }
+    Ok(())
 }
 
 // The verdicts of the X.1 file and of the same with another last offset.
 fn track_lines(out: Stdout) -> io::Result<()> {
-    track_line(out, b"X.1, one track and two points", 51)?;
-    track_line(out, b"X.1, last offset 50", 50)?;
-    track_line(out, b"X.1, last offset 38", 38)
+    for (what, last) in [
+        ("X.1, one track and two points", 51),
+        ("X.1, last offset 50", 50),
+        ("X.1, last offset 38", 38),
+    ] {
+        let f = changed(TRACK, LAST, last);
+        answer_line(out, what, x1_verdict::verdicts::verdict_of(&f).err())?;
+    }
+    Ok(())
 }
 
-// What yardlist prints of Y.
-fn station_list(out: Stdout) {
-    let b = yard(68);
-    listings::list(out, &b);
+// The routes of Y from 44 within a budget, in the bytes lent.
+fn routes_line(out: Stdout, what: &str, budget: usize, lent: &mut [u8]) -> io::Result<()> {
+    let answer = route_question::routes(&yard(68), 44, 8, budget, lent);
+    answer_line(out, what, answer.err())
+}
+
+// Y from 44 within two budgets; and with two bytes for each word that its two routes take, and with a byte less, which is room for a word less.
+fn route_lines(out: Stdout) -> io::Result<()> {
+    let mut lent = [0u8; WORD_SIZE * 8];
+    routes_line(out, "Y from 44, budget 3", 3, &mut lent)?;
+    routes_line(out, "Y from 44, budget 4", 4, &mut lent)?;
+    routes_line(out, "Y from 44, room 7", 4, &mut lent[1..])?;
+    routes_line(out, "Y from 44, room 8", 4, &mut lent)
 }
 
 fn main(rt: HostRuntime) -> io::Result<()> {
     let out = rt.stdout();
     yard_lines(out)?;
     track_lines(out)?;
-    budget_lines(out)?;
-    room_lines(out)?;
-    station_list(out);
+    route_lines(out)?;
+    listings::list(out, &yard(68));
     Ok(())
 }

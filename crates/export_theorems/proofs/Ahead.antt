@@ -6,16 +6,16 @@ use mathlib.Core.Bool.{Bool, true, false}
 use mathlib.Core.List.{List}
 use lib.ListN.{length}
 use lib.Dec.{ltb}
-use Rattle.verdict.specs.declared.PairVerdict.{PairVerdict}
-use Rattle.verdict.specs.declared.PairVerdict.TheVariants as pair
+use Rattle.verdict.specs.Verdicts.{PairVerdict}
+use Rattle.std.specs.Prelude.{Ok, Err}
 use Rattle.verdict.specs.Reasons.{pair_place_in}
 use Rattle.verdict.specs.Answers.{answer_number, answer_place}
 use Rattle.x2_layout.specs.Layout.{layout_of}
 use Rattle.pair.specs.Pair.{pair_of}
 use Rattle.ahead.specs.declared.Stop.{Stop}
 use Rattle.ahead.specs.declared.Stop.TheVariants as stop
-use Rattle.ahead.specs.declared.AheadAnswer.{AheadAnswer}
-use Rattle.ahead.specs.declared.AheadAnswer.TheVariants as answer
+use Rattle.ahead.specs.Results.{AheadAnswer}
+use Rattle.ahead.specs.declared.AheadFault.TheVariants.{OfPair, OfQuestion}
 use Rattle.ahead.specs.Ahead.{objects_most, seen_bytes, stop_number}
 use Rattle.ahead.specs.Seen.{Seen}
 use Rattle.ahead.specs.Asked.{in_range, seen_in, judged, answer_in, after_pair, ahead_asked, ahead_answer, ahead_file}
@@ -31,14 +31,14 @@ use Rattle.export_theorems.specs.Ahead.{AheadBack}
 -- ---- every part fits its bytes
 
 number_small : (a : AheadAnswer) → answer_number (ahead_answer a) < over_byte
-number_small (answer.Listed s) = omega arith
-number_small (answer.Faulty d t) = number_fits t.reason
-number_small (answer.Refused t) = number_fits t.reason
+number_small (Ok s) = omega arith
+number_small (Err (OfPair p)) = number_fits p.fault.reason
+number_small (Err (OfQuestion t)) = number_fits t.reason
 
 file_small : (a : AheadAnswer) → ahead_file a < over_byte
-file_small (answer.Listed s) = omega arith
-file_small (answer.Faulty d t) = file_fits d
-file_small (answer.Refused t) = omega arith
+file_small (Ok s) = omega arith
+file_small (Err (OfPair p)) = file_fits p.file
+file_small (Err (OfQuestion t)) = omega arith
 
 six_stops : (s : Stop) → stop_number s ≤ 6
 six_stops stop.Boundary = omega arith
@@ -49,9 +49,9 @@ six_stops stop.AgainstLie = omega arith
 six_stops stop.Full = omega arith
 
 stop_small : (a : AheadAnswer) → stop_of a < over_byte
-stop_small (answer.Listed s) = omega (arith, six_stops s.stop)
-stop_small (answer.Faulty d t) = omega arith
-stop_small (answer.Refused t) = omega arith
+stop_small (Ok s) = omega (arith, six_stops s.stop)
+stop_small (Err (OfPair p)) = omega arith
+stop_small (Err (OfQuestion t)) = omega arith
 
 parts_back : (a : AheadAnswer) → answer_place (ahead_answer a) < place_over → count_of a ≤ objects_most → AheadBack a (ahead_shown a)
 parts_back a p o =
@@ -71,18 +71,18 @@ parts_back a p o =
 place_small :
     (v : PairVerdict) (inside short : Bool) (s : Seen) → pair_place_in v < place_over → answer_place (ahead_answer (after_pair v (judged inside short s))) < place_over
 unfolding judged
-place_small (pair.Refused d t) inside short s h = h
-place_small pair.Accepted false short s h = omega arith
-place_small pair.Accepted true true s h = omega arith
-place_small pair.Accepted true false s h = omega arith
+place_small (Err p) inside short s h = h
+place_small (Ok tt) false short s h = omega arith
+place_small (Ok tt) true true s h = omega arith
+place_small (Ok tt) true false s h = omega arith
 
 objects_small :
     (v : PairVerdict) (inside short : Bool) (s : Seen) → length s.objects ≤ objects_most → count_of (after_pair v (judged inside short s)) ≤ objects_most
 unfolding judged
-objects_small (pair.Refused d t) inside short s h = omega arith
-objects_small pair.Accepted false short s h = omega arith
-objects_small pair.Accepted true true s h = omega arith
-objects_small pair.Accepted true false s h = h
+objects_small (Err p) inside short s h = omega arith
+objects_small (Ok tt) false short s h = omega arith
+objects_small (Ok tt) true true s h = omega arith
+objects_small (Ok tt) true false s h = h
 
 -- ---- THEOREM: of every question on every pair
 

@@ -12,28 +12,20 @@ use lib.Signed.{mag}
 use Rattle.octets.specs.Octets.{num_at, signed, half_of}
 use Rattle.octets.proofs.Signs.{low, high}
 use Rattle.verdict.specs.Answers.{Answer, answer_values}
-use Rattle.x1_records.specs.declared.Height.{Height}
-use Rattle.x1_records.specs.declared.Height.TheVariants.{Decimetres, NoHeight}
+use Rattle.std.specs.Prelude.{Option, Some, None}
 use Rattle.x1_records.specs.Tracks.{height_values}
-use Rattle.x1_questions.specs.declared.answers.HeaderAnswer.{HeaderAnswer}
-use Rattle.x1_questions.specs.declared.answers.HeaderAnswer.TheVariants as header
-use Rattle.x1_questions.specs.declared.answers.TrackAnswer.{TrackAnswer}
-use Rattle.x1_questions.specs.declared.answers.TrackAnswer.TheVariants as track
-use Rattle.x1_questions.specs.declared.answers.PointAnswer.{PointAnswer}
-use Rattle.x1_questions.specs.declared.answers.PointAnswer.TheVariants as point
-use Rattle.x1_questions.specs.declared.answers.CoordinateAnswer.{CoordinateAnswer}
-use Rattle.x1_questions.specs.declared.answers.CoordinateAnswer.TheVariants as coordinate
+use Rattle.x1_questions.specs.Results.{HeaderAnswer}
+use Rattle.std.specs.Prelude.{Ok, Err}
+use Rattle.x1_questions.specs.Results.{TrackAnswer}
+use Rattle.x1_questions.specs.Results.{PointAnswer}
+use Rattle.x1_questions.specs.Results.{CoordinateAnswer}
 use Rattle.x1_questions.specs.Answers.{header_answer, track_answer, point_answer, coordinate_answer}
-use Rattle.x1_degrees.specs.declared.DegreesAnswer.{DegreesAnswer}
-use Rattle.x1_degrees.specs.declared.DegreesAnswer.TheVariants as degrees
-use Rattle.x2_verdict.specs.declared.NamedHeaderAnswer.{NamedHeaderAnswer}
-use Rattle.x2_verdict.specs.declared.NamedHeaderAnswer.TheVariants as named
-use Rattle.x2_verdict.specs.declared.RecordAnswer.{RecordAnswer}
-use Rattle.x2_verdict.specs.declared.RecordAnswer.TheVariants as answer
+use Rattle.x1_degrees.specs.Results.{DegreesAnswer}
+use Rattle.x2_verdict.specs.Results.{NamedHeaderAnswer}
+use Rattle.x2_verdict.specs.Results.{RecordAnswer}
 use Rattle.x2_verdict.specs.Answers.{named_header_answer, value_count, fields_of, filled, record_answer}
-use Rattle.route_lister.specs.declared.RoutesAnswer.{RoutesAnswer}
-use Rattle.route_lister.specs.declared.RoutesAnswer.TheVariants as listed
-use Rattle.route_lister.specs.Answered.{routes_answer}
+use Rattle.std.specs.Prelude.{Ok, Err}
+use Rattle.route_lister.specs.Answered.{RoutesAnswer, routes_answer}
 use Rattle.c_values.specs.Words.{over_byte, over_two, over_three, over_word, value_size, word_of, value_words, word_bytes, laid_bytes}
 use Rattle.c_values.specs.Degrees.{degrees_laid}
 use Rattle.c_values.specs.Shown.{counts_size}
@@ -97,47 +89,47 @@ pub header1_size : (a : HeaderAnswer) → length (laid_bytes (value_words (answe
 header1_size a = answer_size (header_answer a) 3 (count a)
   where
     count : (a : HeaderAnswer) → length (answer_values (header_answer a)) ≡ 3
-    count (header.Header h) = refl
-    count (header.Refused t) = refl
+    count (Ok h) = refl
+    count (Err t) = refl
 
 pub header2_size : (a : NamedHeaderAnswer) → length (laid_bytes (value_words (answer_values (named_header_answer a)))) ≡ 20
 header2_size a = answer_size (named_header_answer a) 5 (count a)
   where
     count : (a : NamedHeaderAnswer) → length (answer_values (named_header_answer a)) ≡ 5
-    count (named.Header h) = refl
-    count (named.Refused t) = refl
+    count (Ok h) = refl
+    count (Err t) = refl
 
 pub track_size : (a : TrackAnswer) → length (laid_bytes (value_words (answer_values (track_answer a)))) ≡ 44
 track_size a = answer_size (track_answer a) 11 (count a)
   where
     count : (a : TrackAnswer) → length (answer_values (track_answer a)) ≡ 11
-    count (track.Track t) = refl
-    count (track.Refused t) = refl
+    count (Ok t) = refl
+    count (Err t) = refl
 
 pub point_size : (a : PointAnswer) → length (laid_bytes (value_words (answer_values (point_answer a)))) ≡ 28
 point_size a = answer_size (point_answer a) 7 (count a)
   where
-    height_count : (h : Height) → length (height_values h) ≡ 2
-    height_count (Decimetres z) = refl
-    height_count NoHeight = refl
+    height_count : (h : Option ℤ) → length (height_values h) ≡ 2
+    height_count (Some z) = refl
+    height_count None = refl
 
     count : (a : PointAnswer) → length (answer_values (point_answer a)) ≡ 7
-    count (point.Point p) = let h = height_count p.height in omega arith
-    count (point.Refused t) = refl
+    count (Ok p) = let h = height_count p.height in omega arith
+    count (Err t) = refl
 
 pub coordinate_size : (a : CoordinateAnswer) → length (laid_bytes (value_words (answer_values (coordinate_answer a)))) ≡ 8
 coordinate_size a = answer_size (coordinate_answer a) 2 (count a)
   where
     count : (a : CoordinateAnswer) → length (answer_values (coordinate_answer a)) ≡ 2
-    count (coordinate.Coordinate c) = refl
-    count (coordinate.Refused t) = refl
+    count (Ok c) = refl
+    count (Err t) = refl
 
 pub degrees_size : (a : DegreesAnswer) → length (laid_bytes (value_words (answer_values (degrees_laid a)))) ≡ 24
 degrees_size a = answer_size (degrees_laid a) 6 (count a)
   where
     count : (a : DegreesAnswer) → length (answer_values (degrees_laid a)) ≡ 6
-    count (degrees.Surveyed s) = refl
-    count (degrees.Refused t) = refl
+    count (Ok s) = refl
+    count (Err t) = refl
 
 filled_length : (n : ℕ) (l : List ℕ) → length (filled n l) ≡ n
 filled_length zero l = refl
@@ -148,12 +140,12 @@ pub record_size : (a : RecordAnswer) → length (laid_bytes (value_words (answer
 record_size a = answer_size (record_answer a) value_count (count a)
   where
     count : (a : RecordAnswer) → length (answer_values (record_answer a)) ≡ value_count
-    count (answer.Record r) = filled_length value_count (fields_of r)
-    count (answer.Refused t) = refl
+    count (Ok r) = filled_length value_count (fields_of r)
+    count (Err t) = refl
 
 pub routes_size : (a : RoutesAnswer) → length (laid_bytes (value_words (answer_values (routes_answer a)))) ≡ counts_size
 routes_size a = answer_size (routes_answer a) 3 (count a)
   where
     count : (a : RoutesAnswer) → length (answer_values (routes_answer a)) ≡ 3
-    count (listed.Listed t) = refl
-    count (listed.Refused t) = refl
+    count (Ok t) = refl
+    count (Err t) = refl

@@ -11,8 +11,8 @@ use lib.Ieee.{binary64, of_bits, to_bits}
 use Rattle.octets.specs.Octets.{num_at}
 use Rattle.degrees.specs.Degrees.{degrees_of}
 use Rattle.degrees_theorems.proofs.Bits.{degrees_of_bits}
-use Rattle.x1_questions.specs.declared.answers.CoordinateAnswer.{CoordinateAnswer}
-use Rattle.x1_questions.specs.declared.answers.CoordinateAnswer.TheVariants as coordinate
+use Rattle.x1_questions.specs.Results.{CoordinateAnswer}
+use Rattle.std.specs.Prelude.{Ok, Err}
 use Rattle.x1_questions.specs.Questions.{point_coordinate_of, coordinate_asked}
 use Rattle.x1_degrees.specs.Questions.{with_degrees, degrees_asked, point_degrees_of}
 use Rattle.c_values.specs.Words.{over_word, value_size}
@@ -31,13 +31,13 @@ halves_back out i bits low high =
 -- a refusal's values are 0, and 0 is +0.0
 doubles_back : (a : CoordinateAnswer) (out : List ℕ) → AnswerBack degrees_signed (degrees_laid (with_degrees a)) out → DegreesBack (with_degrees a) out
 unfolding of_bits
-doubles_back (coordinate.Coordinate c) out back e =
+doubles_back (Ok c) out back e =
     let latitude = to_bits binary64 (degrees_of c.latitude) in
     let longitude = to_bits binary64 (degrees_of c.longitude) in (
       halves_back _ latitude_degrees latitude (back e 2 (omega arith)) (back e 3 (omega arith)) ∙ degrees_of_bits c.latitude,
       halves_back _ longitude_degrees longitude (back e 4 (omega arith)) (back e 5 (omega arith)) ∙ degrees_of_bits c.longitude,
     )
-doubles_back (coordinate.Refused t) out back e = (
+doubles_back (Err t) out back e = (
   halves_back _ latitude_degrees 0 (back e 2 (omega arith)) (back e 3 (omega arith)),
   halves_back _ longitude_degrees 0 (back e 4 (omega arith)) (back e 5 (omega arith)),
 )

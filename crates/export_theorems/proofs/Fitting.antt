@@ -13,21 +13,16 @@ use lib.Ieee.{binary64, to_bits}
 use lib.Ieee.Bits.{to_bits-lt}
 use borrow.Author.Tests.{ltb-false}
 use Rattle.octets.specs.Octets.{half_of}
-use Rattle.verdict.specs.declared.Verdict.{Verdict}
-use Rattle.verdict.specs.declared.Verdict.TheVariants as verdict
+use Rattle.verdict.specs.Verdicts.{Verdict}
+use Rattle.std.specs.Prelude.{Ok, Err}
 use Rattle.verdict.specs.Answers.{after_verdict}
-use Rattle.x1_questions.specs.declared.answers.HeaderAnswer.{HeaderAnswer}
-use Rattle.x1_questions.specs.declared.answers.HeaderAnswer.TheVariants as header
-use Rattle.x1_questions.specs.declared.answers.TrackAnswer.{TrackAnswer}
-use Rattle.x1_questions.specs.declared.answers.TrackAnswer.TheVariants as track
-use Rattle.x1_questions.specs.declared.answers.PointAnswer.{PointAnswer}
-use Rattle.x1_records.specs.declared.Height.{Height}
-use Rattle.x1_records.specs.declared.Height.TheVariants.{Decimetres, NoHeight}
+use Rattle.x1_questions.specs.Results.{HeaderAnswer}
+use Rattle.x1_questions.specs.Results.{TrackAnswer}
+use Rattle.x1_questions.specs.Results.{PointAnswer}
+use Rattle.std.specs.Prelude.{Option, Some, None}
 use Rattle.x1_records.specs.Tracks.{height_values}
-use Rattle.x1_questions.specs.declared.answers.PointAnswer.TheVariants as point
 use Rattle.x1_questions.specs.declared.answers.Coordinate.{Coordinate}
-use Rattle.x1_questions.specs.declared.answers.CoordinateAnswer.{CoordinateAnswer}
-use Rattle.x1_questions.specs.declared.answers.CoordinateAnswer.TheVariants as coordinate
+use Rattle.x1_questions.specs.Results.{CoordinateAnswer}
 use Rattle.x1_questions.specs.Answers.{header_answer, track_answer, point_answer, coordinate_answer}
 use Rattle.x1_questions.specs.Coordinate.{CoordinateRange}
 use Rattle.x1_questions.specs.Questions.{header_of, track_of, point_of, point_coordinate_of, coordinate_asked}
@@ -38,10 +33,8 @@ use Rattle.x1_degrees.specs.Questions.{surveyed_at, with_degrees, degrees_asked,
 use Rattle.x1_theorems.specs.Heights.{HeightRange}
 use Rattle.x1_theorems.proofs.Heights.{height_range}
 use Rattle.x1_theorems.proofs.Ranges.{header_range, track_range, point_range}
-use Rattle.x2_verdict.specs.declared.NamedHeaderAnswer.{NamedHeaderAnswer}
-use Rattle.x2_verdict.specs.declared.NamedHeaderAnswer.TheVariants as named
-use Rattle.x2_verdict.specs.declared.RecordAnswer.{RecordAnswer}
-use Rattle.x2_verdict.specs.declared.RecordAnswer.TheVariants as answer
+use Rattle.x2_verdict.specs.Results.{NamedHeaderAnswer}
+use Rattle.x2_verdict.specs.Results.{RecordAnswer}
 use Rattle.x2_verdict.specs.Facts.{verdict_of}
 use Rattle.x2_verdict.specs.Answers.{named_header_answer, value_count, fields_of, filled, record_answer}
 use Rattle.x2_verdict.specs.Questions.{named_header_of, record_of}
@@ -49,9 +42,8 @@ use Rattle.x2_theorems.proofs.Ranges.{named_range, four_bytes, AllBelow, record_
 use Rattle.route_graph.specs.declared.Object.{Object}
 use Rattle.route_walks.specs.declared.Tally.{Tally}
 use Rattle.route_walks.specs.Walks.{all_walks}
-use Rattle.route_lister.specs.declared.RoutesAnswer.{RoutesAnswer}
-use Rattle.route_lister.specs.declared.RoutesAnswer.TheVariants.{Refused}
-use Rattle.route_lister.specs.Answered.{limit_of, in_range, tally_of, judged, answer_at, tally_values, routes_answer}
+use Rattle.std.specs.Prelude.{Err}
+use Rattle.route_lister.specs.Answered.{RoutesAnswer, limit_of, in_range, tally_of, judged, answer_at, tally_values, routes_answer}
 use Rattle.route_lister.proofs.Whole.{in_range_iff}
 use Rattle.route_question.specs.Routes.{routes_asked}
 use Rattle.c_values.specs.Words.{over_word, value_size}
@@ -83,9 +75,9 @@ surveyed_fits c r =
     let longitude = bits_below c.longitude in
     (latitude_fits c r, (longitude_fits c r, (omega arith, (omega arith, (omega arith, (omega arith, tt))))))
 
-degrees_fitting : (a : CoordinateAnswer) → ((c : Coordinate) → a ≡ coordinate.Coordinate c → CoordinateRange c) → AnswerFits degrees_signed (degrees_laid (with_degrees a))
-degrees_fitting (coordinate.Coordinate c) range = surveyed_fits c (range c refl)
-degrees_fitting (coordinate.Refused t) range = tt
+degrees_fitting : (a : CoordinateAnswer) → ((c : Coordinate) → a ≡ Ok c → CoordinateRange c) → AnswerFits degrees_signed (degrees_laid (with_degrees a))
+degrees_fitting (Ok c) range = surveyed_fits c (range c refl)
+degrees_fitting (Err t) range = tt
 
 -- ---- a record's values, with zeros after the last one
 
@@ -116,9 +108,9 @@ answer_fits v asked start limit budget room = judged_fits (in_range asked limit 
         let words = few_words v start limit bounds.most in
         (omega arith, (omega arith, (omega arith, tt)))
 
-after_fits : (v : Verdict) (a : RoutesAnswer) → AnswerFits routes_signed (routes_answer a) → AnswerFits routes_signed (routes_answer (after_verdict Refused v a))
-after_fits verdict.Accepted a h = h
-after_fits (verdict.Refused t) a h = tt
+after_fits : (v : Verdict) (a : RoutesAnswer) → AnswerFits routes_signed (routes_answer a) → AnswerFits routes_signed (routes_answer (after_verdict Err v a))
+after_fits (Ok tt) a h = h
+after_fits (Err t) a h = tt
 
 -- ---- X.1
 
@@ -127,19 +119,19 @@ module _ (f : List ℕ) where
   header1_fits = by_answer (header_of f) refl
     where
       by_answer : (a : HeaderAnswer) → header_of f ≡ a → AnswerFits header1_signed (header_answer a)
-      by_answer (header.Header h) e =
+      by_answer (Ok h) e =
           let r = header_range f h e in
           let structure = r.structure in
           let version = r.version in
           let station = r.station in
           (omega arith, (omega arith, (omega arith, tt)))
-      by_answer (header.Refused t) e = tt
+      by_answer (Err t) e = tt
 
   pub track_fits : (i : ℕ) → AnswerFits track_signed (track_answer (track_of f i))
   track_fits i = by_answer (track_of f i) refl
     where
       by_answer : (a : TrackAnswer) → track_of f i ≡ a → AnswerFits track_signed (track_answer a)
-      by_answer (track.Track t) e =
+      by_answer (Ok t) e =
           let r = track_range f i t e in
           let number = r.number in
           let property = r.property in
@@ -153,18 +145,18 @@ module _ (f : List ℕ) where
           let last = r.last in
           let points = r.points in
           (omega arith, (omega arith, (omega arith, (start_latitude, (start_longitude, (omega arith, (end_latitude, (end_longitude, (omega arith, (omega arith, (omega arith, tt)))))))))))
-      by_answer (track.Refused t) e = tt
+      by_answer (Err t) e = tt
 
   -- the file's bytes are below 256, as those of every slice are
   pub point_fits : ((k : ℕ) → get_or f k 0 < 256) → (i j : ℕ) → AnswerFits point_signed (point_answer (point_of f i j))
   point_fits bytes i j = by_answer (point_of f i j) refl
     where
-      height_fits : (h : Height) → HeightRange h → AllFit (false ∷ true ∷ []) (height_values h)
-      height_fits (Decimetres z) r = (omega arith, (near z 32768 r (omega arith), tt))
-      height_fits NoHeight r = (omega arith, (omega arith, tt))
+      height_fits : (h : Option ℤ) → HeightRange h → AllFit (false ∷ true ∷ []) (height_values h)
+      height_fits (Some z) r = (omega arith, (near z 32768 r (omega arith), tt))
+      height_fits None r = (omega arith, (omega arith, tt))
 
       by_answer : (a : PointAnswer) → point_of f i j ≡ a → AnswerFits point_signed (point_answer a)
-      by_answer (point.Point p) e =
+      by_answer (Ok p) e =
           let r = point_range f i j p e in
           let position = r.position in
           let latitude = near p.latitude_increment 648000000 r.latitude_increment (omega arith) in
@@ -172,16 +164,16 @@ module _ (f : List ℕ) where
           let heading = near p.heading 31416 r.heading (omega arith) in
           let flag = r.near in
           (omega arith, (latitude, (longitude, (heading, (omega arith, height_fits p.height (height_range f i j p e bytes))))))
-      by_answer (point.Refused t) e = tt
+      by_answer (Err t) e = tt
 
   pub coordinate_fits : (number x : ℕ) → AnswerFits coordinate_signed (coordinate_answer (coordinate_asked f number x))
   coordinate_fits number x = by_answer (coordinate_asked f number x) refl
     where
       by_answer : (a : CoordinateAnswer) → coordinate_asked f number x ≡ a → AnswerFits coordinate_signed (coordinate_answer a)
-      by_answer (coordinate.Coordinate c) e =
+      by_answer (Ok c) e =
           let r = coordinate_range f number x c e in
           (latitude_fits c r, (longitude_fits c r, tt))
-      by_answer (coordinate.Refused t) e = tt
+      by_answer (Err t) e = tt
 
   pub degrees_fits : (number x : ℕ) → AnswerFits degrees_signed (degrees_laid (degrees_asked f number x))
   unfolding degrees_asked
@@ -197,7 +189,7 @@ module _ (f : List ℕ) where
   header2_fits = by_answer (named_header_of f) refl
     where
       by_answer : (a : NamedHeaderAnswer) → named_header_of f ≡ a → AnswerFits header2_signed (named_header_answer a)
-      by_answer (named.Header h) e =
+      by_answer (Ok h) e =
           let r = named_range f h e in
           let structure = r.structure in
           let version = r.version in
@@ -205,14 +197,14 @@ module _ (f : List ℕ) where
           let name = r.name in
           let bytes = r.name_bytes in
           (omega arith, (omega arith, (omega arith, (omega arith, (omega arith, tt)))))
-      by_answer (named.Refused t) e = tt
+      by_answer (Err t) e = tt
 
   pub record_fits : ((i : ℕ) → get_or f i 0 < 256) → (x : ℕ) → AnswerFits record_signed (record_answer (record_of f x))
   record_fits bytes x = by_answer (record_of f x) refl
     where
       by_answer : (a : RecordAnswer) → record_of f x ≡ a → AnswerFits record_signed (record_answer a)
-      by_answer (answer.Record r) e = filled_fits value_count (fields_of r) (record_below f bytes x r e)
-      by_answer (answer.Refused t) e = tt
+      by_answer (Ok r) e = filled_fits value_count (fields_of r) (record_below f bytes x r e)
+      by_answer (Err t) e = tt
 
   pub routes_fits : (start limit budget room : ℕ) → AnswerFits routes_signed (routes_answer (routes_asked f start limit budget room))
   unfolding routes_asked

@@ -9,8 +9,8 @@ use lib.ListN.{length, take, drop}
 use lib.Dec.{leb}
 use borrow.Author.Tests.{leb-true, le-leb}
 use Rattle.verdict.specs.declared.Reason.TheVariants.{Room}
-use Rattle.verdict.specs.declared.Verdict.{Verdict}
-use Rattle.verdict.specs.declared.Verdict.TheVariants.{Accepted, Refused}
+use Rattle.verdict.specs.Verdicts.{Verdict}
+use Rattle.std.specs.Prelude.{Ok, Err}
 use Rattle.verdict.specs.Reasons.{number_in, place_in}
 use Rattle.verdict.proofs.Questions.{some_number}
 use Rattle.octets.specs.Octets.{num_at}
@@ -39,11 +39,11 @@ lent_sound : (b : List ℕ) → Lent b → Sound b
 lent_sound b l = record { long = l.long; small = read_small b l.bytes }
 
 -- what the bytes hold after a call is what the call makes of the state that they held
-same_state : (v : Verdict) (new : State) (b : List ℕ) → (v ≡ Accepted → state_in (words_leave (state_words new) b) ≡ new)
+same_state : (v : Verdict) (new : State) (b : List ℕ) → (v ≡ Ok tt → state_in (words_leave (state_words new) b) ≡ new)
     → state_in (leaves (state_answer v new) b) ≡ changed v new (state_in b)
 unfolding changed
-same_state Accepted new b back = back refl
-same_state (Refused f) new b back = refl
+same_state (Ok tt) new b back = back refl
+same_state (Err f) new b back = refl
 
 opened_same : (b : List ℕ) (i : Identity) (n : ℕ) → state_size ≤ length b → state_in (open_leaves b i n) ≡ (open_step (state_in b) i n).state
 unfolding open_step
@@ -64,10 +64,10 @@ same_world h (piece n p) s =
 same_world h (finishing n) s = refl
 
 -- where the state is long enough its length has no say
-then_enough : (v : Verdict) (b : List ℕ) → state_size ≤ length b → and_then v (ensure (leb state_size (length b)) Room Accepted) ≡ v
+then_enough : (v : Verdict) (b : List ℕ) → state_size ≤ length b → and_then v (ensure (leb state_size (length b)) Room (Ok tt)) ≡ v
 unfolding and_then ensure
-then_enough Accepted b long = rw (le-leb state_size (length b) long)
-then_enough (Refused f) b long = refl
+then_enough (Ok tt) b long = rw (le-leb state_size (length b) long)
+then_enough (Err f) b long = refl
 
 same_answer : (h : Host) (c : Call) → state_size ≤ length h.state → called h c ≡ answer (world_in h) c
 unfolding called answer
@@ -75,10 +75,10 @@ same_answer h (opening n i) long = then_enough (open_verdict i (length (room_len
 same_answer h (piece n s) long = refl
 same_answer h (finishing n) long = refl
 
-small_changed : (v : Verdict) (new old : State) → (v ≡ Accepted → Small new) → Small old → Small (changed v new old)
+small_changed : (v : Verdict) (new old : State) → (v ≡ Ok tt → Small new) → Small old → Small (changed v new old)
 unfolding changed
-small_changed Accepted new old m k = m refl
-small_changed (Refused f) new old m k = k
+small_changed (Ok tt) new old m k = m refl
+small_changed (Err f) new old m k = k
 
 small_after : (h : Host) (c : Call) → Small (state_in h.state) → Small (after (world_in h) c).state
 unfolding after open_step piece_step
@@ -123,20 +123,20 @@ c_answers h l cs c =
 
 -- ---- since an opening that returned 0, whatever the bytes were before
 
-accepted_by : (v : Verdict) → number_in v ≡ 0 → v ≡ Accepted
-accepted_by Accepted e = refl
-accepted_by (Refused f) e = absurd (some_number f.reason e)
+accepted_by : (v : Verdict) → number_in v ≡ 0 → v ≡ Ok tt
+accepted_by (Ok tt) e = refl
+accepted_by (Err f) e = absurd (some_number f.reason e)
 
-called_accepted : (h : Host) (c : Call) → number_part (returned h c) ≡ 0 → called h c ≡ Accepted
+called_accepted : (h : Host) (c : Call) → number_part (returned h c) ≡ 0 → called h c ≡ Ok tt
 called_accepted h c e = accepted_by (called h c) (sym (call_parts h c).number_is ∙ e)
 
-both : (v : Verdict) (b : List ℕ) → and_then v (ensure (leb state_size (length b)) Room Accepted) ≡ Accepted → (v ≡ Accepted) × (state_size ≤ length b)
+both : (v : Verdict) (b : List ℕ) → and_then v (ensure (leb state_size (length b)) Room (Ok tt)) ≡ Ok tt → (v ≡ Ok tt) × (state_size ≤ length b)
 unfolding and_then
-both Accepted b e = (refl, leb-true _ _ (ensure_holds (leb state_size (length b)) Room Accepted e).0)
-both (Refused f) b e = absurd (never f e)
+both (Ok tt) b e = (refl, leb-true _ _ (ensure_holds (leb state_size (length b)) Room (Ok tt) e).0)
+both (Err f) b e = absurd (never f e)
 
 module _ (h : Host) (n : ℕ) (i : Identity) (zero : number_part (returned h (opening n i)) ≡ 0) where
-  granted : (open_verdict i (length (room_lent n h)) ≡ Accepted) × (state_size ≤ length h.state)
+  granted : (open_verdict i (length (room_lent n h)) ≡ Ok tt) × (state_size ≤ length h.state)
   unfolding called
   granted = both (open_verdict i (length (room_lent n h))) h.state (called_accepted h (opening n i) zero)
 
@@ -151,7 +151,7 @@ module _ (h : Host) (n : ℕ) (i : Identity) (zero : number_part (returned h (op
   unfolding host_after after
   opened_world = ap (λ (t : State). record { state = t; room = h.room }) (opened_same h.state i (length (room_lent n h)) granted.1)
 
-  loader_opens : answer (world_in h) (opening n i) ≡ Accepted
+  loader_opens : answer (world_in h) (opening n i) ≡ Ok tt
   unfolding answer
   loader_opens = granted.0
 
@@ -165,7 +165,7 @@ module _ (h : Host) (n : ℕ) (i : Identity) (zero : number_part (returned h (op
     c_since_opening = subst (λ (w : World). Gathered (taken_since (world_in h) n i cs) w) (sym since) (since_opening (world_in h) n i loader_opens cs)
 
     module _ (m : ℕ) (whole : number_part (returned (host_run h (opening n i ∷ cs)) (finishing m)) ≡ 0) where
-      loader_finishes : answer (run_since (world_in h) n i cs) (finishing m) ≡ Accepted
+      loader_finishes : answer (run_since (world_in h) n i cs) (finishing m) ≡ Ok tt
       unfolding called answer
       loader_finishes = ap (λ (w : World). answer w (finishing m)) (sym since) ∙ called_accepted (host_run h (opening n i ∷ cs)) (finishing m) whole
 

@@ -14,8 +14,8 @@ use lib.Seq.{drop_at}
 use borrow.Author.Tests.{leb-true, leb-false, lt-ltb, le-ltb}
 use Rattle.verdict.specs.declared.Reason.{Reason}
 use Rattle.verdict.specs.declared.Reason.TheVariants.{Room}
-use Rattle.verdict.specs.declared.Verdict.{Verdict}
-use Rattle.verdict.specs.declared.Verdict.TheVariants.{Accepted, Refused}
+use Rattle.verdict.specs.Verdicts.{Verdict}
+use Rattle.std.specs.Prelude.{Ok, Err}
 use Rattle.verdict.specs.Reasons.{number_in, place_in}
 use Rattle.octets.specs.Octets.{num_at}
 use Rattle.seven_bits.specs.Numbers.{number_limit}
@@ -114,7 +114,7 @@ short_left t b h = rw (lt-ltb (length b) state_size h)
 
 -- ---- what is kept is the loader's state
 
-pub granted_small : (i : Identity) (n : ℕ) → open_verdict i n ≡ Accepted → Small (opened i)
+pub granted_small : (i : Identity) (n : ℕ) → open_verdict i n ≡ Ok tt → Small (opened i)
 granted_small i n e =
     let o = opens i n e in
     record {
@@ -128,23 +128,23 @@ granted_small i n e =
       due = omega arith;
     }
 
-pub moved_small : (t : State) (s : List ℕ) (n : ℕ) → piece_verdict t s n ≡ Accepted → Small t → Small (moved t s)
+pub moved_small : (t : State) (s : List ℕ) (n : ℕ) → piece_verdict t s n ≡ Ok tt → Small t → Small (moved t s)
 moved_small t s n e m =
     let p = passed t s n e in
     record { identity = m.identity; due = omega (arith, p.start, p.within, m.identity.total) }
 
-pub opened_back : (b : List ℕ) (i : Identity) (n : ℕ) → state_size ≤ length b → open_verdict i n ≡ Accepted
+pub opened_back : (b : List ℕ) (i : Identity) (n : ℕ) → state_size ≤ length b → open_verdict i n ≡ Ok tt
     → state_in (words_leave (state_words (opened i)) b) ≡ opened i
 opened_back b i n long e = state_back (opened i) b long refl (granted_small i n e)
 
-pub moved_back : (b s : List ℕ) (n : ℕ) → Small (state_in b) → piece_verdict (state_in b) s n ≡ Accepted
+pub moved_back : (b s : List ℕ) (n : ℕ) → Small (state_in b) → piece_verdict (state_in b) s n ≡ Ok tt
     → state_in (words_leave (state_words (moved (state_in b) s)) b) ≡ moved (state_in b) s
 moved_back b s n m e =
     let o = (passed (state_in b) s n e).opened in
     state_back (moved (state_in b) s) b ((open_iff b).0 o).0 o (moved_small (state_in b) s n e m)
 
 -- THEOREM: after a granted opening the bytes hold the state that was opened
-pub opening_kept : (b : List ℕ) (i : Identity) (n : ℕ) → state_size ≤ length b → open_verdict i n ≡ Accepted → state_in (open_leaves b i n) ≡ opened i
+pub opening_kept : (b : List ℕ) (i : Identity) (n : ℕ) → state_size ≤ length b → open_verdict i n ≡ Ok tt → state_in (open_leaves b i n) ≡ opened i
 opening_kept b i n long e = ap (λ (v : Verdict). state_in (leaves (state_answer v (opened i)) b)) e ∙ opened_back b i n long e
 
 module _ (b : List ℕ) (bytes : (k : ℕ) → get_or b k 0 < 256) where
@@ -161,7 +161,7 @@ module _ (b : List ℕ) (bytes : (k : ℕ) → get_or b k 0 < 256) where
   }
 
 -- THEOREM: after an accepted piece they hold the state that the loader goes on with
-pub piece_kept : (b s : List ℕ) (n : ℕ) → ((k : ℕ) → get_or b k 0 < 256) → piece_verdict (state_in b) s n ≡ Accepted
+pub piece_kept : (b s : List ℕ) (n : ℕ) → ((k : ℕ) → get_or b k 0 < 256) → piece_verdict (state_in b) s n ≡ Ok tt
     → state_in (piece_leaves b s n) ≡ moved (state_in b) s
 piece_kept b s n bytes e =
     ap (λ (v : Verdict). state_in (leaves (state_answer v (moved (state_in b) s)) b)) e ∙ moved_back b s n (read_small b bytes) e
@@ -171,8 +171,8 @@ piece_kept b s n bytes e =
 -- of the state, whatever is answered: how many bytes there are, and those behind
 left_as : (v : Verdict) (t : State) (b : List ℕ)
     → (length (leaves (state_answer v t) b) ≡ length b) × (drop state_size (leaves (state_answer v t) b) ≡ drop state_size b)
-left_as (Refused f) t b = (refl, refl)
-left_as Accepted t b = by_test (leb state_size (length b)) refl
+left_as (Err f) t b = (refl, refl)
+left_as (Ok tt) t b = by_test (leb state_size (length b)) refl
   where
     by_test : (x : Bool) → leb state_size (length b) ≡ x
         → (length (words_leave (state_words t) b) ≡ length b) × (drop state_size (words_leave (state_words t) b) ≡ drop state_size b)
@@ -204,8 +204,8 @@ ensure_place false r v h = omega arith
 
 then_place : (a v : Verdict) → place_in a < place_over → place_in v < place_over → place_in (and_then a v) < place_over
 unfolding and_then
-then_place Accepted v h k = k
-then_place (Refused t) v h k = h
+then_place (Ok tt) v h k = k
+then_place (Err t) v h k = h
 
 reader_place : (kind : ℕ) (f : List ℕ) → place_in (reader_of kind f) < place_over
 unfolding reader_of
@@ -215,25 +215,25 @@ reader_place kind f = by_test (eqb kind geography.file_type)
     by_test true = x1_place f
     by_test false = x2_place f
 
-none : place_in Accepted < place_over
+none : place_in (Ok tt) < place_over
 none = omega arith
 
 called_place : (h : Host) (c : Call) → place_in (called h c) < place_over
 unfolding called open_verdict piece_judged finish_verdict ready_verdict
 called_place h (opening n i) =
-    then_place _ _ (ensure_place _ _ _ (ensure_place _ _ _ none)) (ensure_place (leb state_size (length h.state)) Room Accepted none)
+    then_place _ _ (ensure_place _ _ _ (ensure_place _ _ _ none)) (ensure_place (leb state_size (length h.state)) Room (Ok tt) none)
 called_place h (piece n s) = ensure_place _ _ _ (ensure_place _ _ _ (ensure_place _ _ _ (ensure_place _ _ _ (ensure_place _ _ _ none))))
 called_place h (finishing n) =
     then_place _ _ (ensure_place _ _ _ (ensure_place _ _ _ none)) (then_place _ _ (reader_place _ _) (ensure_place _ _ _ none))
 
 -- the number that an opening returns is that of its own refusal, and then 15
 open_shown : (v : Verdict) (t : State) (b : List ℕ)
-    → shown (state_answer v t) b ≡ verdict_shown (and_then v (ensure (leb state_size (length b)) Room Accepted))
+    → shown (state_answer v t) b ≡ verdict_shown (and_then v (ensure (leb state_size (length b)) Room (Ok tt)))
 unfolding and_then ensure words_shown
-open_shown (Refused f) t b = refl
-open_shown Accepted t b = by_test (leb state_size (length b)) refl
+open_shown (Err f) t b = refl
+open_shown (Ok tt) t b = by_test (leb state_size (length b)) refl
   where
-    by_test : (x : Bool) → leb state_size (length b) ≡ x → words_shown (state_words t) b ≡ verdict_shown (ensure x Room Accepted)
+    by_test : (x : Bool) → leb state_size (length b) ≡ x → words_shown (state_words t) b ≡ verdict_shown (ensure x Room (Ok tt))
     by_test true e = rw (le-ltb (length b) state_size (leb-true _ _ e))
     by_test false e = rw (lt-ltb (length b) state_size (leb-false _ _ e))
 
@@ -251,21 +251,21 @@ call_parts h c =
 
 -- ---- a refused call
 
-open_refused : (v : Verdict) (t : State) (b : List ℕ) → (number_in (and_then v (ensure (leb state_size (length b)) Room Accepted)) ≡ 0 → ⊥)
+open_refused : (v : Verdict) (t : State) (b : List ℕ) → (number_in (and_then v (ensure (leb state_size (length b)) Room (Ok tt))) ≡ 0 → ⊥)
     → leaves (state_answer v t) b ≡ b
 unfolding and_then ensure
-open_refused (Refused f) t b some = refl
-open_refused Accepted t b some = by_test (leb state_size (length b)) refl some
+open_refused (Err f) t b some = refl
+open_refused (Ok tt) t b some = by_test (leb state_size (length b)) refl some
   where
-    by_test : (x : Bool) → leb state_size (length b) ≡ x → (number_in (ensure x Room Accepted) ≡ 0 → ⊥) → words_leave (state_words t) b ≡ b
+    by_test : (x : Bool) → leb state_size (length b) ≡ x → (number_in (ensure x Room (Ok tt)) ≡ 0 → ⊥) → words_leave (state_words t) b ≡ b
     by_test true e some = absurd (some refl)
     by_test false e some = short_left t b (leb-false _ _ e)
 
 piece_refused : (h : Host) (n : ℕ) (s : List ℕ) (v : Verdict) → piece_verdict (state_in h.state) s (length (room_lent n h)) ≡ v
     → (number_in v ≡ 0 → ⊥) → host_after h (piece n s) ≡ h
 unfolding host_after piece_room changed
-piece_refused h n s Accepted e some = absurd (some refl)
-piece_refused h n s (Refused f) e some = rw e (ap (λ (r : List ℕ). record { state = h.state; room = r }) (take-append-drop n h.room))
+piece_refused h n s (Ok tt) e some = absurd (some refl)
+piece_refused h n s (Err f) e some = rw e (ap (λ (r : List ℕ). record { state = h.state; room = r }) (take-append-drop n h.room))
 
 left_alone : (h : Host) (c : Call) → (number_in (called h c) ≡ 0 → ⊥) → host_after h c ≡ h
 unfolding called host_after

@@ -5,19 +5,15 @@ use native.Mathlib.Omega.{arith}
 use mathlib.Core.Bool.{Bool, true, false, cond}
 use mathlib.Core.List.{List}
 use Rattle.verdict.specs.declared.Reason.TheVariants.{Room}
-use Rattle.verdict.specs.declared.Verdict.{Verdict}
-use Rattle.verdict.specs.declared.Verdict.TheVariants as verdict
-use Rattle.verdict.specs.declared.PairVerdict.{PairVerdict}
-use Rattle.verdict.specs.declared.PairVerdict.TheVariants as pair
+use Rattle.verdict.specs.Verdicts.{Verdict}
+use Rattle.std.specs.Prelude.{Ok, Err}
+use Rattle.verdict.specs.Verdicts.{PairVerdict}
 use Rattle.verdict.specs.Reasons.{number_of, number_in, place_in, pair_number_in, pair_place_in, pair_file_in}
 use Rattle.verdict.specs.Answers.{Answer, answered, refused, answer_place}
 use Rattle.x1_verdict.specs.Facts as geography
-use Rattle.x1_questions.specs.declared.answers.TrackAnswer.{TrackAnswer}
-use Rattle.x1_questions.specs.declared.answers.TrackAnswer.TheVariants as track
-use Rattle.x1_questions.specs.declared.answers.PointAnswer.{PointAnswer}
-use Rattle.x1_questions.specs.declared.answers.PointAnswer.TheVariants as point
-use Rattle.x1_questions.specs.declared.answers.CoordinateAnswer.{CoordinateAnswer}
-use Rattle.x1_questions.specs.declared.answers.CoordinateAnswer.TheVariants as coordinate
+use Rattle.x1_questions.specs.Results.{TrackAnswer}
+use Rattle.x1_questions.specs.Results.{PointAnswer}
+use Rattle.x1_questions.specs.Results.{CoordinateAnswer}
 use Rattle.x1_questions.specs.Answers.{header_answer, track_answer, point_answer, coordinate_answer}
 use Rattle.x1_questions.specs.Questions.{header_of, track_of, point_of, of_both, point_coordinate_of, coordinate_asked}
 use Rattle.x1_degrees.specs.Questions.{with_degrees, degrees_asked, point_degrees_of}
@@ -48,8 +44,8 @@ word_parts number file place n f p = record {
 -- ---- the verdicts
 
 pub verdict_parts : (v : Verdict) → place_in v < place_over → TakenApart (verdict_shown v) (number_in v) 0 (place_in v)
-verdict_parts verdict.Accepted h = word_parts 0 0 0 (omega arith) (omega arith) h
-verdict_parts (verdict.Refused t) h = word_parts (number_of t.reason) 0 t.place (number_fits t.reason) (omega arith) h
+verdict_parts (Ok tt) h = word_parts 0 0 0 (omega arith) (omega arith) h
+verdict_parts (Err t) h = word_parts (number_of t.reason) 0 t.place (number_fits t.reason) (omega arith) h
 
 -- of the version 1 reader, and of the one that knows both
 pub x1_parts : (newest : ℕ) (f : List ℕ) → TakenApart (verdict_shown (geography.verdict_by newest f)) (number_in (geography.verdict_by newest f)) 0 (place_in (geography.verdict_by newest f))
@@ -62,8 +58,8 @@ pub pair_parts : (f g : List ℕ) → TakenApart (pair_shown (pair_of f g)) (pai
 pair_parts f g = by_case (pair_of f g) (pair_place f g)
   where
     by_case : (v : PairVerdict) → pair_place_in v < place_over → TakenApart (pair_shown v) (pair_number_in v) (pair_file_in v) (pair_place_in v)
-    by_case pair.Accepted h = word_parts 0 0 0 (omega arith) (omega arith) h
-    by_case (pair.Refused d t) h = word_parts (number_of t.reason) _ t.place (number_fits t.reason) (file_fits d) h
+    by_case (Ok tt) h = word_parts 0 0 0 (omega arith) (omega arith) h
+    by_case (Err p) h = word_parts (number_of p.fault.reason) _ p.fault.place (number_fits p.fault.reason) (file_fits p.file) h
 
 -- ---- the questions: an answer with values has the place 0
 
@@ -78,14 +74,14 @@ answer_parts (refused n t) out h = word_parts (number_of t.reason) 0 t.place (nu
 
 -- the coordinate of a point has the place of the point or of its track
 both_below : (p : PointAnswer) (t : TrackAnswer) → answer_place (point_answer p) < place_over → answer_place (track_answer t) < place_over → answer_place (coordinate_answer (of_both p t)) < place_over
-both_below (point.Refused u) t h k = h
-both_below (point.Point p) (track.Track t) h k = h
-both_below (point.Point p) (track.Refused u) h k = k
+both_below (Err u) t h k = h
+both_below (Ok p) (Ok t) h k = h
+both_below (Ok p) (Err u) h k = k
 
 -- degrees have the place of the coordinate
 degrees_below : (a : CoordinateAnswer) → answer_place (coordinate_answer a) < place_over → answer_place (degrees_laid (with_degrees a)) < place_over
-degrees_below (coordinate.Coordinate c) h = h
-degrees_below (coordinate.Refused t) h = h
+degrees_below (Ok c) h = h
+degrees_below (Err t) h = h
 
 module _ (out f : List ℕ) where
   pub header1_parts : AnswerParts (header_answer (header_of f)) out

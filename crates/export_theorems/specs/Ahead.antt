@@ -2,7 +2,7 @@
 -- how many objects it has. What stands in the bytes lent is said of the question itself (crate ahead_theorems).
 use Rattle.std.specs.Prelude.{ℕ, ◌≤◌, ◌≡◌}
 use Rattle.verdict.specs.Answers.{answer_number, answer_place}
-use Rattle.ahead.specs.declared.AheadAnswer.{AheadAnswer}
+use Rattle.ahead.specs.Results.{AheadAnswer}
 use Rattle.ahead.specs.Ahead.{objects_most}
 use Rattle.ahead.specs.Asked.{ahead_answer, ahead_file}
 use Rattle.c_values.specs.Words.{number_part, file_part, place_part}

@@ -6,7 +6,7 @@ use Rattle.std.specs.Float.{binary64}
 use Rattle.std.specs.Float.Ieee.{of_bits}
 use Rattle.octets.specs.Octets.{num_at, signed_at, half_of}
 use Rattle.verdict.specs.Answers.{Answer, answered, refused, answer_values}
-use Rattle.x1_degrees.specs.declared.DegreesAnswer.{DegreesAnswer}
+use Rattle.x1_degrees.specs.Results.{DegreesAnswer}
 use Rattle.x1_degrees.specs.Answers.{degrees_in}
 use Rattle.c_values.specs.Words.{over_word, number_part, value_size}
 use Rattle.c_values.specs.Degrees.{degrees_laid}

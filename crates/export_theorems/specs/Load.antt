@@ -2,8 +2,8 @@
 -- transfer_theorems, an opening, a piece or a finishing, each with the state lent whole and so many of the room's first bytes.
 use Rattle.std.specs.Prelude.{ℕ, ◌≤◌, ◌<◌, List, [], ◌∷◌, ◌++◌, length, get_or, take, drop, leb}
 use Rattle.verdict.specs.declared.Reason.TheVariants.{Room}
-use Rattle.verdict.specs.declared.Verdict.{Verdict}
-use Rattle.verdict.specs.declared.Verdict.TheVariants.{Accepted}
+use Rattle.verdict.specs.Verdicts.{Verdict}
+use Rattle.std.specs.Prelude.{Ok, Err}
 use Rattle.transfer.specs.Calls.{ensure, and_then, open_verdict, piece_verdict, piece_room, finish_verdict}
 use Rattle.transfer_theorems.specs.Runs.{Call, opening, piece, finishing, World}
 use Rattle.c_values.specs.Load.{state_size, state_in, open_shown, open_leaves, piece_shown, piece_leaves, finish_shown}
@@ -53,6 +53,6 @@ host_run h (c ∷ cs) = host_run (host_after h c) cs
 
 -- the loader's own answer; an opening that is granted is refused with 15 where the state is too short
 unfoldable pub called : Host → Call → Verdict
-called h (opening n i) = and_then (open_verdict i (length (room_lent n h))) (ensure (leb state_size (length h.state)) Room Accepted)
+called h (opening n i) = and_then (open_verdict i (length (room_lent n h))) (ensure (leb state_size (length h.state)) Room (Ok tt))
 called h (piece n s) = piece_verdict (state_in h.state) s (length (room_lent n h))
 called h (finishing n) = finish_verdict (state_in h.state) (room_lent n h)

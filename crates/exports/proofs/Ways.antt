@@ -8,15 +8,14 @@ use lib.ListN.{length}
 use borrow.Author.Tests.{lt-ltb, le-ltb}
 use Rattle.verdict.specs.declared.Reason.TheVariants.{Room}
 use Rattle.verdict.specs.Reasons.{number_of}
-use Rattle.verdict.specs.declared.Verdict.{Verdict}
-use Rattle.verdict.specs.declared.Verdict.TheVariants as verdict
+use Rattle.verdict.specs.Verdicts.{Verdict}
+use Rattle.std.specs.Prelude.{Ok, Err}
 use Rattle.verdict.specs.declared.Fault.{Fault}
 use Rattle.verdict.specs.Answers.{Answer, answered, refused, after_verdict}
 use Rattle.x2_verdict.specs.Facts.{verdict_of}
 use Rattle.route_walks.specs.declared.Tally.{Tally}
-use Rattle.route_lister.specs.declared.RoutesAnswer.{RoutesAnswer}
-use Rattle.route_lister.specs.declared.RoutesAnswer.TheVariants.{Listed, Refused}
-use Rattle.route_lister.specs.Answered.{refused_for, judged, answer_at, routes_answer}
+use Rattle.std.specs.Prelude.{Ok, Err}
+use Rattle.route_lister.specs.Answered.{RoutesAnswer, refused_for, judged, answer_at, routes_answer}
 use Rattle.route_question.specs.Routes.{routes_asked}
 use Rattle.transfer.specs.declared.Identity.{Identity}
 use Rattle.transfer.specs.declared.State.{State}
@@ -60,7 +59,7 @@ given_shown {A} shape p out {r} {out'} s = subst (λ (x : A). (r ≡ shown (shap
 -- ---- routes
 
 module _ (counts : List ℕ) (h : length counts < counts_size) where
-  short_room : (t : Tally) → shown (routes_answer (refused_for Room)) counts ≡ shown (routes_answer (Listed t)) counts
+  short_room : (t : Tally) → shown (routes_answer (refused_for Room)) counts ≡ shown (routes_answer (Ok t)) counts
   unfolding words_shown
   short_room t = sym (rw (lt-ltb _ _ h) refl)
 
@@ -74,9 +73,9 @@ module _ (counts : List ℕ) (h : length counts < counts_size) where
   rooms true false false true t = sym (short_room t)
   rooms true false false false t = refl
 
-  after_same : (v : Verdict) (a b : RoutesAnswer) → shown (routes_answer a) counts ≡ shown (routes_answer b) counts → shown (routes_answer (after_verdict Refused v a)) counts ≡ shown (routes_answer (after_verdict Refused v b)) counts
-  after_same (verdict.Refused t) a b e = refl
-  after_same verdict.Accepted a b e = e
+  after_same : (v : Verdict) (a b : RoutesAnswer) → shown (routes_answer a) counts ≡ shown (routes_answer b) counts → shown (routes_answer (after_verdict Err v a)) counts ≡ shown (routes_answer (after_verdict Err v b)) counts
+  after_same (Err t) a b e = refl
+  after_same (Ok tt) a b e = e
 
   pub scrap_shown : (f : List ℕ) (start limit budget a b : ℕ) → shown (routes_answer (routes_asked f start limit budget a)) counts ≡ shown (routes_answer (routes_asked f start limit budget b)) counts
   unfolding routes_asked answer_at
@@ -84,8 +83,8 @@ module _ (counts : List ℕ) (h : length counts < counts_size) where
 
   kept_anyhow : (a : RoutesAnswer) → leaves (routes_answer a) counts ≡ counts
   unfolding words_leave
-  kept_anyhow (Listed t) = rw (lt-ltb _ _ h) refl
-  kept_anyhow (Refused t) = refl
+  kept_anyhow (Ok t) = rw (lt-ltb _ _ h) refl
+  kept_anyhow (Err t) = refl
 
   pub scrap_leaves : (a b : RoutesAnswer) → leaves (routes_answer a) counts ≡ leaves (routes_answer b) counts
   scrap_leaves a b = kept_anyhow a ∙ sym (kept_anyhow b)
@@ -124,3 +123,11 @@ module _ (b s room : List ℕ) (t : State) (is : t ≡ state_in b) where
 
   pub taking_room : {room' : List ℕ} → room' ≡ piece_room t s room → room' ≡ piece_room (state_in b) s room
   taking_room e = e ∙ ap (λ (u : State). piece_room u s room) is
+
+-- ---- two clauses, by their names
+
+pub named_value_out_after : {T0 T1 : Type 0} → T0 × T1 → record { value : T0; out_after : T1 }
+named_value_out_after p = record { value = p.0; out_after = p.1 }
+
+pub named_value_state_after : {T0 T1 : Type 0} → T0 × T1 → record { value : T0; state_after : T1 }
+named_value_state_after p = record { value = p.0; state_after = p.1 }

@@ -28,13 +28,11 @@ use c_values::values::{
     coordinate_words, degrees_words, header_words, named_header_words, point_words, record_words,
     routes_words, track_words,
 };
-use c_values::words::{COUNTS_SIZE, answer, refused, show};
-use route_lister::RoutesAnswer;
+use c_values::words::{COUNTS_SIZE, answer, pair_refused, refused, show};
+use route_walks::Tally;
 use transfer::{Identity, Step};
-use verdict::Verdict;
-use x1_degrees::DegreesAnswer;
-use x1_questions::{CoordinateAnswer, HeaderAnswer, PointAnswer, TrackAnswer};
-use x2_verdict::{NamedHeaderAnswer, RecordAnswer};
+use verdict::Fault;
+use x1_degrees::Surveyed;
 
 // The checksum of some bytes.
 pub fn yard_checksum(bytes: &[u8]) -> u32
@@ -44,10 +42,13 @@ pub fn yard_checksum(bytes: &[u8]) -> u32
 }
 
 // The number that is returned for a verdict of one file.
-fn judged(v: Verdict) -> u64
+fn judged(v: Result<(), Fault>) -> u64
     ensures { result ≡ verdict_shown v }
 {
-    answer(v.number(), 0, v.place())
+    match v {
+        Ok(()) => answer(0, 0, 0),
+        Err(fault) => refused(fault),
+    }
 }
 
 // The verdict of an X.1.
@@ -75,8 +76,10 @@ pub fn yard_x2(file: &[u8]) -> u64
 pub fn yard_pair(first: &[u8], second: &[u8]) -> u64
     ensures { result ≡ pair_shown (pair_of first.now second.now) }
 {
-    let v = pair::pair_verdict(first, second);
-    answer(v.number(), v.file(), v.place())
+    match pair::pair_verdict(first, second) {
+        Ok(()) => answer(0, 0, 0),
+        Err(p) => pair_refused(p),
+    }
 }
 
 // The header of an X.1.
@@ -85,8 +88,8 @@ pub fn yard_header1(file: &[u8], out: &mut [u8]) -> u64
     ensures out_after { out.new ≡ leaves (header_answer (header_of file.now)) out.old }
 {
     match x1_questions::header(file) {
-        HeaderAnswer::Header(h) => show(&header_words(h), out),
-        HeaderAnswer::Refused(fault) => refused(fault),
+        Ok(h) => show(&header_words(h), out),
+        Err(fault) => refused(fault),
     }
 }
 
@@ -96,8 +99,8 @@ pub fn yard_header2(file: &[u8], out: &mut [u8]) -> u64
     ensures out_after { out.new ≡ leaves (named_header_answer (named_header_of file.now)) out.old }
 {
     match x2_verdict::header(file) {
-        NamedHeaderAnswer::Header(h) => show(&named_header_words(h), out),
-        NamedHeaderAnswer::Refused(fault) => refused(fault),
+        Ok(h) => show(&named_header_words(h), out),
+        Err(fault) => refused(fault),
     }
 }
 
@@ -107,8 +110,8 @@ pub fn yard_track(file: &[u8], index: usize, out: &mut [u8]) -> u64
     ensures out_after { out.new ≡ leaves (track_answer (track_of file.now index)) out.old }
 {
     match x1_questions::track(file, index) {
-        TrackAnswer::Track(t) => show(&track_words(t), out),
-        TrackAnswer::Refused(fault) => refused(fault),
+        Ok(t) => show(&track_words(t), out),
+        Err(fault) => refused(fault),
     }
 }
 
@@ -118,8 +121,8 @@ pub fn yard_point(file: &[u8], track: usize, index: usize, out: &mut [u8]) -> u6
     ensures out_after { out.new ≡ leaves (point_answer (point_of file.now track index)) out.old }
 {
     match x1_questions::point(file, track, index) {
-        PointAnswer::Point(p) => show(&point_words(p), out),
-        PointAnswer::Refused(fault) => refused(fault),
+        Ok(p) => show(&point_words(p), out),
+        Err(fault) => refused(fault),
     }
 }
 
@@ -129,19 +132,19 @@ pub fn yard_coordinate(file: &[u8], number: usize, position: usize, out: &mut [u
     ensures out_after { out.new ≡ leaves (coordinate_answer (coordinate_asked file.now number position)) out.old }
 {
     match x1_questions::coordinate(file, number, position) {
-        CoordinateAnswer::Coordinate(c) => show(&coordinate_words(c), out),
-        CoordinateAnswer::Refused(fault) => refused(fault),
+        Ok(c) => show(&coordinate_words(c), out),
+        Err(fault) => refused(fault),
     }
 }
 
 // Answers with a coordinate and its degrees, or says why there is none.
-fn show_degrees(a: DegreesAnswer, out: &mut [u8]) -> u64
+fn show_degrees(a: Result<Surveyed, Fault>, out: &mut [u8]) -> u64
     ensures value { result ≡ shown (degrees_laid a) out.old }
     ensures out_after { out.new ≡ leaves (degrees_laid a) out.old }
 {
     match a {
-        DegreesAnswer::Surveyed(s) => show(&degrees_words(s), out),
-        DegreesAnswer::Refused(fault) => refused(fault),
+        Ok(s) => show(&degrees_words(s), out),
+        Err(fault) => refused(fault),
     }
 }
 
@@ -167,19 +170,19 @@ pub fn yard_record(file: &[u8], offset: usize, out: &mut [u8]) -> u64
     ensures out_after { out.new ≡ leaves (record_answer (record_of file.now offset)) out.old }
 {
     match x2_verdict::record_at(file, offset) {
-        RecordAnswer::Record(r) => show(&record_words(r), out),
-        RecordAnswer::Refused(fault) => refused(fault),
+        Ok(r) => show(&record_words(r), out),
+        Err(fault) => refused(fault),
     }
 }
 
 // Answers with the counts of a list of routes, or says why there is none.
-fn show_counts(a: RoutesAnswer, counts: &mut [u8]) -> u64
+fn show_counts(a: Result<Tally, Fault>, counts: &mut [u8]) -> u64
     ensures value { result ≡ shown (routes_answer a) counts.old }
     ensures counts_after { counts.new ≡ leaves (routes_answer a) counts.old }
 {
     match a {
-        RoutesAnswer::Listed(t) => show(&routes_words(t), counts),
-        RoutesAnswer::Refused(fault) => refused(fault),
+        Ok(t) => show(&routes_words(t), counts),
+        Err(fault) => refused(fault),
     }
 }
 
@@ -250,8 +253,8 @@ fn show_state(step: Step, state: &mut [u8]) -> u64
 {
     let verdict = step.verdict;
     match verdict {
-        Verdict::Accepted => show(&state_words(step.state), state),
-        Verdict::Refused(fault) => refused(fault),
+        Ok(()) => show(&state_words(step.state), state),
+        Err(fault) => refused(fault),
     }
 }
 

@@ -1,5 +1,6 @@
 // The C library: the functions of `exports` under their C names, each with the same clauses. `include/yard.h` says what each argument and each
 // result means.
+// Stays (2): the C interface: a function with a C name stands in a static library, and each here just calls that of `exports`.
 #![tactic(auto)]
 
 ghost use Rattle.std.specs.Prelude.{◌≡◌, length};

@@ -10,10 +10,9 @@ use native.Mathlib.Omega.{arith}
 use Rattle.verdict.specs.Facts.{Claim, test, Holds}
 use Rattle.verdict.proofs.Facts.{Agrees, agrees}
 use Rattle.verdict.proofs.Orders.{le-or-lt}
-use Rattle.names.specs.Names.{byte_after, bytes_between, zeros, lead, name_length, is_name, naming_of, bytes_in, IsName, IsNaming, object_name, ObjectName, code_count, station_name_length, code_at, codes, station_name, StationName}
+use Rattle.names.specs.Names.{byte_after, bytes_between, zeros, name_length, is_name, naming_of, bytes_in, IsName, IsNaming, object_name, ObjectName, code_count, station_name_length, code_at, codes, station_name, StationName}
 use Rattle.names.specs.Base.{BaseName}
-use Rattle.names.specs.declared.Naming.{Naming}
-use Rattle.names.specs.declared.Naming.TheVariants.{Bytes, NoName}
+use Rattle.std.specs.Prelude.{Option, Some, None}
 use Rattle.names.proofs.Counts.{lead_most, lead_is, each_number}
 
 -- ---- bytes
@@ -88,27 +87,27 @@ module _ (f : List ℕ) (p : ℕ) where
       right : Holds counted ↔ IsName f p (name_length f p)
       right = name_iff f p (name_length f p) (length_most f p)
 
-      go : (t : Bool) → Agrees t (Holds counted) → IsNaming f p (cond t (Bytes (name_length f p)) NoName)
+      go : (t : Bool) → Agrees t (Holds counted) → IsNaming f p (cond t (Some (name_length f p)) None)
       go true h = right.0 h
       go false h = λ n r. h (right.1 (rw (← name_length_lem r) r))
 
 -- .. and no other answer is.
-pub naming_only : (f : List ℕ) (p : ℕ) (a b : Naming) → IsNaming f p a → IsNaming f p b → a ≡ b
-naming_only f p (Bytes m) (Bytes n) a b = ap Bytes (one_length a b)
-naming_only f p (Bytes m) NoName a b = absurd (b m a)
-naming_only f p NoName (Bytes n) a b = absurd (a n b)
-naming_only f p NoName NoName a b = refl
+pub naming_only : (f : List ℕ) (p : ℕ) (a b : Option ℕ) → IsNaming f p a → IsNaming f p b → a ≡ b
+naming_only f p (Some m) (Some n) a b = ap Some (one_length a b)
+naming_only f p (Some m) None a b = absurd (b m a)
+naming_only f p None (Some n) a b = absurd (a n b)
+naming_only f p None None a b = refl
 
 -- how many bytes that is
 pub bytes_most : (f : List ℕ) (p : ℕ) → bytes_in (naming_of f p) ≤ 8
 bytes_most f p = go (naming_of f p) (naming_is f p)
   where
-    go : (a : Naming) → IsNaming f p a → bytes_in a ≤ 8
-    go (Bytes n) r = r.room
-    go NoName r = omega arith
+    go : (a : Option ℕ) → IsNaming f p a → bytes_in a ≤ 8
+    go (Some n) r = r.room
+    go None r = omega arith
 
 pub bytes_are : {f : List ℕ} {p count : ℕ} → IsName f p count → bytes_in (naming_of f p) ≡ count
-bytes_are {f} {p} {count} r = ap bytes_in (naming_only f p (naming_of f p) (Bytes count) (naming_is f p) r)
+bytes_are {f} {p} {count} r = ap bytes_in (naming_only f p (naming_of f p) (Some count) (naming_is f p) r)
 
 pub object_name_iff : (f : List ℕ) (p least : ℕ) → Holds (object_name f p least) ↔ ObjectName f p least
 unfolding object_name

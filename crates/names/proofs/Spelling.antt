@@ -7,19 +7,18 @@ use mathlib.Core.List.{List}
 use mathlib.Core.Logic.{◌↔◌, ⊎_elim}
 use native.Mathlib.Nat.{le_refl}
 use native.Mathlib.Omega.{arith}
-use lib.Dec.{leb, ltb, eqb}
+use lib.Dec.{leb, eqb}
 use mir.Val.{bool_byte}
 use borrow.Author.Count.{below_more}
-use borrow.Author.Tests.{leb-true, leb-false, ltb-false, eqb-true, eqb-false, le-leb, lt-leb, ne_eqb}
+use borrow.Author.Tests.{leb-true, leb-false, eqb-true, eqb-false, le-leb, lt-leb, ne_eqb}
 use lib.ListN.{length, get_or, get_or-eq_default}
 use Rattle.octets.specs.Octets.{num_at}
 use Rattle.verdict.proofs.Orders.{le-or-lt}
 use Rattle.verdict.proofs.Facts.{Agrees, agrees}
 use Rattle.verdict.specs.Facts.{Claim, test, Holds}
-use Rattle.names.specs.declared.Naming.{Naming}
-use Rattle.names.specs.declared.Naming.TheVariants.{Bytes, NoName}
+use Rattle.std.specs.Prelude.{Option, Some, None}
+use Rattle.std.specs.Option.{unwrap_or}
 use Rattle.names.specs.Names.{byte_after, zeros, naming_of, bytes_in, name_at, IsName, IsNaming, object_name, ObjectName}
-use Rattle.names.specs.inner.Count.{count_in}
 use Rattle.names.specs.Written.{field_at}
 use Rattle.names.proofs.Names.{zeros_iff, one_length, no_first, naming_is, naming_only, object_name_iff, same_name}
 
@@ -228,54 +227,44 @@ all_eight f p k n _ _ _ e (spoiled never) = never
 
 -- what the code answers
 pub spelt_name : (f : List ℕ) (p k n : ℕ) (ok before spaced : Bool) → k ≡ 8 → Spelt f p k n ok before spaced
-    → (ok && (not (first_space f p) && not spaced)) ≡ true → n ≡ count_in (naming_of f p)
+    → (ok && (not (first_space f p) && not spaced)) ≡ true → Some n ≡ naming_of f p
 spelt_name f p k n ok before spaced e s h =
-    ap count_in (naming_only f p (Bytes n) (naming_of f p) (subst (λ (t : Bool). Found f p n t) h (all_eight f p k n ok before spaced e s)) (naming_is f p))
+    naming_only f p (Some n) (naming_of f p) (subst (λ (t : Bool). Found f p n t) h (all_eight f p k n ok before spaced e s)) (naming_is f p)
 
 pub spelt_none : (f : List ℕ) (p k n : ℕ) (ok before spaced : Bool) → k ≡ 8 → Spelt f p k n ok before spaced
-    → (ok && (not (first_space f p) && not spaced)) ≡ false → 9 ≡ count_in (naming_of f p)
+    → (ok && (not (first_space f p) && not spaced)) ≡ false → None ≡ naming_of f p
 spelt_none f p k n ok before spaced e s h =
-    ap count_in (naming_only f p NoName (naming_of f p) (subst (λ (t : Bool). Found f p n t) h (all_eight f p k n ok before spaced e s)) (naming_is f p))
+    naming_only f p None (naming_of f p) (subst (λ (t : Bool). Found f p n t) h (all_eight f p k n ok before spaced e s)) (naming_is f p)
 
--- ---- what the number says
+-- ---- whether there is a name of at least so many bytes
 
--- the number of a right answer is below 9 where there is a name
-told : (f : List ℕ) (p : ℕ) (a : Naming) → IsNaming f p a → (n : ℕ) → n ≡ count_in a → n < 9 → Bytes n ≡ a
-told f p (Bytes m) r n e h = ap Bytes e
-told f p NoName r n e h = absurd (omega arith)
+abbrev has_enough : ℕ → Option ℕ → Bool
+has_enough least (Some n) = leb least n
+has_enough least None = false
 
-untold : (f : List ℕ) (p : ℕ) (a : Naming) → IsNaming f p a → (n : ℕ) → n ≡ count_in a → 9 ≤ n → NoName ≡ a
-untold f p (Bytes m) r n e h = let room = r.room in absurd (omega arith)
-untold f p NoName r n e h = refl
-
-pub told_name : (f : List ℕ) (p n : ℕ) → n ≡ count_in (naming_of f p) → n < 9 → Bytes n ≡ naming_of f p
-told_name f p n = told f p (naming_of f p) (naming_is f p) n
-
-pub told_none : (f : List ℕ) (p n : ℕ) → n ≡ count_in (naming_of f p) → 9 ≤ n → NoName ≡ naming_of f p
-told_none f p n = untold f p (naming_of f p) (naming_is f p) n
-
--- whether there is a name of at least so many bytes
-enough : (f : List ℕ) (p least : ℕ) (a : Naming) → IsNaming f p a → Agrees (leb least (count_in a) && ltb (count_in a) 9) (ObjectName f p least)
-enough f p least (Bytes n) r = go (leb least n) (ltb n 9) refl refl
+enough : (f : List ℕ) (p least : ℕ) (a : Option ℕ) → IsNaming f p a → Agrees (has_enough least a) (ObjectName f p least)
+enough f p least (Some n) r = go (leb least n) refl
   where
-    go : (s t : Bool) → leb least n ≡ s → ltb n 9 ≡ t → Agrees (s && t) (ObjectName f p least)
-    go true true e g = record { count = n; enough = leb-true least n e; name = r }
-    go true false e g = let l = ltb-false n 9 g in let room = r.room in absurd (omega arith)
-    go false t e g = λ (o : ObjectName f p least). let l = leb-false least n e in let s = one_length o.name r in let m = o.enough in omega arith
-enough f p least NoName r = rw (and-false (leb least 9)) (λ (o : ObjectName f p least). r o.count o.name)
+    go : (s : Bool) → leb least n ≡ s → Agrees s (ObjectName f p least)
+    go true e = record { count = n; enough = leb-true least n e; name = r }
+    go false e = λ (o : ObjectName f p least). let l = leb-false least n e in let s = one_length o.name r in let m = o.enough in omega arith
+enough f p least None r = λ (o : ObjectName f p least). r o.count o.name
 
-pub told_enough : (f : List ℕ) (p least n : ℕ) → n ≡ count_in (naming_of f p) → (leb least n && ltb n 9) ≡ test (object_name f p least)
-told_enough f p least n e =
+pub told_enough : (f : List ℕ) (p least : ℕ) (a : Option ℕ) → a ≡ naming_of f p → has_enough least a ≡ test (object_name f p least)
+told_enough f p least a e =
     let c : Claim = object_name f p least in
     let i = object_name_iff f p least in
-    let counted = count_in (naming_of f p) in
     rw e
-    (same_test (leb least counted && ltb counted 9) (test c) (ObjectName f p least) (Holds c) (enough f p least (naming_of f p) (naming_is f p)) (agrees c) (i.1, i.0))
+    (same_test (has_enough least (naming_of f p)) (test c) (ObjectName f p least) (Holds c) (enough f p least (naming_of f p) (naming_is f p)) (agrees c) (i.1, i.0))
 
--- a record's name
-pub named_at : (f : List ℕ) (p : ℕ) (a b : Naming) → a ≡ naming_of f p → a ≡ b → record { place = p; bytes = bytes_in b } ≡ name_at f p
+-- a record's name: n is how many bytes it has
+pub named_at : (f : List ℕ) (p n : ℕ) (a : Option ℕ) → a ≡ naming_of f p → n ≡ unwrap_or a 0 → record { place = p; bytes = n } ≡ name_at f p
 unfolding name_at
-named_at f p a b e q = ap (λ (x : Naming). record { place = p; bytes = bytes_in x }) (sym q ∙ e)
+named_at f p n a e q = ap (λ (x : ℕ). record { place = p; bytes = x }) (q ∙ told a ∙ ap bytes_in e)
+  where
+    told : (a : Option ℕ) → unwrap_or a 0 ≡ bytes_in a
+    told (Some n) = refl
+    told None = refl
 
 -- ---- a field that the file may end in
 
@@ -296,10 +285,10 @@ pub field_byte : (f : List ℕ) (p k : ℕ) → k < 8 → byte_after (field_at f
 field_byte f p k h = let i : 0 + k ≡ k = omega arith in byte-is (field_at f p) 0 k ∙ rw i (field_entry f p k h)
 
 -- what is answered of a field that was taken out of the file
-pub cut_count : (f g : List ℕ) (p n : ℕ) → g ≡ field_at f p → n ≡ count_in (naming_of g 0) → n ≡ count_in (naming_of f p)
-cut_count f g p n e h =
-    (rw e at h) ∙ ap count_in (naming_only f p (naming_of (field_at f p) 0) (naming_of f p) (carried (naming_of (field_at f p) 0) (naming_is (field_at f p) 0)) (naming_is f p))
+pub cut_naming : (f g : List ℕ) (p : ℕ) (a : Option ℕ) → g ≡ field_at f p → a ≡ naming_of g 0 → a ≡ naming_of f p
+cut_naming f g p a e h =
+    (rw e at h) ∙ naming_only f p (naming_of (field_at f p) 0) (naming_of f p) (carried (naming_of (field_at f p) 0) (naming_is (field_at f p) 0)) (naming_is f p)
   where
-    carried : (a : Naming) → IsNaming (field_at f p) 0 a → IsNaming f p a
-    carried (Bytes n) r = same_name (field_byte f p) r
-    carried NoName r = λ n i. r n (same_name (λ k l. sym (field_byte f p k l)) i)
+    carried : (a : Option ℕ) → IsNaming (field_at f p) 0 a → IsNaming f p a
+    carried (Some n) r = same_name (field_byte f p) r
+    carried None r = λ n i. r n (same_name (λ k l. sym (field_byte f p k l)) i)

@@ -1,14 +1,14 @@
 -- A name by itself and the field that holds it. What is written for a right name is a name by the rule, of as many bytes, and is read back as it
 -- was; and whatever is a name by the rule was written so for the name that is read from it. Both ways go byte by byte.
-use Prim.Native.Nat.{ℕ, suc, ◌+◌, ◌-◌, ◌≤◌, ◌<◌}
+use Prim.Native.Nat.{ℕ, ◌+◌, ◌-◌, ◌≤◌, ◌<◌}
 use mathlib.Core.Path.{◌≡◌, refl, sym, ap, ◌∙◌}
-use mathlib.Core.List.{List, [], ◌∷◌, ◌++◌}
+use mathlib.Core.List.{List}
 use mathlib.Core.Logic.{⊎_elim}
 use native.Mathlib.Omega.{arith}
 use lib.ListN.{length, get_or, take, replicate, length-take, length-append, length-replicate, get_or-replicate, get_or-append, get_or-eq_default}
 use lib.Seq.{get_or-take, take-append_seam, get_or-append-add, ext_get_or}
 use Rattle.verdict.proofs.Orders.{le-or-lt}
-use Rattle.names.specs.Names.{byte_after, name_length, IsName}
+use Rattle.names.specs.Names.{byte_after, IsName}
 use Rattle.names.specs.Written.{RightName, written, field_at, HoldsName, read_name}
 use Rattle.names.proofs.Names.{name_length_lem}
 use Rattle.names.proofs.Spelling.{field_entry}

@@ -2,7 +2,7 @@
 -- name. `proofs/Cases` computes every case.
 use Rattle.std.specs.Prelude.{ℕ, ◌≡◌, false, List, [], ◌∷◌}
 use Rattle.verdict.specs.Facts.{test}
-use Rattle.names.specs.declared.Naming.TheVariants.{Bytes, NoName}
+use Rattle.std.specs.Prelude.{Some, None}
 use Rattle.names.specs.Names.{naming_of, object_name, not_empty}
 
 pub data Case : Type 0 where
@@ -14,9 +14,9 @@ pub data Case : Type 0 where
   empty : List ℕ → Case
 
 abbrev pub Says : Case → Type 0
-Says (right field count) = naming_of field 0 ≡ Bytes count
-Says (wrong field) = naming_of field 0 ≡ NoName
-Says (empty field) = (naming_of field 0 ≡ Bytes 0) × (test (object_name field 0 not_empty) ≡ false)
+Says (right field count) = naming_of field 0 ≡ Some count
+Says (wrong field) = naming_of field 0 ≡ None
+Says (empty field) = (naming_of field 0 ≡ Some 0) × (test (object_name field 0 not_empty) ≡ false)
 
 abbrev pub All : List Case → Type 0
 All [] = Unit {0}

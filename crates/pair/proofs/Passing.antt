@@ -7,18 +7,16 @@ use native.Mathlib.Omega.{arith}
 use lib.Dec.{leb}
 use borrow.Author.Tests.{not-false}
 use Rattle.octets.specs.Octets.{num_at}
-use Rattle.verdict.specs.declared.Judged.{Judged}
-use Rattle.verdict.specs.declared.Judged.TheVariants.{Accepted, Refused}
+use Rattle.verdict.specs.Verdicts.{Judged}
+use Rattle.std.specs.Prelude.{Ok, Err, is_ok}
 use Rattle.verdict.specs.declared.Mark.{Mark}
-use Rattle.verdict.specs.Facts.{Fact, same, at_most, both, test, all_tests, judge}
-use Rattle.verdict.specs.inner.Accepted.{is_accepted}
-use Rattle.verdict.proofs.Facts.{judge_refused, tests_append, tests_judged}
+use Rattle.verdict.specs.Facts.{Fact, same, at_most, both, test, all_tests, first_fault}
+use Rattle.verdict.proofs.Facts.{tests_append, tests_judged}
 use Rattle.verdict.proofs.Orders as orders
 use Rattle.tables.specs.Table.{value_of}
 use Rattle.x1_records.specs.Rows as track
 use Rattle.x1_lookup.specs.Lookup.{find_track}
-use Rattle.x1_lookup.specs.declared.Found.{Found}
-use Rattle.x1_lookup.specs.declared.Found.TheVariants.{At}
+use Rattle.std.specs.Prelude.{Option, Some, None}
 use Rattle.x2_records.specs.declared.Kind.{Kind}
 use Rattle.x2_layout.specs.declared.Layout.{Layout}
 use Rattle.x2_layout.specs.Records.{kind_at, IsSize, each_record}
@@ -33,22 +31,22 @@ use Rattle.pair.specs.inner.Tracks.{Onward}
 
 -- a track that was found: its entry is at e, and n is its end
 pub found_reaches :
-    (f : List ℕ) {found : Found} {e n : ℕ} (x : ℕ) → found ≡ At e → n ≡ value_of f e track.end_position → leb x n ≡ true
+    (f : List ℕ) {found : (Option ℕ)} {e n : ℕ} (x : ℕ) → found ≡ Some e → n ≡ value_of f e track.end_position → leb x n ≡ true
     → test (both (same (present found) 1) (at_most x (reach f found))) ≡ true
 found_reaches f x is end h = rw is (ap (leb x) (sym end) ∙ h)
 
 -- a position on its track: found is its track, x is the position
 pub lies_passed :
-    (f g : List ℕ) (at t p : ℕ) {found : Found} {x : ℕ} → found ≡ find_track f (num_at 1 g t) → x ≡ num_at 4 g p
+    (f g : List ℕ) (at t p : ℕ) {found : (Option ℕ)} {x : ℕ} → found ≡ find_track f (num_at 1 g t) → x ≡ num_at 4 g p
     → test (both (same (present found) 1) (at_most x (reach f found))) ≡ true → all_tests (spot_facts f g at (lies t p)) ≡ true
 lies_passed f g at t p is position e =
     ap (λ (b : Bool). test (same (present (find_track f (num_at 1 g t))) 1) && b) (and-true (test (at_most (num_at 4 g p) (reach f (find_track f (num_at 1 g t))))))
-    ∙ sym (ap₂ (λ (w : Found) (y : ℕ). test (both (same (present w) 1) (at_most y (reach f w)))) is position) ∙ e
+    ∙ sym (ap₂ (λ (w : Option ℕ) (y : ℕ). test (both (same (present w) 1) (at_most y (reach f w)))) is position) ∙ e
 
 -- a track alone
-pub stands_passed : (f g : List ℕ) (at t : ℕ) {found : Found} {b : Bool} → found ≡ find_track f (num_at 1 g t) → b ≡ test (same (present found) 1) → not b ≡ false → all_tests (spot_facts f g at (stands t)) ≡ true
+pub stands_passed : (f g : List ℕ) (at t : ℕ) {found : (Option ℕ)} {b : Bool} → found ≡ find_track f (num_at 1 g t) → b ≡ test (same (present found) 1) → not b ≡ false → all_tests (spot_facts f g at (stands t)) ≡ true
 stands_passed f g at t is e passes =
-    and-true (test (same (present (find_track f (num_at 1 g t))) 1)) ∙ sym (ap (λ (w : Found). test (same (present w) 1)) is) ∙ sym e ∙ not-false _ passes
+    and-true (test (same (present (find_track f (num_at 1 g t))) 1)) ∙ sym (ap (λ (w : Option ℕ). test (same (present w) 1)) is) ∙ sym e ∙ not-false _ passes
 
 -- three in a record
 pub three_pass :
@@ -89,18 +87,14 @@ pub sort_is : {l : Layout} {k j : Kind} {from until : ℕ} → k ≡ j → Sort 
 sort_is e s = record { order = s.order; inside = s.inside; kind = λ x g h. sym e ∙ s.kind x g h }
 
 -- at the end of one kind the next begins
-pub walked_to : {g : List ℕ} {l : Layout} {facts : Kind → ℕ → List Fact} {at next : ℕ} → Walking g l facts Accepted at → at ≡ next → Walking g l facts Accepted next
-walked_to {g} {l} {facts} w e = subst (λ (x : ℕ). Walking g l facts Accepted x) e w
+pub walked_to : {g : List ℕ} {l : Layout} {facts : Kind → ℕ → List Fact} {at next : ℕ} → Walking g l facts at → at ≡ next → Walking g l facts next
+walked_to {g} {l} {facts} w e = subst (λ (x : ℕ). Walking g l facts x) e w
 
 -- ---- the telling: v is the verdict on the record at `at`
 
-module _ {g : List ℕ} {l : Layout} {facts : Kind → ℕ → List Fact} {at : ℕ} (i : Walking g l facts Accepted at) (below : at < l.end) {k : Kind} (kind : k ≡ kind_at l at) {v : Judged} (told : v ≡ judge Accepted (facts k at)) where
-  pub told_over : {n : ℕ} → v ≡ Accepted → IsSize g k at n → Walking g l facts Accepted (at + n)
-  told_over e size = walking_over i below kind (tests_judged v true (facts k at) told (sym (ap is_accepted e))) refl size
+module _ {g : List ℕ} {l : Layout} {facts : Kind → ℕ → List Fact} {at : ℕ} (i : Walking g l facts at) (below : at < l.end) {k : Kind} (kind : k ≡ kind_at l at) {v : Judged} (told : v ≡ first_fault (facts k at)) where
+  pub told_over : {n : ℕ} → v ≡ Ok tt → IsSize g k at n → Walking g l facts (at + n)
+  told_over e size = walking_over i below kind (tests_judged v true (facts k at) told (sym (ap is_ok e))) refl size
 
-  pub told_fault : {m : Mark} → v ≡ Refused m → v ≡ judge Accepted (each_record g l facts)
-  told_fault e = walking_fault i below kind (tests_judged v false (facts k at) told (sym (ap is_accepted e))) refl told
-
--- a verdict that is refused stays
-pub refused_stays : {v : Judged} {m : Mark} (fs : List Fact) → v ≡ Refused m → v ≡ judge v fs
-refused_stays {v} {m} fs e = e ∙ sym (judge_refused m fs) ∙ ap (λ (w : Judged). judge w fs) (sym e)
+  pub told_fault : {m : Mark} → v ≡ Err m → Err m ≡ first_fault (each_record g l facts)
+  told_fault e = walking_fault i below kind (tests_judged v false (facts k at) told (sym (ap is_ok e))) refl (sym e ∙ told)

@@ -7,18 +7,15 @@ use Rattle.verdict.specs.Reasons.{fault_of}
 use Rattle.verdict.specs.declared.Reason.TheVariants as reason
 use Rattle.verdict.specs.declared.Rule.TheVariants as rule
 use Rattle.verdict.specs.declared.File.TheVariants.{First, Second}
-use Rattle.verdict.specs.declared.Judged.{Judged}
-use Rattle.verdict.specs.declared.Judged.TheVariants as judged
-use Rattle.verdict.specs.declared.Verdict.{Verdict}
-use Rattle.verdict.specs.declared.Verdict.TheVariants as verdict
-use Rattle.verdict.specs.declared.PairVerdict.{PairVerdict}
-use Rattle.verdict.specs.declared.PairVerdict.TheVariants as pair
+use Rattle.verdict.specs.Verdicts.{Judged}
+use Rattle.std.specs.Prelude.{Ok, Err}
+use Rattle.verdict.specs.Verdicts.{Verdict}
+use Rattle.verdict.specs.Verdicts.{PairVerdict}
 use Rattle.envelope.specs.Seal.{station_at}
 use Rattle.tables.specs.Table.{value_of, field_place}
 use Rattle.x1_records.specs.Rows as track
 use Rattle.x1_verdict.specs.Facts as geography
-use Rattle.x1_lookup.specs.declared.Found.{Found}
-use Rattle.x1_lookup.specs.declared.Found.TheVariants.{At, Absent}
+use Rattle.std.specs.Prelude.{Option, Some, None}
 use Rattle.x1_lookup.specs.Lookup.{find_track}
 use Rattle.x2_records.specs.declared.Kind.{Kind}
 use Rattle.x2_records.specs.declared.Kind.TheVariants as kind
@@ -54,14 +51,14 @@ spots kind.Siding at = stands (field_place at row.siding_track) ∷ []
 -- ---- the facts
 
 -- 1 where a track was found
-abbrev pub present : Found → ℕ
-present (At e) = 1
-present Absent = 0
+abbrev pub present : Option ℕ → ℕ
+present (Some e) = 1
+present None = 0
 
 -- the end position of the track that was found
-abbrev pub reach : List ℕ → Found → ℕ
-reach f (At e) = value_of f e track.end_position
-reach f Absent = 0
+abbrev pub reach : List ℕ → Option ℕ → ℕ
+reach f (Some e) = value_of f e track.end_position
+reach f None = 0
 
 -- 10: the stations are the same
 abbrev pub same_station : List ℕ → List ℕ → Fact
@@ -101,17 +98,17 @@ pair_facts f g l = same_station f g ∷ records_pair f g l
 -- ---- the verdict
 
 abbrev pub of_first : Verdict → PairVerdict → PairVerdict
-of_first (verdict.Refused t) r = pair.Refused First t
-of_first verdict.Accepted r = r
+of_first (Err t) r = Err (record { file = First; fault = t })
+of_first (Ok tt) r = r
 
 abbrev pub of_second : Verdict → PairVerdict → PairVerdict
-of_second (verdict.Refused t) r = pair.Refused Second t
-of_second verdict.Accepted r = r
+of_second (Err t) r = Err (record { file = Second; fault = t })
+of_second (Ok tt) r = r
 
 -- the pair's own faults are of file 2
 abbrev pub of_pair : Judged → PairVerdict
-of_pair judged.Accepted = pair.Accepted
-of_pair (judged.Refused m) = pair.Refused Second (fault_of m)
+of_pair (Ok tt) = Ok tt
+of_pair (Err m) = Err (record { file = Second; fault = fault_of m })
 
 -- 02: Ticket7.5
 unfoldable pub pair_of : List ℕ → List ℕ → PairVerdict

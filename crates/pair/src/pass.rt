@@ -1,7 +1,6 @@
 // A pass over the records of X.2 (g), kind by kind in stored order, as far as their tracks and positions obey. Each position asks for its track
 // in X.1 (f) once. Where a test here says yes, the facts hold; where it says no, nothing is claimed, and the facts are told one by one.
 ghost use Rattle.std.specs.Prelude.{◌≡◌, true, ◌+◌, ◌≤◌};
-ghost use Rattle.verdict.specs.declared.Judged.TheVariants.{Accepted};
 ghost use Rattle.verdict.specs.Facts.{same, at_most, both, test, all_tests};
 ghost use Rattle.x2_records.specs.declared.Kind.TheVariants as kind;
 ghost use Rattle.x2_layout.specs.inner.Bounds.{place_most, Bounded};
@@ -14,23 +13,23 @@ ghost use Rattle.pair.specs.Pair.{lies, present, reach, spot_facts, record_pair}
 use crate::tracks::{POSITION_SIZE, is_found, track_at};
 use octets::u32_at;
 use tables::{Field, number_of, place_of};
-use x1_lookup::{Found, Presence};
+use x1_lookup::Presence;
 use x1_records::Track;
 use x2_layout::{Layout, size_of};
 use x2_records::{Balise, Boundary, Joint, Kind, Siding, Signal, Turnout};
 
 // A track was found, its entry lies inside X.1, and a position is at most its end.
-fn reaches(f: &[u8], found: Found, position: usize) -> bool
+fn reaches(f: &[u8], found: Option<u32>, position: usize) -> bool
     ensures { result ≡ true → test (both (same (present found) 1) (at_most position (reach f.now found))) ≡ true }
 {
     match found {
-        Found::At(e) => {
+        Some(e) => {
             if f.len() < e as usize + Track::SIZE as usize {
                 return false;
             }
             position <= number_of(f, e, Track::END_POSITION)
         }
-        Found::Absent => false,
+        None => false,
     }
 }
 
@@ -143,8 +142,8 @@ fn kind_reached(
     from: usize,
     until: usize,
 ) -> usize
-    requires { Answers f.now tracks × Bounded l × Sort l k from until × Walking g.now l (record_pair f.now g.now) Accepted from }
-    ensures { Walking g.now l (record_pair f.now g.now) Accepted result }
+    requires { Answers f.now tracks × Bounded l × Sort l k from until × Walking g.now l (record_pair f.now g.now) from }
+    ensures { Walking g.now l (record_pair f.now g.now) result }
 {
     match k {
         Kind::StartBoundary => sort_reached(
@@ -196,7 +195,7 @@ fn kind_reached(
 // All records: where the first of them starts that does not obey, or End. The records of a kind end where those of the next start.
 pub fn records_reached(f: &[u8], g: &[u8], l: Layout, tracks: Presence) -> usize
     requires { Answers f.now tracks × Bounded l × Regions g.now l }
-    ensures { Walking g.now l (record_pair f.now g.now) Accepted result }
+    ensures { Walking g.now l (record_pair f.now g.now) result }
 {
     let mut at = kind_reached(f, g, l, tracks, Kind::StartBoundary, l.starts, l.ends);
     if at != l.ends {

@@ -7,7 +7,7 @@ ghost use Rattle.pair.specs.inner.Tracks.{Answers};
 ghost use Rattle.pair.specs.Pair.{present};
 
 use octets::byte_at;
-use x1_lookup::{Found, Presence};
+use x1_lookup::Presence;
 
 // How many bytes a track and a position have in X.2.
 pub const TRACK_SIZE: usize = 1;
@@ -15,7 +15,7 @@ pub const TRACK_SIZE: usize = 1;
 pub const POSITION_SIZE: usize = 4;
 
 // The track whose number stands at t.
-pub fn track_at(f: &[u8], g: &[u8], tracks: Presence, t: usize) -> Found
+pub fn track_at(f: &[u8], g: &[u8], tracks: Presence, t: usize) -> Option<u32>
     requires { Answers f.now tracks }
     ensures { result ≡ find_track f.now (num_at 1 g.now t) }
 {
@@ -23,11 +23,8 @@ pub fn track_at(f: &[u8], g: &[u8], tracks: Presence, t: usize) -> Found
 }
 
 // A track was found.
-pub fn is_found(found: Found) -> bool
+pub fn is_found(found: Option<u32>) -> bool
     ensures { result ≡ test (same (present found) 1) }
 {
-    match found {
-        Found::At(_) => true,
-        Found::Absent => false,
-    }
+    found.is_some()
 }

@@ -2,7 +2,7 @@
 use Prim.Native.Nat.{ℕ}
 use mathlib.Core.Path.{◌≡◌, ap}
 use mathlib.Core.List.{List}
-use Rattle.verdict.specs.declared.Verdict.{Verdict}
+use Rattle.verdict.specs.Verdicts.{Verdict}
 use Rattle.verdict.specs.Facts.{first_fault}
 use Rattle.x1_obeys.specs.Obeys.{structure_of}
 use Rattle.x1_theorems.proofs.Base.{as_ever}

@@ -7,17 +7,14 @@ use mathlib.Core.List.{List, [], ◌∷◌, Memᴰ}
 use native.Mathlib.Omega.{arith}
 use Rattle.octets.specs.Octets.{num_at}
 use Rattle.verdict.specs.Facts.{AllHold, first_fault}
-use Rattle.verdict.specs.declared.Judged.{Judged}
-use Rattle.verdict.specs.declared.Judged.TheVariants as judged
-use Rattle.verdict.specs.declared.Verdict.{Verdict}
-use Rattle.verdict.specs.declared.Verdict.TheVariants as verdict
-use Rattle.verdict.specs.declared.PairVerdict.TheVariants as pair
+use Rattle.verdict.specs.Verdicts.{Judged}
+use Rattle.std.specs.Prelude.{Ok, Err}
+use Rattle.verdict.specs.Verdicts.{Verdict}
 use Rattle.verdict.specs.Reasons.{shown_of}
 use Rattle.verdict.proofs.Facts.{accepted_iff, all_append, all_each}
 use Rattle.x1_verdict.specs.Facts as geography
 use Rattle.x1_obeys.specs.Obeys.{entry_place, Obeys}
-use Rattle.x1_lookup.specs.declared.Found.{Found}
-use Rattle.x1_lookup.specs.declared.Found.TheVariants.{At, Absent}
+use Rattle.std.specs.Prelude.{Option, Some, None}
 use Rattle.x1_lookup.specs.Lookup.{find_track}
 use Rattle.x1_lookup.proofs.Lookup as lookup
 use Rattle.x2_layout.specs.declared.Layout.{Layout}
@@ -31,11 +28,11 @@ use Rattle.pair_theorems.specs.Obeys.{TrackIn, SpotObeys, PairObeys}
 
 module _ (f : List ℕ) (o : Obeys f) where
   -- a track that has a number is the one that is found
-  pub found_in : (number i : ℕ) → TrackIn f number i → find_track f number ≡ At (entry_place i)
+  pub found_in : (number i : ℕ) → TrackIn f number i → find_track f number ≡ Some (entry_place i)
   found_in number i w = (lookup.found_iff f o number (entry_place i)).1 (record { track = i; in_file = w.in_file; there = refl; same = w.same })
 
   -- a track that is found has the number
-  in_found : (number e : ℕ) → find_track f number ≡ At e → (i : ℕ) × TrackIn f number i × (e ≡ entry_place i)
+  in_found : (number e : ℕ) → find_track f number ≡ Some e → (i : ℕ) × TrackIn f number i × (e ≡ entry_place i)
   in_found number e q =
       let w = lookup.found_number f number e q in
       (w.track, record { in_file = w.in_file; same = subst (λ (x : ℕ). num_at 1 f (x + 0) ≡ number) w.there w.same }, w.there)
@@ -43,19 +40,19 @@ module _ (f : List ℕ) (o : Obeys f) where
   pub present_iff : (number : ℕ) → (present (find_track f number) ≡ 1) ↔ ((i : ℕ) × TrackIn f number i)
   present_iff number = (λ h. by_case (find_track f number) refl h, λ w. ap present (found_in number w.0 w.1))
     where
-      by_case : (d : Found) → find_track f number ≡ d → present d ≡ 1 → (i : ℕ) × TrackIn f number i
-      by_case (At e) q h = let w = in_found number e q in (w.0, w.1)
-      by_case Absent q h = absurd (omega arith)
+      by_case : (d : Option ℕ) → find_track f number ≡ d → present d ≡ 1 → (i : ℕ) × TrackIn f number i
+      by_case (Some e) q h = let w = in_found number e q in (w.0, w.1)
+      by_case None q h = absurd (omega arith)
 
   pub within_iff : (number x : ℕ) → ((present (find_track f number) ≡ 1) × (x ≤ reach f (find_track f number))) ↔ ((i : ℕ) × TrackIn f number i × (x ≤ num_at 4 f (entry_place i + 14)))
   within_iff number x = (
     λ h. by_case (find_track f number) refl h.0 h.1,
-    λ w. let q = found_in number w.0 w.1 in (ap present q, subst (λ (d : Found). x ≤ reach f d) (sym q) w.2),
+    λ w. let q = found_in number w.0 w.1 in (ap present q, subst (λ (d : Option ℕ). x ≤ reach f d) (sym q) w.2),
   )
     where
-      by_case : (d : Found) → find_track f number ≡ d → present d ≡ 1 → x ≤ reach f d → (i : ℕ) × TrackIn f number i × (x ≤ num_at 4 f (entry_place i + 14))
-      by_case (At e) q h k = let w = in_found number e q in (w.0, w.1, subst (λ (y : ℕ). x ≤ num_at 4 f (y + 14)) w.2 k)
-      by_case Absent q h k = absurd (omega arith)
+      by_case : (d : Option ℕ) → find_track f number ≡ d → present d ≡ 1 → x ≤ reach f d → (i : ℕ) × TrackIn f number i × (x ≤ num_at 4 f (entry_place i + 14))
+      by_case (Some e) q h k = let w = in_found number e q in (w.0, w.1, subst (λ (y : ℕ). x ≤ num_at 4 f (y + 14)) w.2 k)
+      by_case None q h k = absurd (omega arith)
 
   module _ (g : List ℕ) where
     spot_iff : (at : ℕ) (s : Spot) → AllHold (spot_facts f g at s) ↔ SpotObeys f g s
@@ -87,14 +84,14 @@ module _ (f : List ℕ) (o : Obeys f) where
 -- ---- the verdict
 
 -- accepted, in each of the three parts
-parts : (v w : Verdict) (u : Judged) → of_first v (of_second w (of_pair u)) ≡ pair.Accepted → (v ≡ verdict.Accepted) × ((w ≡ verdict.Accepted) × (u ≡ judged.Accepted))
-parts (verdict.Refused t) w u e = let z : ◌≡◌ {A = ℕ} 0 1 = cc in absurd (omega arith)
-parts verdict.Accepted (verdict.Refused t) u e = let z : ◌≡◌ {A = ℕ} 0 1 = cc in absurd (omega arith)
-parts verdict.Accepted verdict.Accepted (judged.Refused m) e = let z : ◌≡◌ {A = ℕ} 0 1 = cc in absurd (omega arith)
-parts verdict.Accepted verdict.Accepted judged.Accepted e = (refl, (refl, refl))
+parts : (v w : Verdict) (u : Judged) → of_first v (of_second w (of_pair u)) ≡ Ok tt → (v ≡ Ok tt) × ((w ≡ Ok tt) × (u ≡ Ok tt))
+parts (Err t) w u e = let z : ◌≡◌ {A = ℕ} 0 1 = cc in absurd (omega arith)
+parts (Ok a) (Err t) u e = let z : ◌≡◌ {A = ℕ} 0 1 = cc in absurd (omega arith)
+parts (Ok a) (Ok b) (Err m) e = let z : ◌≡◌ {A = ℕ} 0 1 = cc in absurd (omega arith)
+parts (Ok a) (Ok b) (Ok c) e = (refl, (refl, refl))
 
 -- THEOREM (demand 2, of the pair)
-pub pair_accepted : (f g : List ℕ) → (pair_of f g ≡ pair.Accepted) ↔ PairObeys f g
+pub pair_accepted : (f g : List ℕ) → (pair_of f g ≡ Ok tt) ↔ PairObeys f g
 unfolding pair_of
 pair_accepted f g =
     let l = layout_of g in

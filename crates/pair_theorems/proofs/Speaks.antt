@@ -11,18 +11,17 @@ use Rattle.verdict.specs.declared.Rule.{Rule}
 use Rattle.verdict.specs.declared.Rule.TheVariants as rule
 use Rattle.verdict.specs.declared.Fault.{Fault}
 use Rattle.verdict.specs.declared.File.TheVariants.{Second}
-use Rattle.verdict.specs.declared.Judged.{Judged}
-use Rattle.verdict.specs.declared.Judged.TheVariants as judged
-use Rattle.verdict.specs.declared.Verdict.{Verdict}
-use Rattle.verdict.specs.declared.Verdict.TheVariants as verdict
-use Rattle.verdict.specs.declared.PairVerdict.TheVariants as pair
+use Rattle.verdict.specs.Verdicts.{Judged}
+use Rattle.std.specs.Prelude.{Ok, Err}
+use Rattle.verdict.specs.Verdicts.{Verdict}
 use Rattle.verdict.specs.Facts.{Claim, Holds, Fact, fact, first_fault, Marked, TrueReason}
-use Rattle.verdict.specs.Reasons.{number_of, fault_of, shown_of, number_in, place_in}
+use Rattle.verdict.specs.declared.PairFault.{PairFault}
+use Rattle.verdict.specs.Reasons.{number_of, fault_of, own_fault, shown_of, number_in, place_in}
 use Rattle.verdict.specs.Order.{Reported}
 use Rattle.verdict.proofs.Facts.{true_reason, marked_each}
 use Rattle.refusals.proofs.Sections.{Each, each_append}
 use Rattle.x1_obeys.specs.Obeys.{entry_place, Obeys}
-use Rattle.x1_lookup.specs.declared.Found.{Found}
+use Rattle.std.specs.Prelude.{Option, Some, None}
 use Rattle.x1_lookup.proofs.Lookup as lookup
 use Rattle.x2_records.specs.declared.Kind.{Kind}
 use Rattle.x2_layout.specs.declared.Layout.{Layout}
@@ -93,7 +92,7 @@ module _ (f g : List ℕ) (o : Obeys f) (m : Mark) where
   pub within_says : (t i : ℕ) → m.rule ≡ rule.WithinTrack t → TrackIn f (num_at 1 g t) i → Holds (pair_says f g m) ↔ (num_at m.width g m.place ≤ num_at 4 f (entry_place i + 14))
   within_says t i e w =
       subst (λ (r : Rule). Holds (own_claim f g m.place m.width r) ↔ (num_at m.width g m.place ≤ num_at 4 f (entry_place i + 14))) (sym e)
-      (subst (λ (d : Found). (num_at m.width g m.place ≤ reach f d) ↔ (num_at m.width g m.place ≤ num_at 4 f (entry_place i + 14))) (sym (found_in f o (num_at 1 g t) i w)) (λ h. h, λ h. h))
+      (subst (λ (d : Option ℕ). (num_at m.width g m.place ≤ reach f d) ↔ (num_at m.width g m.place ≤ num_at 4 f (entry_place i + 14))) (sym (found_in f o (num_at 1 g t) i w)) (λ h. h, λ h. h))
 
 -- ---- the pair's own refusal
 
@@ -106,7 +105,7 @@ module _ (f g : List ℕ) where
   abbrev own : List Fact
   own = pair_facts f g (layout_of g)
 
-  module _ (m : Mark) (e : first_fault own ≡ judged.Refused m) where
+  module _ (m : Mark) (e : first_fault own ≡ Err m) where
     -- THEOREM: the mark is the true reason: it stands in the list, every fact before it holds, and what it says fails.
     pub refused_truly : TrueReason (pair_says f g) own m
     refused_truly = true_reason (pair_says f g) own m (facts_marked f g (layout_of g)) e
@@ -122,15 +121,15 @@ module _ (f g : List ℕ) where
     refused_answered o =
         ((own_is f g o (layout_of g)).is (number_of m.reason) m.place).0 (ap (λ (v : Judged). number_in (shown_of v)) e, ap (λ (v : Judged). place_in (shown_of v)) e)
 
-  by_mark : (t : Fault) (u : Judged) → first_fault own ≡ u → of_pair u ≡ pair.Refused Second t → (m : Mark) × (fault_of m ≡ t) × TrueReason (pair_says f g) own m
-  by_mark t judged.Accepted q e = let z : ◌≡◌ {A = ℕ} 0 1 = cc in absurd (omega arith)
-  by_mark t (judged.Refused m) q e = let x : fault_of m ≡ t = cc in (m, x, refused_truly m q)
+  by_mark : (t : Fault) (u : Judged) → first_fault own ≡ u → of_pair u ≡ Err (record { file = Second; fault = t }) → (m : Mark) × (fault_of m ≡ t) × TrueReason (pair_says f g) own m
+  by_mark t (Ok tt) q e = let z : ◌≡◌ {A = ℕ} 0 1 = cc in absurd (omega arith)
+  by_mark t (Err m) q e = let p : own_fault m ≡ record { file = Second; fault = t } = cc in (m, ap (λ (x : PairFault). x.fault) p, refused_truly m q)
 
   -- THEOREM: where both files obey, the fault that is answered of file 2 is that of a mark which is the true reason of the pair's own refusal.
-  pub own_refusal : Obeys f → obeys.Obeys g → (t : Fault) → pair_of f g ≡ pair.Refused Second t → (m : Mark) × (fault_of m ≡ t) × TrueReason (pair_says f g) own m
+  pub own_refusal : Obeys f → obeys.Obeys g → (t : Fault) → pair_of f g ≡ Err (record { file = Second; fault = t }) → (m : Mark) × (fault_of m ≡ t) × TrueReason (pair_says f g) own m
   unfolding pair_of
   own_refusal o h t e =
       let a = (lookup.verdict_obeys f).1 o in
-      let b : application.verdict_of g ≡ verdict.Accepted = ap shown_of ((accepted_obeys g).1 h) in
+      let b : application.verdict_of g ≡ Ok tt = ap shown_of ((accepted_obeys g).1 h) in
       by_mark t (first_fault own) refl
       (sym (ap (λ (v : Verdict). of_first v (of_second (application.verdict_of g) (of_pair (first_fault own)))) a ∙ ap (λ (v : Verdict). of_second v (of_pair (first_fault own))) b) ∙ e)

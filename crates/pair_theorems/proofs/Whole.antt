@@ -3,11 +3,10 @@ use Prim.Native.Nat.{ℕ}
 use mathlib.Core.Path.{◌≡◌, refl, sym, ap, subst, ◌∙◌}
 use mathlib.Core.Logic.{◌↔◌}
 use mathlib.Core.List.{List}
-use Rattle.verdict.specs.declared.Judged.{Judged}
-use Rattle.verdict.specs.declared.Judged.TheVariants as judged
-use Rattle.verdict.specs.declared.Verdict.{Verdict}
-use Rattle.verdict.specs.declared.Verdict.TheVariants as verdict
-use Rattle.verdict.specs.declared.PairVerdict.{PairVerdict}
+use Rattle.verdict.specs.Verdicts.{Judged}
+use Rattle.std.specs.Prelude.{Ok, Err}
+use Rattle.verdict.specs.Verdicts.{Verdict}
+use Rattle.verdict.specs.Verdicts.{PairVerdict}
 use Rattle.verdict.specs.Facts.{first_fault}
 use Rattle.verdict.specs.Reasons.{shown_of, number_in, place_in, pair_number_in, pair_place_in, pair_file_in}
 use Rattle.verdict.proofs.Questions.{some_number}
@@ -31,16 +30,16 @@ Shows v d n p = (pair_file_in v ≡ d) × ((pair_number_in v ≡ n) × (pair_pla
 -- ---- the three parts of a pair's verdict, over plain verdicts
 
 shows_first : (v : Verdict) (r : PairVerdict) (n p : ℕ) → (n ≡ 0 → ⊥) → number_in v ≡ n → place_in v ≡ p → Shows (of_first v r) 1 n p
-shows_first (verdict.Refused t) r n p z e q = (refl, (e, q))
-shows_first verdict.Accepted r n p z e q = absurd (z (sym e))
+shows_first (Err t) r n p z e q = (refl, (e, q))
+shows_first (Ok tt) r n p z e q = absurd (z (sym e))
 
 shows_second : (v : Verdict) (r : PairVerdict) (n p : ℕ) → (n ≡ 0 → ⊥) → number_in v ≡ n → place_in v ≡ p → Shows (of_second v r) 2 n p
-shows_second (verdict.Refused t) r n p z e q = (refl, (e, q))
-shows_second verdict.Accepted r n p z e q = absurd (z (sym e))
+shows_second (Err t) r n p z e q = (refl, (e, q))
+shows_second (Ok tt) r n p z e q = absurd (z (sym e))
 
 shows_pair : (u : Judged) (n p : ℕ) → (n ≡ 0 → ⊥) → number_in (shown_of u) ≡ n → place_in (shown_of u) ≡ p → Shows (of_pair u) 2 n p
-shows_pair (judged.Refused m) n p z e q = (refl, (e, q))
-shows_pair judged.Accepted n p z e q = absurd (z (sym e))
+shows_pair (Err m) n p z e q = (refl, (e, q))
+shows_pair (Ok tt) n p z e q = absurd (z (sym e))
 
 -- ---- both ways
 
@@ -70,7 +69,7 @@ module _ (f g : List ℕ) where
   back d n p (fault_of_pair i o h z w) =
       let e = ((own_is f g o (layout_of g)).is n p).1 w in
       let x = (lookup.verdict_obeys f).1 o in
-      let y : b ≡ verdict.Accepted = ap shown_of ((accepted_obeys g).1 h) in
+      let y : b ≡ Ok tt = ap shown_of ((accepted_obeys g).1 h) in
       subst (λ (v : Verdict). Shows (of_first v (of_second b (of_pair u))) d n p) (sym x)
       (subst (λ (v : Verdict). Shows (of_second v (of_pair u)) d n p) (sym y) (subst (λ (k : ℕ). Shows (of_pair u) k n p) (sym i) (shows_pair u n p z e.0 e.1)))
 
@@ -78,24 +77,24 @@ module _ (f g : List ℕ) where
   unfolding pair_of
   there d n p s = by_first a refl s
     where
-      by_pair : a ≡ verdict.Accepted → b ≡ verdict.Accepted → (y : Judged) → u ≡ y → Shows (of_pair y) d n p → PairAnswered f g d n p
-      by_pair i j (judged.Refused m) e s =
+      by_pair : a ≡ Ok tt → b ≡ Ok tt → (y : Judged) → u ≡ y → Shows (of_pair y) d n p → PairAnswered f g d n p
+      by_pair i j (Err m) e s =
           let o = (lookup.verdict_obeys f).0 i in
           fault_of_pair (sym s.0) o (verdict_obeys g j) (λ z. some_number m.reason (s.1.0 ∙ z))
           (((own_is f g o (layout_of g)).is n p).0 (ap (λ (x : Judged). number_in (shown_of x)) e ∙ s.1.0, ap (λ (x : Judged). place_in (shown_of x)) e ∙ s.1.1))
-      by_pair i j judged.Accepted e s =
+      by_pair i j (Ok tt) e s =
           accepted (sym s.0) (sym s.1.0) (sym s.1.1) ((pair_accepted f g).0
           (ap (λ (v : Verdict). of_first v (of_second b (of_pair u))) i ∙ ap (λ (v : Verdict). of_second v (of_pair u)) j ∙ ap of_pair e))
 
-      by_second : a ≡ verdict.Accepted → (w : Verdict) → b ≡ w → Shows (of_second w (of_pair u)) d n p → PairAnswered f g d n p
-      by_second i (verdict.Refused t) e s =
+      by_second : a ≡ Ok tt → (w : Verdict) → b ≡ w → Shows (of_second w (of_pair u)) d n p → PairAnswered f g d n p
+      by_second i (Err t) e s =
           fault_of_second (sym s.0) ((lookup.verdict_obeys f).0 i) (λ z. some_number t.reason (s.1.0 ∙ z)) ((second.answer_is g n p).0 (ap number_in e ∙ s.1.0, ap place_in e ∙ s.1.1))
-      by_second i verdict.Accepted e s = by_pair i e u refl s
+      by_second i (Ok tt) e s = by_pair i e u refl s
 
       by_first : (v : Verdict) → a ≡ v → Shows (of_first v (of_second b (of_pair u))) d n p → PairAnswered f g d n p
-      by_first (verdict.Refused t) e s =
+      by_first (Err t) e s =
           fault_of_first (sym s.0) (λ z. some_number t.reason (s.1.0 ∙ z)) ((first.answer_is f n p).0 (ap number_in e ∙ s.1.0, ap place_in e ∙ s.1.1))
-      by_first verdict.Accepted e s = by_second e b refl s
+      by_first (Ok tt) e s = by_second e b refl s
 
 -- THEOREM
 pub pair_is : (f g : List ℕ) (d n p : ℕ) → ((pair_file_in (pair_of f g) ≡ d) × ((pair_number_in (pair_of f g) ≡ n) × (pair_place_in (pair_of f g) ≡ p))) ↔ PairAnswered f g d n p

@@ -1,7 +1,7 @@
 -- A pair as it was read by document 01 alone, before ticket 11 of document 02: X.1's verdict was the one of that time. Nothing of the product
 -- stands on this definition (proofs/Base).
 use Rattle.std.specs.Prelude.{ℕ, List}
-use Rattle.verdict.specs.declared.PairVerdict.{PairVerdict}
+use Rattle.verdict.specs.Verdicts.{PairVerdict}
 use Rattle.verdict.specs.Facts.{first_fault}
 use Rattle.x1_theorems.specs.Base.{verdict_was}
 use Rattle.x2_layout.specs.Layout.{layout_of}

@@ -4,7 +4,7 @@ use Prim.Native.Nat.{ℕ, ◌<◌}
 use mathlib.Core.Path.{refl}
 use mathlib.Core.Bool.{Bool, true, false, cond}
 use mathlib.Core.List.{List, [], ◌∷◌, ◌++◌, flat_map, Memᴰ}
-use Rattle.verdict.specs.declared.Judged.TheVariants.{Refused}
+use Rattle.std.specs.Prelude.{Ok, Err}
 use Rattle.verdict.specs.Facts.{test, Holds, Fact, fact, first_fault, AllHold}
 use Rattle.verdict.specs.Reasons.{shown_of, place_in}
 use Rattle.verdict.proofs.Facts.{Agrees, agrees}
@@ -36,6 +36,6 @@ module _ (n : ℕ) where
   fault_below z [] p = z
   fault_below z (fact c m ∷ fs) p = go (test c) (agrees c) (λ h. fault_below z fs (p.1 h))
     where
-      go : (t : Bool) → Agrees t (Holds c) → (Holds c → place_in (shown_of (first_fault fs)) < n) → place_in (shown_of (cond t (first_fault fs) (Refused m))) < n
+      go : (t : Bool) → Agrees t (Holds c) → (Holds c → place_in (shown_of (first_fault fs)) < n) → place_in (shown_of (cond t (first_fault fs) (Err m))) < n
       go true a ih = ih a
       go false a ih = p.0

@@ -4,11 +4,10 @@ use Prim.Native.Nat.{ℕ, ◌≤◌, ◌<◌}
 use mathlib.Core.Path.{◌≡◌, refl}
 use mathlib.Core.List.{List}
 use native.Mathlib.Omega.{arith}
-use Rattle.verdict.specs.declared.Judged.{Judged}
-use Rattle.verdict.specs.declared.Judged.TheVariants as judged
-use Rattle.verdict.specs.declared.Verdict.{Verdict}
-use Rattle.verdict.specs.declared.Verdict.TheVariants as verdict
-use Rattle.verdict.specs.declared.PairVerdict.{PairVerdict}
+use Rattle.verdict.specs.Verdicts.{Judged}
+use Rattle.std.specs.Prelude.{Ok, Err}
+use Rattle.verdict.specs.Verdicts.{Verdict}
+use Rattle.verdict.specs.Verdicts.{PairVerdict}
 use Rattle.verdict.specs.Facts.{first_fault}
 use Rattle.verdict.specs.Reasons.{shown_of, place_in, pair_place_in}
 use Rattle.envelope.specs.Seal.{most_length}
@@ -41,7 +40,7 @@ module _ (f g : List ℕ) where
   facts_below l most = (omega arith, λ _. records_below g l most (λ at. record_pair f g (kind_at l at) at) (λ at h. spots_below at h (kind_at l at)))
 
   -- the pair's own faults, of an X.2 that is accepted
-  own_place : application.judged_of g ≡ judged.Accepted → place_in (shown_of (first_fault (pair_facts f g (layout_of g)))) < place_over
+  own_place : application.judged_of g ≡ Ok tt → place_in (shown_of (first_fault (pair_facts f g (layout_of g)))) < place_over
   own_place e = fault_below place_over (omega arith) (pair_facts f g (layout_of g)) (facts_below (layout_of g) (stop_most g ((accepted_obeys g).0 e).most))
 
   pub pair_place : pair_place_in (pair_of f g) < place_over
@@ -49,13 +48,13 @@ module _ (f g : List ℕ) where
   pair_place = fault_of_first (geography.verdict_of f) (x1_place f) _ (fault_of_second (application.judged_of g) refl (x2_place g))
     where
       fault_of_first : (v : Verdict) → place_in v < place_over → (r : PairVerdict) → pair_place_in r < place_over → pair_place_in (of_first v r) < place_over
-      fault_of_first verdict.Accepted h r p = p
-      fault_of_first (verdict.Refused t) h r p = h
+      fault_of_first (Ok tt) h r p = p
+      fault_of_first (Err t) h r p = h
 
       of_own : (v : Judged) → place_in (shown_of v) < place_over → pair_place_in (of_pair v) < place_over
-      of_own judged.Accepted h = h
-      of_own (judged.Refused m) h = h
+      of_own (Ok tt) h = h
+      of_own (Err m) h = h
 
       fault_of_second : (v : Judged) → application.judged_of g ≡ v → place_in (shown_of v) < place_over → pair_place_in (of_second (shown_of v) (of_pair (first_fault (pair_facts f g (layout_of g))))) < place_over
-      fault_of_second judged.Accepted e h = of_own (first_fault (pair_facts f g (layout_of g))) (own_place e)
-      fault_of_second (judged.Refused m) e h = h
+      fault_of_second (Ok tt) e h = of_own (first_fault (pair_facts f g (layout_of g))) (own_place e)
+      fault_of_second (Err m) e h = h

@@ -2,9 +2,11 @@
 use Prim.Native.Nat.{ℕ, zero, suc}
 use mathlib.Core.Path.{◌≡◌, refl}
 use mathlib.Core.List.{List, [], ◌∷◌, map}
+use Rattle.std.specs.Prelude.{Result, Ok, Err}
 use Rattle.decimal.specs.Decimal.{all_digits, value_after, is_number, number_in}
 use Rattle.plan_lines.specs.declared.Line.{Line}
 use Rattle.plan_lines.specs.declared.Line.TheVariants as line
+use Rattle.plan_lines.specs.declared.Slip.{Slip}
 use Rattle.plan_lines.specs.declared.Slip.TheVariants as slip
 use Rattle.plan_lines.specs.Lines.{front, words_after, all_offsets, offsets_of, is_from, from_by, route_of, route_by, line_by, line_of, leaves, left_by}
 
@@ -12,40 +14,40 @@ use Rattle.plan_lines.specs.Lines.{front, words_after, all_offsets, offsets_of, 
 
 record Example : Type 0 where
   text : List ℕ
-  says : Line
+  says : Result Line Slip
 
 abbrev examples : List Example
 examples =
     -- '44 80 56'
-    record { text = 0x34 ∷ 0x34 ∷ 0x20 ∷ 0x38 ∷ 0x30 ∷ 0x20 ∷ 0x35 ∷ 0x36 ∷ []; says = line.Route 3 }
+    record { text = 0x34 ∷ 0x34 ∷ 0x20 ∷ 0x38 ∷ 0x30 ∷ 0x20 ∷ 0x35 ∷ 0x36 ∷ []; says = Ok (line.Route 3) }
     -- nothing
-    ∷ record { text = []; says = line.Empty }
+    ∷ record { text = []; says = Ok line.Empty }
     -- '# x'
-    ∷ record { text = 0x23 ∷ 0x20 ∷ 0x78 ∷ []; says = line.Empty }
+    ∷ record { text = 0x23 ∷ 0x20 ∷ 0x78 ∷ []; says = Ok line.Empty }
     -- 'from 44'
-    ∷ record { text = 0x66 ∷ 0x72 ∷ 0x6F ∷ 0x6D ∷ 0x20 ∷ 0x34 ∷ 0x34 ∷ []; says = line.From 44 }
+    ∷ record { text = 0x66 ∷ 0x72 ∷ 0x6F ∷ 0x6D ∷ 0x20 ∷ 0x34 ∷ 0x34 ∷ []; says = Ok (line.From 44) }
     -- 'from 44' between tabs, with a carriage return
-    ∷ record { text = 0x09 ∷ 0x66 ∷ 0x72 ∷ 0x6F ∷ 0x6D ∷ 0x09 ∷ 0x34 ∷ 0x34 ∷ 0x0D ∷ []; says = line.From 44 }
+    ∷ record { text = 0x09 ∷ 0x66 ∷ 0x72 ∷ 0x6F ∷ 0x6D ∷ 0x09 ∷ 0x34 ∷ 0x34 ∷ 0x0D ∷ []; says = Ok (line.From 44) }
     -- '44 80#56'
-    ∷ record { text = 0x34 ∷ 0x34 ∷ 0x20 ∷ 0x38 ∷ 0x30 ∷ 0x23 ∷ 0x35 ∷ 0x36 ∷ []; says = line.Route 2 }
+    ∷ record { text = 0x34 ∷ 0x34 ∷ 0x20 ∷ 0x38 ∷ 0x30 ∷ 0x23 ∷ 0x35 ∷ 0x36 ∷ []; says = Ok (line.Route 2) }
     -- ' 7  007' and a carriage return
-    ∷ record { text = 0x20 ∷ 0x37 ∷ 0x20 ∷ 0x20 ∷ 0x30 ∷ 0x30 ∷ 0x37 ∷ 0x0D ∷ []; says = line.Route 2 }
+    ∷ record { text = 0x20 ∷ 0x37 ∷ 0x20 ∷ 0x20 ∷ 0x30 ∷ 0x30 ∷ 0x37 ∷ 0x0D ∷ []; says = Ok (line.Route 2) }
     -- '0 65535'
-    ∷ record { text = 0x30 ∷ 0x20 ∷ 0x36 ∷ 0x35 ∷ 0x35 ∷ 0x33 ∷ 0x35 ∷ []; says = line.Route 2 }
+    ∷ record { text = 0x30 ∷ 0x20 ∷ 0x36 ∷ 0x35 ∷ 0x35 ∷ 0x33 ∷ 0x35 ∷ []; says = Ok (line.Route 2) }
     -- 'from'
-    ∷ record { text = 0x66 ∷ 0x72 ∷ 0x6F ∷ 0x6D ∷ []; says = line.FromWrong }
+    ∷ record { text = 0x66 ∷ 0x72 ∷ 0x6F ∷ 0x6D ∷ []; says = Err slip.From }
     -- 'from 44 80'
-    ∷ record { text = 0x66 ∷ 0x72 ∷ 0x6F ∷ 0x6D ∷ 0x20 ∷ 0x34 ∷ 0x34 ∷ 0x20 ∷ 0x38 ∷ 0x30 ∷ []; says = line.FromWrong }
+    ∷ record { text = 0x66 ∷ 0x72 ∷ 0x6F ∷ 0x6D ∷ 0x20 ∷ 0x34 ∷ 0x34 ∷ 0x20 ∷ 0x38 ∷ 0x30 ∷ []; says = Err slip.From }
     -- 'from 8o'
-    ∷ record { text = 0x66 ∷ 0x72 ∷ 0x6F ∷ 0x6D ∷ 0x20 ∷ 0x38 ∷ 0x6F ∷ []; says = line.FromWrong }
+    ∷ record { text = 0x66 ∷ 0x72 ∷ 0x6F ∷ 0x6D ∷ 0x20 ∷ 0x38 ∷ 0x6F ∷ []; says = Err slip.From }
     -- '44 8o'
-    ∷ record { text = 0x34 ∷ 0x34 ∷ 0x20 ∷ 0x38 ∷ 0x6F ∷ []; says = line.Wrong slip.Word }
+    ∷ record { text = 0x34 ∷ 0x34 ∷ 0x20 ∷ 0x38 ∷ 0x6F ∷ []; says = Err slip.Word }
     -- '44 65536'
-    ∷ record { text = 0x34 ∷ 0x34 ∷ 0x20 ∷ 0x36 ∷ 0x35 ∷ 0x35 ∷ 0x33 ∷ 0x36 ∷ []; says = line.Wrong slip.Word }
+    ∷ record { text = 0x34 ∷ 0x34 ∷ 0x20 ∷ 0x36 ∷ 0x35 ∷ 0x35 ∷ 0x33 ∷ 0x36 ∷ []; says = Err slip.Word }
     -- '44 from'
-    ∷ record { text = 0x34 ∷ 0x34 ∷ 0x20 ∷ 0x66 ∷ 0x72 ∷ 0x6F ∷ 0x6D ∷ []; says = line.Wrong slip.Word }
+    ∷ record { text = 0x34 ∷ 0x34 ∷ 0x20 ∷ 0x66 ∷ 0x72 ∷ 0x6F ∷ 0x6D ∷ []; says = Err slip.Word }
     -- '44'
-    ∷ record { text = 0x34 ∷ 0x34 ∷ []; says = line.Wrong slip.Few }
+    ∷ record { text = 0x34 ∷ 0x34 ∷ []; says = Err slip.Few }
     ∷ []
 
 examples_read : map (λ (e : Example). line_of e.text) examples ≡ map (λ (e : Example). e.says) examples
@@ -57,11 +59,11 @@ abbrev zeros : ℕ → List ℕ
 zeros zero = []
 zeros (suc n) = 0x30 ∷ 0x20 ∷ zeros n
 
-most_read : line_of (zeros 512) ≡ line.Route 512
+most_read : line_of (zeros 512) ≡ Ok (line.Route 512)
 unfolding front words_after all_offsets is_from from_by route_of route_by line_by is_number all_digits value_after
 most_read = refl
 
-many_read : line_of (zeros 513) ≡ line.Wrong slip.Many
+many_read : line_of (zeros 513) ≡ Err slip.Many
 unfolding front words_after all_offsets is_from from_by route_of route_by line_by is_number all_digits value_after
 many_read = refl
 

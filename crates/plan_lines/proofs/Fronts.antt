@@ -1,12 +1,15 @@
 -- What a text begins with, byte by byte.
-use Prim.Native.Nat.{ℕ, suc, ◌+◌, ◌≤◌, ◌<◌}
+use Prim.Native.Nat.{ℕ, suc, ◌≤◌, ◌<◌}
 use native.Mathlib.Numerals.{add-one}
 use native.Mathlib.Omega.{arith}
-use mathlib.Core.Path.{◌≡◌, refl, ap}
+use mathlib.Core.Path.{◌≡◌, refl, sym, ap, ◌∙◌}
 use mathlib.Core.Bool.{Bool, true, false, cond}
 use mathlib.Core.List.{List, [], ◌∷◌}
-use lib.ListN.{length, get_or, take, drop, drop_of_length-le}
-use lib.Seq.{drop-cons}
+use lib.ListN.{length, take}
+use Rattle.std.specs.List.{AllWithin, HoldsAt}
+use Rattle.std.specs.Prelude.{Option}
+use Rattle.std.specs.Option.{MatchOption, unwrap_or}
+use Rattle.std.proofs.lemmas.Iterator.{index_from_first}
 use Rattle.plan_lines.specs.Lines.{front}
 
 -- ---- what a text begins with
@@ -33,21 +36,24 @@ front_taken t (c ∷ s) = by_test (t c) (front_taken t s)
     by_test true h = ap (λ (r : List ℕ). c ∷ r) h
     by_test false h = refl
 
--- the loop that counts them: k bytes are passed, and those that follow
-abbrev pub Counted : (ℕ → Bool) → List ℕ → ℕ → Type 0
-Counted t s k = length (front t s) ≡ k + length (front t (drop k s))
+pub front_most : (t : ℕ → Bool) (s : List ℕ) → length (front t s) ≤ length s
+unfolding front
+front_most t [] = omega arith
+front_most t (c ∷ s) = by_test (t c) (front_most t s)
+  where
+    by_test : (b : Bool) → length (front t s) ≤ length s → length (cond b (c ∷ front t s) []) ≤ suc (length s)
+    by_test true h = omega arith
+    by_test false h = omega arith
 
-pub count_more : (t : ℕ → Bool) (s : List ℕ) (k : ℕ) → Counted t s k → k < length s → t (get_or s k 0) ≡ true → Counted t s (k + 1)
-count_more t s k i h e =
-    let m : length (front t (drop k s)) ≡ suc (length (front t (drop (k + 1) s))) = rw (drop-cons s k 0 h, add-one k, front_yes t (get_or s k 0) (drop (suc k) s) e) in
-    omega arith
-
-pub count_stop : (t : ℕ → Bool) (s : List ℕ) (k : ℕ) → Counted t s k → k < length s → t (get_or s k 0) ≡ false → k ≡ length (front t s)
-count_stop t s k i h e =
-    let m : length (front t (drop k s)) ≡ 0 = rw (drop-cons s k 0 h, front_no t (get_or s k 0) (drop (suc k) s) e) in
-    omega arith
-
-pub count_end : (t : ℕ → Bool) (s : List ℕ) (k : ℕ) → Counted t s k → length s ≤ k → k ≡ length (front t s)
-count_end t s k i h =
-    let m : length (front t (drop k s)) ≡ 0 = rw (drop_of_length-le s h, no_front t) in
-    omega arith
+-- the first byte for which the test does not hold stands after them
+pub front_position : (t : ℕ → Bool) (s : List ℕ) (r : Option ℕ)
+    → MatchOption r (AllWithin (λ c. t c ≡ true) s 0 (length s)) (λ i. (i < length s) × HoldsAt (λ c. t c ≡ false) s i × AllWithin (λ c. t c ≡ true) s 0 i)
+    → length (front t s) ≡ unwrap_or r (length s)
+front_position t =
+    index_from_first
+    (λ s. length (front t s))
+    (λ c. t c ≡ false)
+    (λ c. t c ≡ true)
+    (ap length (no_front t))
+    (λ c s e. ap length (front_no t c s e))
+    (λ c s e. ap length (front_yes t c s e) ∙ sym (add-one (length (front t s))))

@@ -1,141 +1,116 @@
 -- What words say, by how many there are and whether all of them are offsets.
 use Prim.Native.Nat.{ℕ, ◌+◌, ◌≤◌, ◌<◌}
 use native.Mathlib.Omega.{arith}
-use mathlib.Core.Path.{◌≡◌, refl, sym, ap, ◌∙◌}
-use mathlib.Core.Bool.{Bool, true, false, not, ◌&&◌, and-true, true≢false}
-use mathlib.Core.Logic.{⊎_elim}
+use mathlib.Core.Path.{◌≡◌, refl, ap, ◌∙◌}
+use mathlib.Core.Bool.{Bool, true, false, cond}
 use mathlib.Core.List.{List, [], ◌∷◌}
-use lib.ListN.{length, drop}
-use borrow.Author.Tests.{not-true, not-false, lt-ltb, le-ltb, eq-eqb, ne_eqb}
-use borrow.Author.Rules.{part_to_end}
-use Rattle.decimal.specs.Decimal.{number_in}
-use Rattle.decimal.proofs.Digits.{number_most}
-use Rattle.plan_lines.specs.declared.Line.{Line}
+use lib.ListN.{length}
+use borrow.Author.Tests.{lt-ltb, le-ltb, eq-eqb, ne_eqb}
+use Rattle.std.specs.Prelude.{Option, Result, None, Some, Ok, Err}
+use Rattle.std.specs.Option.{ok_or}
 use Rattle.plan_lines.specs.declared.Line.TheVariants as line
+use Rattle.plan_lines.specs.declared.Slip.{Slip}
 use Rattle.plan_lines.specs.declared.Slip.TheVariants as slip
-use Rattle.plan_lines.specs.declared.Words.{Words}
-use Rattle.plan_lines.specs.Lines.{blanks, word, words_in, offset_most, route_least, route_most, is_offset, all_offsets, count_of, is_from, from_by, route_of, route_by, line_by}
-use Rattle.plan_lines.proofs.WordsIn.{part, part_taken, first_word}
+use Rattle.plan_lines.specs.Lines.{route_least, route_most, is_offset, offset_of, all_offsets, count_of, is_from, from_by, route_of, route_by, line_by}
+use Rattle.plan_lines.proofs.Offsets.{no_offset, some_offset}
 
--- ---- the words that `counted` found
+-- ---- how many offsets there are: the words of `ws` that stand before those of `left` are offsets
 
-module _ (ws : List (List ℕ)) (w : Words) (is : w ≡ count_of ws) where
-  count-is : w.count ≡ length ws
-  count-is = ap (λ (x : Words). x.count) is
+module _ (ws left : List (List ℕ)) (all : all_offsets ws ≡ all_offsets left) where
+  module _ (w : List ℕ) (rest : List (List ℕ)) (e : left ≡ w ∷ rest) where
+    pub count_stop : None ≡ offset_of w → None ≡ count_of ws
+    unfolding all_offsets
+    count_stop o = let a : all_offsets ws ≡ false = all ∙ rw (e, no_offset w o) refl in rw a
 
-  all-is : w.offsets ≡ all_offsets ws
-  all-is = ap (λ (x : Words). x.offsets) is
+    pub count_more : (x : ℕ) → Some x ≡ offset_of w → all_offsets ws ≡ all_offsets rest
+    unfolding all_offsets
+    count_more x o = all ∙ rw (e, (some_offset w x o).0) refl
 
-  -- a word that is no offset
-  pub route_word : not w.offsets ≡ true → line.Wrong slip.Word ≡ route_by ws
-  unfolding route_by
-  route_word o = let a : all_offsets ws ≡ false = sym all-is ∙ not-true w.offsets o in rw a
-
-  -- offsets alone
-  module _ (o : not w.offsets ≡ false) where
-    all_offsets_lem : all_offsets ws ≡ true
-    all_offsets_lem = sym all-is ∙ not-false w.offsets o
-
-    route_of_lem : route_of w.count ≡ route_by ws
-    unfolding route_by
-    route_of_lem = rw (all_offsets_lem, count-is)
-
-    pub route_none : w.count ≡ 0 → line.Empty ≡ route_by ws
-    unfolding route_of
-    route_none e = (rw (eq-eqb w.count 0 e)) ∙ route_of_lem
-
-    pub route_few : (w.count ≡ 0 → ⊥) → w.count < route_least → line.Wrong slip.Few ≡ route_by ws
-    unfolding route_of
-    route_few n l = (rw (ne_eqb w.count 0 n, lt-ltb w.count route_least l)) ∙ route_of_lem
-
-    pub route_many : route_most < w.count → line.Wrong slip.Many ≡ route_by ws
-    unfolding route_of
-    route_many m = (rw (ne_eqb w.count 0 (λ e. omega arith), le-ltb w.count route_least (omega arith), lt-ltb route_most w.count m)) ∙ route_of_lem
-
-    pub route-some : route_least ≤ w.count → w.count ≤ route_most → line.Route w.count ≡ route_by ws
-    unfolding route_of
-    route-some l m = (rw (ne_eqb w.count 0 (λ e. omega arith), le-ltb w.count route_least l, le-ltb route_most w.count m)) ∙ route_of_lem
+  pub count_end : (n : ℕ) → left ≡ [] → length ws ≡ n + length left → Some n ≡ count_of ws
+  unfolding all_offsets
+  count_end n e l =
+      let a : all_offsets ws ≡ true = all ∙ rw e refl in
+      let k : length ws ≡ n = omega (arith, ap length e) in
+      rw (a, k)
 
 -- ---- after 'from'
 
--- a word that is no offset, or not one word
-pub from_word : (ws : List (List ℕ)) (w : Words) → w ≡ count_of ws → not w.offsets ≡ true → line.FromWrong ≡ from_by ws
-unfolding from_by all_offsets
-from_word [] w is o = refl
-from_word (x ∷ []) w is o =
-    let a : (is_offset x && true) ≡ false = sym (all-is (x ∷ []) w is) ∙ not-true w.offsets o in
-    let b : is_offset x ≡ false = sym (and-true (is_offset x)) ∙ a in
-    rw b
-from_word (x ∷ y ∷ ws) w is o = refl
+-- what `ok_or` refuses
+pub ok_or_none : {A : Type 0} (o : Option A) (d e : Slip) (r : Result A Slip) → r ≡ ok_or o d → r ≡ Err e → (o ≡ None) × (e ≡ d)
+ok_or_none None d e r q h = (refl, cc)
+ok_or_none (Some x) d e r q h = let z : ◌≡◌ {A = ℕ} 0 1 = cc in absurd (omega arith)
 
-pub from_count : (ws : List (List ℕ)) (w : Words) → w ≡ count_of ws → (w.count ≡ 1 → ⊥) → line.FromWrong ≡ from_by ws
+pub ok_or_some : {A : Type 0} (o : Option A) (d : Slip) (x : A) (r : Result A Slip) → r ≡ ok_or o d → r ≡ Ok x → o ≡ Some x
+ok_or_some None d x r q h = let z : ◌≡◌ {A = ℕ} 0 1 = cc in absurd (omega arith)
+ok_or_some (Some y) d x r q h = cc
+
+pub from_none : (ws : List (List ℕ)) → ws ≡ [] → Err slip.From ≡ from_by ws
 unfolding from_by
-from_count [] w is n = refl
-from_count (x ∷ []) w is n = absurd (n (count-is (x ∷ []) w is))
-from_count (x ∷ y ∷ ws) w is n = refl
+from_none ws e = rw e
 
--- one offset
-module _ (ws : List (List ℕ)) (w : Words) (is : w ≡ count_of ws) (o : not w.offsets ≡ false) (one : w.count ≡ 1) (x : List ℕ) (rest : List (List ℕ)) (first : ws ≡ x ∷ rest) where
-  one_left : rest ≡ []
-  one_left = none rest (omega (arith, ap length first, count-is ws w is))
-    where
-      none : (l : List (List ℕ)) → length l ≡ 0 → l ≡ []
-      none [] e = refl
-      none (y ∷ l) e = absurd (omega arith)
-
-  one_offset : is_offset x ≡ true
-  unfolding all_offsets
-  one_offset =
-      let a : (is_offset x && true) ≡ true = rw (first, one_left) at (all_offsets_lem ws w is o) in
-      sym (and-true (is_offset x)) ∙ a
-
-  from_most : number_in x offset_most ≤ offset_most
-  from_most = number_most x offset_most one_offset
-
-  from_one : line.From (number_in x offset_most) ≡ from_by ws
+module _ (ws : List (List ℕ)) (w : List ℕ) (rest : List (List ℕ)) (e : ws ≡ w ∷ rest) where
+  pub from_word : None ≡ offset_of w → Err slip.From ≡ from_by ws
   unfolding from_by
-  from_one = rw (first, one_left, one_offset)
+  from_word o = rw e (by_case rest (no_offset w o))
+    where
+      by_case : (rest : List (List ℕ)) → is_offset w ≡ false → Err slip.From ≡ from_by (w ∷ rest)
+      by_case [] n = rw n
+      by_case (x ∷ xs) n = refl
+
+  pub from_more : (x : List ℕ) (xs : List (List ℕ)) → rest ≡ x ∷ xs → Err slip.From ≡ from_by ws
+  unfolding from_by
+  from_more x xs h = rw (e, h)
+
+  pub from_one : (x : ℕ) → Some x ≡ offset_of w → rest ≡ [] → Ok (line.From x) ≡ from_by ws
+  unfolding from_by
+  from_one x o h = let s = some_offset w x o in rw (e, h, s.0, s.1)
+
+-- ---- a route
+
+module _ (ws : List (List ℕ)) where
+  pub route_word : None ≡ count_of ws → Err slip.Word ≡ route_by ws
+  unfolding route_by
+  route_word e = by_test (all_offsets ws) refl e
+    where
+      by_test : (b : Bool) → all_offsets ws ≡ b → None ≡ cond b (Some (length ws)) None → Err slip.Word ≡ cond b (route_of (length ws)) (Err slip.Word)
+      by_test true t q = let z : ◌≡◌ {A = ℕ} 0 1 = cc in absurd (omega arith)
+      by_test false t q = refl
+
+  module _ (n : ℕ) (e : Some n ≡ count_of ws) where
+    route_count : route_of n ≡ route_by ws
+    unfolding route_by
+    route_count = by_test (all_offsets ws) refl e
+      where
+        by_test : (b : Bool) → all_offsets ws ≡ b → Some n ≡ cond b (Some (length ws)) None → route_of n ≡ cond b (route_of (length ws)) (Err slip.Word)
+        by_test true t q = let k : n ≡ length ws = cc in ap route_of k
+        by_test false t q = let z : ◌≡◌ {A = ℕ} 0 1 = cc in absurd (omega arith)
+
+    pub route_none : n ≡ 0 → Ok line.Empty ≡ route_by ws
+    unfolding route_of
+    route_none z = (rw (eq-eqb n 0 z)) ∙ route_count
+
+    pub route_few : ¬ (n ≡ 0) → n < route_least → Err slip.Few ≡ route_by ws
+    unfolding route_of
+    route_few z l = (rw (ne_eqb n 0 z, lt-ltb n route_least l)) ∙ route_count
+
+    pub route_many : route_most < n → Err slip.Many ≡ route_by ws
+    unfolding route_of
+    route_many m = (rw (ne_eqb n 0 (λ z. omega arith), le-ltb n route_least (omega arith), lt-ltb route_most n m)) ∙ route_count
+
+    pub route-some : route_least ≤ n → n ≤ route_most → Ok (line.Route n) ≡ route_by ws
+    unfolding route_of
+    route-some l m = (rw (ne_eqb n 0 (λ z. omega arith), le-ltb n route_least l, le-ltb route_most n m)) ∙ route_count
 
 -- ---- the first word
 
-pub line_none : line_by [] ≡ route_by []
+pub line_none : (ws : List (List ℕ)) → ws ≡ [] → route_by ws ≡ line_by ws
 unfolding line_by route_by route_of all_offsets
-line_none = refl
+line_none ws e = rw e refl
 
-line_from : (x : List ℕ) (ws : List (List ℕ)) → is_from x ≡ true → line_by (x ∷ ws) ≡ from_by ws
+pub line_from : (ws : List (List ℕ)) (w : List ℕ) (rest : List (List ℕ)) → ws ≡ w ∷ rest → is_from w ≡ true → from_by rest ≡ line_by ws
 unfolding line_by
-line_from x ws e = rw e
+line_from ws w rest e f = rw (e, f)
 
-pub line_route : (x : List ℕ) (ws : List (List ℕ)) → is_from x ≡ false → line_by (x ∷ ws) ≡ route_by (x ∷ ws)
+pub line_route : (ws : List (List ℕ)) (w : List ℕ) (rest : List (List ℕ)) → ws ≡ w ∷ rest → is_from w ≡ false → route_by ws ≡ line_by ws
 unfolding line_by
-line_route x ws e = rw e
-
-module _ (text : List ℕ) (at bytes : ℕ) (past : at ≡ length (blanks text)) (is : bytes ≡ length (word (part text at (length text)))) where
-  -- one offset after 'from': it is the first word
-  pub from_first : (w : Words) → w ≡ count_of (words_in text) → not w.offsets ≡ false → w.count ≡ 1 → (x : ℕ) → x ≡ number_in (part text at (at + bytes)) offset_most
-      → (x ≤ offset_most) × (line.From x ≡ from_by (words_in text))
-  from_first w c o one x e =
-      ⊎_elim
-      (λ first.
-      rw e (from_most (words_in text) w c o one (part text at (at + bytes)) (words_in (drop (at + bytes) text)) first, from_one (words_in text) w c o one (part text at (at + bytes)) (words_in (drop (at + bytes) text)) first))
-      (λ none. absurd (omega (arith, count-is (words_in text) w c, ap length none.0)))
-      (first_word text at bytes past is)
-
-  -- no word is not 'from'
-  none_from : bytes ≡ 0 → is_from (part text at (at + bytes)) ≡ false
-  unfolding is_from
-  none_from e = rw (part_taken text at bytes, e)
-
-  pub said_from : (b : Bool) (l : Line) → b ≡ is_from (part text at (at + bytes)) → b ≡ true → l ≡ from_by (words_in (part text (at + bytes) (length text))) → l ≡ line_by (words_in text)
-  said_from b l e t f =
-      ⊎_elim
-      (λ first. rw first (rw (part_to_end text (at + bytes)) at f ∙ sym (line_from (part text at (at + bytes)) (words_in (drop (at + bytes) text)) (sym e ∙ t))))
-      (λ none. absurd (true≢false (sym t ∙ e ∙ none_from none.1)))
-      (first_word text at bytes past is)
-
-  pub said_route : (b : Bool) (l : Line) → b ≡ is_from (part text at (at + bytes)) → b ≡ false → l ≡ route_by (words_in text) → l ≡ line_by (words_in text)
-  said_route b l e t r =
-      ⊎_elim
-      (λ first. rw first (rw first at r ∙ sym (line_route (part text at (at + bytes)) (words_in (drop (at + bytes) text)) (sym e ∙ t))))
-      (λ none. rw none.0 (rw none.0 at r ∙ sym line_none))
-      (first_word text at bytes past is)
+line_route ws w rest e f = rw (e, f)

@@ -2,17 +2,18 @@
 use Prim.Native.Nat.{ℕ, ◌≤◌, ◌<◌}
 use native.Mathlib.Omega.{arith}
 use mathlib.Core.Path.{◌≡◌, refl, sym, ap, ◌∙◌}
-use mathlib.Core.Bool.{Bool, true, false, not, ◌&&◌, and-false}
+use mathlib.Core.Bool.{Bool, true, false, ◌&&◌}
 use mathlib.Core.List.{List, [], ◌∷◌, ◌++◌, append-nil}
 use lib.ListN.{length, drop}
 use lib.Seq.{drop-append_seam}
-use lib.Dec.{leb, ltb, eqb}
+use lib.Dec.{leb, ltb}
 use borrow.Author.Tests.{ltb-true, ne_eqb}
 use Rattle.verdict.proofs.Orders.{and-true}
+use Rattle.std.specs.Prelude.{Ok}
 use Rattle.decimal.specs.Decimal.{is_digit, all_digits, value_after, is_number}
 use Rattle.decimal.proofs.Digits.{digit_range}
 use Rattle.plan_lines.specs.declared.Line.TheVariants as line
-use Rattle.plan_lines.specs.Lines.{front, is_said, said, is_part, word, words_after, words_in, offset_most, is_offset, all_offsets, offsets_of, is_from, count_of, route_least, route_most, route_by, line_by, line_of, left_by}
+use Rattle.plan_lines.specs.Lines.{front, is_said, said, is_part, word, words_after, words_in, offset_most, is_offset, all_offsets, offsets_of, is_from, route_least, route_most, route_by, line_by, line_of, left_by}
 use Rattle.plan_lines.proofs.Fronts.{no_front, front_yes, front_no}
 use Rattle.plan_lines.proofs.WordsIn.{at_blank, word_some}
 use Rattle.plan_lines.proofs.Says.{route-some, line_none, line_route}
@@ -53,7 +54,7 @@ unfolding is_from all_digits
 not_from [] e = refl
 not_from (c ∷ w) e =
     let r = digit_range c (and-true (is_digit c) (all_digits w) e).0 in
-    rw (ne_eqb c 0x66 (λ q. omega arith)) (and-false (eqb (length (c ∷ w)) 4))
+    rw (ne_eqb c 0x66 (λ q. omega arith)) refl
 
 -- ---- what is read of the line
 
@@ -105,8 +106,8 @@ words_spaced (w ∷ ws) e =
 
 -- the words do not begin with 'from'
 line_offsets : (ws : List (List ℕ)) → all_offsets ws ≡ true → line_by ws ≡ route_by ws
-line_offsets [] e = line_none
-line_offsets (w ∷ ws) e = line_route w ws (not_from w (offset_digits w (each w ws e).0).1)
+line_offsets [] e = sym (line_none [] refl)
+line_offsets (w ∷ ws) e = sym (line_route (w ∷ ws) w ws refl (not_from w (offset_digits w (each w ws e).0).1))
 
 -- ---- the theorems
 
@@ -115,8 +116,8 @@ module _ (ws : List (List ℕ)) (all : all_offsets ws ≡ true) (least : route_l
   words_read = rw (spaced_said ws all) (words_spaced ws all)
 
   -- the line is a route of so many offsets
-  pub route_read : line_of (spaced ws) ≡ line.Route (length ws)
-  route_read = rw words_read (line_offsets ws all ∙ sym (route-some ws (count_of ws) refl (ap not all) least most))
+  pub route_read : line_of (spaced ws) ≡ Ok (line.Route (length ws))
+  route_read = rw words_read (line_offsets ws all ∙ sym (route-some ws (length ws) (rw all refl) least most))
 
   -- and where there is room, these are the offsets put in front
   pub offsets_read : (out : List ℕ) → length ws ≤ length out → left_by (spaced ws) out ≡ offsets_of ws ++ drop (length ws) out

@@ -10,57 +10,42 @@ use lib.ListN.{length, drop, set, length-set}
 use lib.Seq.{sets, sets-eq}
 use Rattle.verdict.proofs.Orders.{and-true}
 use Rattle.decimal.specs.Decimal.{number_in}
-use Rattle.decimal.proofs.Digits.{number_most}
-use Rattle.plan_lines.specs.Lines.{word, words_in, offset_most, is_offset, all_offsets, offsets_of}
-use Rattle.plan_lines.proofs.WordsIn.{part, none_left, words_past, words_word}
+use Rattle.std.specs.Option.{unwrap_or}
+use Rattle.plan_lines.specs.Lines.{offset_most, is_offset, offset_of, all_offsets, offsets_of}
 
--- n words stand before a place, and their offsets are stored: what the words from there on store makes the same of `out` as what all words store
--- makes of `first`
-pub record Stored (text first : List ℕ) (at n : ℕ) (out : List ℕ) : Type 0 where
-  pub within : at ≤ length text
-  pub room : n + length (words_in (drop at text)) ≤ length out
-  pub all : all_offsets (words_in (drop at text)) ≡ true
+-- the words `left` of all words are left, and the offsets of the n before them are stored: what those store makes the same of `out` as what all
+-- words store makes of `first`
+pub record Stored (all left : List (List ℕ)) (first : List ℕ) (n : ℕ) (out : List ℕ) : Type 0 where
+  pub room : n + length left ≤ length out
+  pub offsets : all_offsets left ≡ true
   pub kept : length out ≡ length first
-  pub stored : sets out n (offsets_of (words_in (drop at text))) ≡ sets first 0 (offsets_of (words_in text))
+  pub stored : sets out n (offsets_of left) ≡ sets first 0 (offsets_of all)
 
 pub offsets_length : (ws : List (List ℕ)) → length (offsets_of ws) ≡ length ws
 unfolding offsets_of
 offsets_length [] = refl
 offsets_length (w ∷ ws) = ap suc (offsets_length ws)
 
-module _ (text first : List ℕ) (at bytes n : ℕ) (out : List ℕ) (s : Stored text first at n out) (is : bytes ≡ length (word (part text at (length text)))) where
-  pub stored_past : bytes ≡ 0 → at < length text → Stored text first (at + 1) n out
-  stored_past e h =
-      let ws = words_past text at bytes is e in
-      record { within = omega arith; room = rw ws at s.room; all = rw ws at s.all; kept = s.kept; stored = rw ws at s.stored }
-
+module _ (all left : List (List ℕ)) (first : List ℕ) (n : ℕ) (out : List ℕ) (s : Stored all left first n out) where
   -- at a word there is room for its offset
-  pub word_room : (bytes ≡ 0 → ⊥) → n < length out
-  word_room m = omega (arith, rw (words_word text at bytes is m) at s.room)
+  pub word_room : (w : List ℕ) (ws : List (List ℕ)) → left ≡ w ∷ ws → n < length out
+  word_room w ws e = omega (arith, rw e at s.room)
 
-  word_all : (bytes ≡ 0 → ⊥) → (is_offset (part text at (at + bytes)) ≡ true) × (all_offsets (words_in (drop (at + bytes) text)) ≡ true)
-  unfolding all_offsets
-  word_all m = and-true (is_offset (part text at (at + bytes))) (all_offsets (words_in (drop (at + bytes) text))) (rw (words_word text at bytes is m) at s.all)
+  pub stored_word : (w : List ℕ) (ws : List (List ℕ)) → left ≡ w ∷ ws → (x : ℕ) → x ≡ unwrap_or (offset_of w) 0 → Stored all ws first (n + 1) (set out n x)
+  unfolding offsets_of all_offsets
+  stored_word w ws e x is =
+      let a = and-true (is_offset w) (all_offsets ws) (rw e at s.offsets) in
+      let l = length-set out n x in
+      let number : x ≡ number_in w offset_most = rw a.0 at is in
+      record {
+        room = omega (arith, rw e at s.room);
+        offsets = a.1;
+        kept = l ∙ s.kept;
+        stored = rw (add-one n, number) (rw e at s.stored);
+      }
 
-  module _ (x : ℕ) (number : x ≡ number_in (part text at (at + bytes)) offset_most) where
-    pub word_most : (bytes ≡ 0 → ⊥) → x ≤ offset_most
-    word_most m = rw number (number_most (part text at (at + bytes)) offset_most (word_all m).0)
-
-    pub stored_word : (bytes ≡ 0 → ⊥) → at + bytes ≤ length text → Stored text first (at + bytes) (n + 1) (set out n x)
-    unfolding offsets_of
-    stored_word m h =
-        let ws = words_word text at bytes is m in
-        let l = length-set out n x in
-        record {
-          within = h;
-          room = omega (arith, rw ws at s.room);
-          all = (word_all m).1;
-          kept = l ∙ s.kept;
-          stored = rw (add-one n, number) (rw ws at s.stored);
-        }
-
-pub stored_end : (text first : List ℕ) (at n : ℕ) (out : List ℕ) → Stored text first at n out → length text ≤ at → length (words_in text) ≤ length first → out ≡ offsets_of (words_in text) ++ drop (length (words_in text)) first
-unfolding offsets_of
-stored_end text first at n out s h r =
-    let l = offsets_length (words_in text) in
-    (rw (none_left text at h) at s.stored) ∙ sets-eq (offsets_of (words_in text)) first 0 (omega arith) ∙ rw (l, zero-add)
+  pub stored_end : left ≡ [] → length all ≤ length first → out ≡ offsets_of all ++ drop (length all) first
+  unfolding offsets_of
+  stored_end e r =
+      let l = offsets_length all in
+      (rw e at s.stored) ∙ sets-eq (offsets_of all) first 0 (omega arith) ∙ rw (l, zero-add)

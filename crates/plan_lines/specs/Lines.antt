@@ -1,10 +1,11 @@
 -- A line of the engineer's plan, by its bytes (docs/PLAN.md): its words before the comment, and what they say.
-use Rattle.std.specs.Prelude.{ℕ, zero, suc, Bool, true, cond, not, ◌&&◌, ◌||◌, List, [], ◌∷◌, ◌++◌, length, get_or, drop, eqb, leb, ltb}
+use Rattle.std.specs.Prelude.{ℕ, zero, suc, Bool, true, cond, not, ◌&&◌, ◌||◌, List, [], ◌∷◌, ◌++◌, Option, None, Some, Result, Ok, Err, length, drop, eqb, leb, ltb}
+use Rattle.std.specs.Str.{bytes_eq}
 use Rattle.decimal.specs.Decimal.{is_number, number_in}
 use Rattle.plan_lines.specs.declared.Line.{Line}
 use Rattle.plan_lines.specs.declared.Line.TheVariants as line
+use Rattle.plan_lines.specs.declared.Slip.{Slip}
 use Rattle.plan_lines.specs.declared.Slip.TheVariants as slip
-use Rattle.plan_lines.specs.declared.Words.{Words}
 
 -- ---- words
 
@@ -68,9 +69,13 @@ unfoldable pub offsets_of : List (List ℕ) → List ℕ
 offsets_of [] = []
 offsets_of (w ∷ ws) = number_in w offset_most ∷ offsets_of ws
 
--- how many words there are, and whether all of them are offsets
-abbrev pub count_of : List (List ℕ) → Words
-count_of ws = record { count = length ws; offsets = all_offsets ws }
+-- the offset that a word is
+abbrev pub offset_of : List ℕ → Option ℕ
+offset_of w = cond (is_offset w) (Some (number_in w offset_most)) None
+
+-- how many offsets the words are, where all of them are offsets
+abbrev pub count_of : List (List ℕ) → Option ℕ
+count_of ws = cond (all_offsets ws) (Some (length ws)) None
 
 -- ---- what a line says
 
@@ -83,29 +88,29 @@ route_most = 512
 
 -- the word 'from'
 unfoldable pub is_from : List ℕ → Bool
-is_from w = eqb (length w) 4 && (eqb (get_or w 0 0) 0x66 && (eqb (get_or w 1 0) 0x72 && (eqb (get_or w 2 0) 0x6F && eqb (get_or w 3 0) 0x6D)))
+is_from w = bytes_eq w (0x66 ∷ 0x72 ∷ 0x6F ∷ 0x6D ∷ [])
 
 -- what the words after 'from' say
-unfoldable pub from_by : List (List ℕ) → Line
-from_by [] = line.FromWrong
-from_by (w ∷ []) = cond (is_offset w) (line.From (number_in w offset_most)) line.FromWrong
-from_by (w ∷ x ∷ ws) = line.FromWrong
+unfoldable pub from_by : List (List ℕ) → Result Line Slip
+from_by [] = Err slip.From
+from_by (w ∷ []) = cond (is_offset w) (Ok (line.From (number_in w offset_most))) (Err slip.From)
+from_by (w ∷ x ∷ ws) = Err slip.From
 
 -- what n offsets say
-unfoldable pub route_of : ℕ → Line
-route_of n = cond (eqb n 0) line.Empty (cond (ltb n route_least) (line.Wrong slip.Few) (cond (ltb route_most n) (line.Wrong slip.Many) (line.Route n)))
+unfoldable pub route_of : ℕ → Result Line Slip
+route_of n = cond (eqb n 0) (Ok line.Empty) (cond (ltb n route_least) (Err slip.Few) (cond (ltb route_most n) (Err slip.Many) (Ok (line.Route n))))
 
 -- what words say of which the first is not 'from'
-unfoldable pub route_by : List (List ℕ) → Line
-route_by ws = cond (all_offsets ws) (route_of (length ws)) (line.Wrong slip.Word)
+unfoldable pub route_by : List (List ℕ) → Result Line Slip
+route_by ws = cond (all_offsets ws) (route_of (length ws)) (Err slip.Word)
 
 -- 02: Ticket8.4
-unfoldable pub line_by : List (List ℕ) → Line
-line_by [] = line.Empty
+unfoldable pub line_by : List (List ℕ) → Result Line Slip
+line_by [] = Ok line.Empty
 line_by (w ∷ ws) = cond (is_from w) (from_by ws) (route_by (w ∷ ws))
 
 -- what a line says
-abbrev pub line_of : List ℕ → Line
+abbrev pub line_of : List ℕ → Result Line Slip
 line_of s = line_by (words_in (said s))
 
 -- the offsets in a line that is a route
@@ -115,12 +120,11 @@ offsets_in s = offsets_of (words_in (said s))
 -- ---- the offsets lent
 
 -- a route for which there is room is put in front
-unfoldable pub leaves : Line → List ℕ → List ℕ → List ℕ
-leaves (line.Route n) offsets out = cond (leb n (length out)) (offsets ++ drop n out) out
-leaves line.Empty offsets out = out
-leaves (line.From n) offsets out = out
-leaves line.FromWrong offsets out = out
-leaves (line.Wrong s) offsets out = out
+unfoldable pub leaves : Result Line Slip → List ℕ → List ℕ → List ℕ
+leaves (Ok (line.Route n)) offsets out = cond (leb n (length out)) (offsets ++ drop n out) out
+leaves (Ok line.Empty) offsets out = out
+leaves (Ok (line.From n)) offsets out = out
+leaves (Err s) offsets out = out
 
 abbrev pub left_by : List ℕ → List ℕ → List ℕ
 left_by s out = leaves (line_of s) (offsets_in s) out

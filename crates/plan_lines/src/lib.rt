@@ -2,7 +2,8 @@
 #![tactic(auto)]
 
 ghost use Rattle.std.specs.Prelude.{◌≡◌, true, ◌++◌, ◌≤◌, length, drop};
-ghost use Rattle.plan_lines.specs.Lines.{is_blank, before, word, blanks, words_in, is_offset, all_offsets, offsets_of, is_from, count_of, from_by, route_by, line_by, line_of, left_by};
+ghost use Rattle.std.specs.Iterator.{YieldsFirstRef, at_most};
+ghost use Rattle.plan_lines.specs.Lines.{is_blank, before, word, words_in, offset_of, all_offsets, offsets_of, is_from, count_of, from_by, route_by, line_by, line_of, left_by};
 
 use decimal::number_in;
 
@@ -22,28 +23,24 @@ const TAB: u8 = 0x09;
 
 const CARRIAGE_RETURN: u8 = 0x0D;
 
-// How many bytes the word `from` has.
-const FROM_BYTES: usize = 4;
+// The word that a start stands after.
+const FROM: &[u8] = b"from";
 
-// What a line says.
+// What a line says that is not wrong.
 #[derive(Clone, Copy)]
 pub enum Line {
     // nothing
     Empty,
     // `from`: the routes below it are from this start
     From(u16),
-    // `from`, without one offset after it: it is wrong, and sets no start
-    FromWrong,
     // a route of so many offsets
     Route(usize),
-    // it is wrong in another way
-    Wrong(Slip),
 }
 
 // What is wrong with a line.
 #[derive(Clone, Copy)]
 pub enum Slip {
-    // `from` without one offset after it
+    // `from` without one offset after it: it sets no start
     From,
     // a word that is no offset
     Word,
@@ -59,11 +56,24 @@ pub enum Slip {
     NoRoom,
 }
 
-// How many words a text has, and whether all of them are offsets.
-#[derive(Clone, Copy)]
-pub struct Words {
-    pub count: usize,
-    pub offsets: bool,
+// The words of a text, one after the other.
+#[derive(Drop)]
+struct Words<'a>(&'a [u8]);
+
+impl<'a> Iterator for Words<'a> {
+    type Item = &'a [u8];
+
+    ghost next_gives = { YieldsFirstRef (λ s. words_in s.0.now) };
+
+    ghost remaining = { λ s. at_most (length s.0.now) };
+
+    fn next(&mut self) -> Option<&'a [u8]> {
+        let start = self.0.iter().position(|c| !is_blank(*c))?;
+        let text = &self.0[start..];
+        let (word, rest) = text.split_at(word_length(text));
+        self.0 = rest;
+        Some(word)
+    }
 }
 
 // Whether a byte parts words.
@@ -78,29 +88,7 @@ pub fn length_before(text: &[u8], mark: u8) -> usize
     ensures value { result ≡ length (before mark text.now) }
     ensures upper_bound { result ≤ length text.now }
 {
-    let mut k = 0;
-    while k < text.len() {
-        if text[k] == mark {
-            return k;
-        }
-        k += 1;
-    }
-    k
-}
-
-// How many blanks a text begins with.
-fn blanks(text: &[u8]) -> usize
-    ensures value { result ≡ length (blanks text.now) }
-    ensures upper_bound { result ≤ length text.now }
-{
-    let mut k = 0;
-    while k < text.len() {
-        if !is_blank(text[k]) {
-            return k;
-        }
-        k += 1;
-    }
-    k
+    text.iter().position(|c| *c == mark).unwrap_or(text.len())
 }
 
 // How many bytes the word has that a text begins with; 0 where it begins with a blank.
@@ -108,89 +96,52 @@ fn word_length(text: &[u8]) -> usize
     ensures value { result ≡ length (word text.now) }
     ensures upper_bound { result ≤ length text.now }
 {
-    let mut k = 0;
-    while k < text.len() {
-        if is_blank(text[k]) {
-            return k;
-        }
-        k += 1;
-    }
-    k
+    text.iter().position(|c| is_blank(*c)).unwrap_or(text.len())
 }
 
-// Whether a word is an offset.
-fn is_offset(word: &[u8]) -> bool
-    ensures { result ≡ is_offset word.now }
+// The offset that a word is.
+fn offset(word: &[u8]) -> Option<u16>
+    ensures { result ≡ offset_of word.now }
 {
-    number_in(word, OFFSET_MOST) <= OFFSET_MOST as usize
+    u16::try_from(number_in(word, OFFSET_MOST)).ok()
 }
 
-// Whether a word is `from`.
-fn is_from(word: &[u8]) -> bool
-    ensures { result ≡ is_from word.now }
-{
-    if word.len() != FROM_BYTES {
-        return false;
-    }
-    (word[0] == b'f') & ((word[1] == b'r') & ((word[2] == b'o') & (word[3] == b'm')))
-}
-
-// How many words a text has, and whether all of them are offsets.
-fn counted(text: &[u8]) -> Words
+// How many offsets a text has, where all of its words are offsets.
+fn counted(text: &[u8]) -> Option<usize>
     ensures { result ≡ count_of (words_in text.now) }
 {
-    let mut at = 0;
     let mut count = 0;
-    let mut offsets = true;
-    while at < text.len() {
-        let bytes = word_length(&text[at..]);
-        if bytes == 0 {
-            at += 1;
-        } else {
-            offsets = offsets & is_offset(&text[at..at + bytes]);
-            count += 1;
-            at += bytes;
-        }
+    for word in Words(text) {
+        offset(word)?;
+        count += 1;
     }
-    Words { count, offsets }
+    Some(count)
 }
 
-// What a line says that begins with `from`, by the text after that word.
-fn from_line(text: &[u8]) -> Line
-    ensures { result ≡ from_by (words_in text.now) }
+// What a line says that begins with `from`, by the words after it.
+fn from_line(words: Words<'_>) -> Result<Line, Slip>
+    ensures { result ≡ from_by (words_in words.entry.0.now) }
 {
-    let words = counted(text);
-    if !words.offsets {
-        return Line::FromWrong;
+    let mut words = words;
+    let word = words.next().ok_or(Slip::From)?;
+    let start = offset(word).ok_or(Slip::From)?;
+    match words.next() {
+        None => Ok(Line::From(start)),
+        Some(_) => Err(Slip::From),
     }
-    if words.count != 1 {
-        return Line::FromWrong;
-    }
-    let at = blanks(text);
-    let bytes = word_length(&text[at..]);
-    let start = number_in(&text[at..at + bytes], OFFSET_MOST) as u16;
-    Line::From(start)
 }
 
 // What a line of words says that does not begin with `from`.
-fn route_line(text: &[u8]) -> Line
+fn route_line(text: &[u8]) -> Result<Line, Slip>
     ensures { result ≡ route_by (words_in text.now) }
 {
-    let words = counted(text);
-    if !words.offsets {
-        return Line::Wrong(Slip::Word);
+    match counted(text) {
+        None => Err(Slip::Word),
+        Some(0) => Ok(Line::Empty),
+        Some(n) if n < ROUTE_LEAST => Err(Slip::Few),
+        Some(n) if ROUTE_MOST < n => Err(Slip::Many),
+        Some(n) => Ok(Line::Route(n)),
     }
-    let n = words.count;
-    if n == 0 {
-        return Line::Empty;
-    }
-    if n < ROUTE_LEAST {
-        return Line::Wrong(Slip::Few);
-    }
-    if ROUTE_MOST < n {
-        return Line::Wrong(Slip::Many);
-    }
-    Line::Route(n)
 }
 
 // Stores the offsets that the words of a text are. There is room for them.
@@ -199,43 +150,33 @@ fn store(text: &[u8], out: &mut [u16])
     requires text_in_bounds { length (words_in text.now) ≤ length out.old }
     ensures { out.new ≡ offsets_of (words_in text.now) ++ drop (length (words_in text.now)) out.old }
 {
-    let mut at = 0;
-    let mut n = 0;
-    while at < text.len() {
-        let bytes = word_length(&text[at..]);
-        if bytes == 0 {
-            at += 1;
-        } else {
-            out[n] = number_in(&text[at..at + bytes], OFFSET_MOST) as u16;
-            n += 1;
-            at += bytes;
-        }
+    for (k, word) in Words(text).enumerate() {
+        out[k] = offset(word).unwrap_or(0);
     }
 }
 
 // What a line says, without its comment.
-fn said_line(text: &[u8]) -> Line
+fn said_line(text: &[u8]) -> Result<Line, Slip>
     ensures { result ≡ line_by (words_in text.now) }
 {
-    let at = blanks(text);
-    let bytes = word_length(&text[at..]);
-    if is_from(&text[at..at + bytes]) {
-        return from_line(&text[at + bytes..]);
+    let mut words = Words(text);
+    match words.next() {
+        Some(word) if word == FROM => from_line(words),
+        _ => route_line(text),
     }
-    route_line(text)
 }
 
 // What a line says. Where it is a route for which there is room, its offsets are put in front of `out`.
-pub fn read(line: &[u8], out: &mut [u16]) -> Line
+pub fn read(line: &[u8], out: &mut [u16]) -> Result<Line, Slip>
     ensures value { result ≡ line_of line.now }
     ensures out_after { out.new ≡ left_by line.now out.old }
 {
     let text = &line[..length_before(line, COMMENT)];
-    let says = said_line(text);
+    let says = said_line(text)?;
     if let Line::Route(n) = says {
         if n <= out.len() {
             store(text, out);
         }
     }
-    says
+    Ok(says)
 }

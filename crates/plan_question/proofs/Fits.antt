@@ -4,24 +4,24 @@ use native.Mathlib.Omega.{arith}
 use mathlib.Core.Path.{◌≡◌, refl, sym, ap, ◌∙◌}
 use mathlib.Core.List.{List, ◌++◌}
 use lib.ListN.{length, drop, length-append, length-drop}
+use Rattle.std.specs.Prelude.{Result, Ok}
+use Rattle.verdict.specs.declared.Fault.{Fault}
 use Rattle.route_walks.specs.declared.Tally.{Tally}
 use Rattle.route_walks.specs.Walks.{words_of}
-use Rattle.route_lister.specs.declared.RoutesAnswer.{RoutesAnswer}
-use Rattle.route_lister.specs.declared.RoutesAnswer.TheVariants as routes
+use Rattle.route_lister.specs.Answered.{RoutesAnswer}
+use Rattle.std.specs.Prelude.{Ok, Err}
 use Rattle.route_question.specs.Routes.{routes_asked}
 use Rattle.plan_routes.specs.Routes.{routes_in}
 use Rattle.plan_question.specs.declared.Compared.{Compared as Counts}
-use Rattle.plan_question.specs.declared.PlanAnswer.{PlanAnswer}
-use Rattle.plan_question.specs.declared.PlanAnswer.TheVariants.{Compared}
 use Rattle.plan_question.specs.Compared.{most_room, routes_from, counts_of, compared_by, compared_asked, leaves_by, left_compared}
 use Rattle.plan_question.proofs.Told.{told}
 
-pub compared_by_lem : (plan rs : List (List ℕ)) (start : ℕ) (c : Counts) (a : RoutesAnswer) → compared_by plan start rs a ≡ Compared c → (t : Tally) × (a ≡ routes.Listed t) × (c ≡ counts_of plan start rs t)
+pub compared_by_lem : (plan rs : List (List ℕ)) (start : ℕ) (c : Counts) (a : RoutesAnswer) → compared_by plan start rs a ≡ Ok c → (t : Tally) × (a ≡ Ok t) × (c ≡ counts_of plan start rs t)
 unfolding compared_by
-compared_by_lem plan rs start c (routes.Listed t) e = (t, refl, cc)
-compared_by_lem plan rs start c (routes.Refused u) e = let z : ◌≡◌ {A = ℕ} 0 1 = cc in absurd (omega arith)
+compared_by_lem plan rs start c (Ok t) e = (t, refl, cc)
+compared_by_lem plan rs start c (Err u) e = let z : ◌≡◌ {A = ℕ} 0 1 = cc in absurd (omega arith)
 
-pub words_fit : (f plan list list' : List ℕ) (start limit budget : ℕ) (a : PlanAnswer) (c : Counts) → a ≡ compared_asked f start limit budget plan (length list) → a ≡ Compared c
+pub words_fit : (f plan list list' : List ℕ) (start limit budget : ℕ) (a : Result Counts Fault) (c : Counts) → a ≡ compared_asked f start limit budget plan (length list) → a ≡ Ok c
     → list' ≡ left_compared f start limit budget list → c.words ≤ length list'
 unfolding leaves_by
 words_fit f plan list list' start limit budget a c e q l =

@@ -8,9 +8,8 @@ ghost use Rattle.plan_routes.specs.Routes.{routes_in};
 ghost use Rattle.plan_question.specs.Compared.{counts_of, compared_in, compared_asked, left_compared_in, left_compared};
 ghost use Rattle.plan_question.specs.inner.Words.{words_in};
 
-use octets::{least, u16_at};
+use octets::u16_at;
 use plan_routes::apart;
-use route_lister::RoutesAnswer;
 use route_question::{Engine, routes_by};
 use route_walks::{Tally, WORD_SIZE};
 use verdict::Fault;
@@ -29,20 +28,12 @@ pub struct Compared {
     pub extra: usize,
 }
 
-#[derive(Clone, Copy)]
-pub enum PlanAnswer {
-    Compared(Compared),
-    Refused(Fault),
-}
-
 // The words that stand in some bytes, two for each, low byte first.
 fn read_words(bytes: &[u8], words: &mut [u16])
     ensures { words.new ≡ words_in (length words.old) bytes.now }
 {
-    let mut k = 0;
-    while k < words.len() {
-        words[k] = u16_at(bytes, WORD_SIZE * k) as u16;
-        k += 1;
+    for (k, word) in words.iter_mut().enumerate() {
+        *word = u16_at(bytes, WORD_SIZE * k) as u16;
     }
 }
 
@@ -73,14 +64,14 @@ fn answered(
     plan: &[u16],
     list: &mut [u16],
     lent: &mut [u8],
-) -> PlanAnswer
+) -> Result<Compared, Fault>
     requires { room_of lent.old ≤ length list.old }
     ensures value { result ≡ compared_in f.now start limit budget plan.now (room_of lent.old) }
     ensures list_after { list.new ≡ left_compared_in f.now start limit budget list.old (room_of lent.old) }
 {
     match routes_by(engine, f, start, limit, budget, lent) {
-        RoutesAnswer::Listed(t) => PlanAnswer::Compared(counted(lent, t, start, plan, list)),
-        RoutesAnswer::Refused(fault) => PlanAnswer::Refused(fault),
+        Ok(t) => Ok(counted(lent, t, start, plan, list)),
+        Err(fault) => Err(fault),
     }
 }
 
@@ -94,12 +85,12 @@ pub fn compare(
     budget: usize,
     plan: &[u16],
     list: &mut [u16],
-) -> PlanAnswer
+) -> Result<Compared, Fault>
     ensures value { result ≡ compared_asked f.now start limit budget plan.now (length list.old) }
     ensures list_after { list.new ≡ left_compared f.now start limit budget list.old }
 {
     let mut bytes = [0u8; MOST_BYTES];
-    let lent = WORD_SIZE * least(list.len(), MOST_ROOM);
+    let lent = WORD_SIZE * list.len().min(MOST_ROOM);
     answered(
         engine,
         f,

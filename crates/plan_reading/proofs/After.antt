@@ -1,15 +1,17 @@
 -- What a line leaves: as many words as before, among which the words of the routes end.
-use Prim.Native.Nat.{ℕ, suc, ◌+◌, ◌-◌, min, ◌≤◌}
+use Prim.Native.Nat.{ℕ, suc, ◌+◌, ◌-◌, ◌≤◌}
 use native.Mathlib.Omega.{arith}
-use mathlib.Core.Path.{◌≡◌, refl, sym, ap, ◌∙◌}
+use mathlib.Core.Path.{◌≡◌, refl, ap, ◌∙◌}
 use mathlib.Core.Bool.{Bool, true, false}
-use mathlib.Core.List.{List, [], ◌∷◌, ◌++◌}
+use mathlib.Core.List.{List, ◌∷◌, ◌++◌}
 use lib.ListN.{length, take, drop, length-append, length-drop}
-use lib.Seq.{length-take-le, take_at}
-use lib.Dec.{leb}
+use lib.Seq.{length-take-le}
 use borrow.Author.Tests.{leb-false}
+use Rattle.std.specs.Prelude.{Result, Ok, Err}
 use Rattle.plan_lines.specs.declared.Line.{Line}
 use Rattle.plan_lines.specs.declared.Line.TheVariants as line
+use Rattle.plan_lines.specs.declared.Slip.{Slip}
+use Rattle.plan_lines.specs.declared.Slip.TheVariants as slip
 use Rattle.plan_lines.specs.Lines.{line_of, offsets_in}
 use Rattle.plan_routes.specs.Routes.{among}
 use Rattle.plan_reading.specs.declared.Reading.{Reading}
@@ -44,13 +46,13 @@ module _ (route : List ℕ) (r : Reading) (plan : List ℕ) where
       by_tests false false true q = (refl, h)
       by_tests false false false q = (laid_length route (end_of r plan) plan (room_left q), room_left q)
 
-  line_within : (l : Line) → r.words ≤ length plan → (length (left_by l route r plan) ≡ length plan) × ((taken_by l route r plan).reading.words ≤ length plan)
+  line_within : (l : Result Line Slip) → r.words ≤ length plan → (length (left_by l route r plan) ≡ length plan) × ((taken_by l route r plan).reading.words ≤ length plan)
   unfolding taken_by left_by
-  line_within line.Empty h = (refl, h)
-  line_within (line.From start) h = (refl, h)
-  line_within line.FromWrong h = (refl, h)
-  line_within (line.Route n) h = route_within h
-  line_within (line.Wrong s) h = (refl, h)
+  line_within (Ok line.Empty) h = (refl, h)
+  line_within (Ok (line.From start)) h = (refl, h)
+  line_within (Ok (line.Route n)) h = route_within h
+  line_within (Err slip.From) h = (refl, h)
+  line_within (Err s) h = (refl, h)
 
 -- THEOREM: a plan keeps its length, and the words of its routes end inside it
 pub within : (text : List ℕ) (r : Reading) (plan : List ℕ) → r.words ≤ length plan → (length (plan_after text r plan) ≡ length plan) × ((taken_of text r plan).reading.words ≤ length plan)

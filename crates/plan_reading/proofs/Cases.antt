@@ -1,34 +1,19 @@
 -- What a route says with the lines above it, by the three tests.
-use Prim.Native.Nat.{ℕ, suc, ◌+◌, ◌-◌, min, ◌≤◌, ◌<◌}
+use Prim.Native.Nat.{ℕ, ◌+◌, ◌-◌, min, ◌≤◌, ◌<◌}
 use native.Mathlib.Numerals.{add-one}
-use native.Mathlib.Omega.{arith}
-use mathlib.Core.Path.{◌≡◌, refl, sym, ap, ◌∙◌}
-use mathlib.Core.Bool.{Bool, true, false, not, ◌&&◌, true≢false}
+use mathlib.Core.Path.{◌≡◌, refl, sym, ◌∙◌}
+use mathlib.Core.Bool.{Bool, true, false}
 use mathlib.Core.List.{List, [], ◌∷◌}
 use lib.ListN.{length, get_or, take}
-use lib.Dec.{eqb, leb}
-use borrow.Author.Tests.{ne_eqb, le-leb, lt-leb}
+use lib.Dec.{leb}
+use borrow.Author.Tests.{le-leb, lt-leb}
+use Rattle.std.specs.Prelude.{Ok}
 use Rattle.plan_lines.specs.declared.Slip.TheVariants as slip
-use Rattle.plan_routes.specs.Routes.{routes_in, among, starts_at}
+use Rattle.plan_routes.specs.Routes.{routes_in, among}
 use Rattle.plan_reading.specs.declared.Reading.{Reading}
 use Rattle.plan_reading.specs.declared.Said.TheVariants as said
 use Rattle.plan_reading.specs.declared.Taken.{Taken}
-use Rattle.plan_reading.specs.Reading.{no_start, is_elsewhere, first_of, laid, wrong_by, route_by, route_taken, route_laid, route_left}
-
--- ---- where a route starts
-
-pub none_holds : (route : List ℕ) (start : ℕ) → start ≡ no_start → false ≡ is_elsewhere route start
-none_holds route start e = rw e refl
-
-pub no_objects : (route : List ℕ) (start : ℕ) → (start ≡ no_start → ⊥) → length route ≡ 0 → true ≡ is_elsewhere route start
-unfolding starts_at
-no_objects [] start n e = rw (ne_eqb start no_start n) refl
-no_objects (x ∷ route) start n e = absurd (omega arith)
-
-pub by_first : (route : List ℕ) (start : ℕ) → (start ≡ no_start → ⊥) → (length route ≡ 0 → ⊥) → not (eqb (get_or route 0 0) start) ≡ is_elsewhere route start
-unfolding starts_at
-by_first [] start n e = absurd (e refl)
-by_first (x ∷ route) start n e = rw (ne_eqb start no_start n) refl
+use Rattle.plan_reading.specs.Reading.{is_elsewhere, first_of, laid, wrong_by, route_by, route_taken, route_laid, route_left}
 
 pub first-is : (route : List ℕ) → get_or route 0 0 ≡ first_of route
 unfolding first_of
@@ -61,7 +46,7 @@ module _ (route : List ℕ) (r : Reading) (plan : List ℕ) (t : Taken) (b : Boo
           (e ∙ rw (there, seen, new, f) refl, rw (there, seen, new, f) refl)
 
       pub taken : (after : List ℕ) → length route < length plan - at → after ≡ laid route at plan
-          → t ≡ record { said = said.Route (get_or route 0 0); reading = record { start = r.start; words = at + (length route + 1) } }
+          → t ≡ record { said = Ok (said.Route (get_or route 0 0)); reading = record { start = r.start; words = at + (length route + 1) } }
           → (t ≡ route_taken route r plan) × (after ≡ route_left route r plan)
       unfolding route_by route_laid
       taken after h l e =

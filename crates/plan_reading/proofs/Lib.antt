@@ -1,4 +1,3 @@
-pub mod Laid
 pub mod Cases
 pub mod Lines
 pub mod After

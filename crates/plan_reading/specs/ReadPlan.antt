@@ -1,10 +1,11 @@
 -- A plan that is read from its first line on (docs/PLAN.md): the lines of its text, each after those above it.
-use Rattle.std.specs.Prelude.{ℕ, zero, suc, Bool, true, List, [], ◌∷◌, length, set}
+use Rattle.std.specs.Prelude.{ℕ, zero, suc, Bool, true, List, [], ◌∷◌, None, Result, Ok, Err, length, set}
 use Rattle.plan_lines.specs.Lines.{before}
+use Rattle.plan_lines.specs.declared.Slip.{Slip}
 use Rattle.plan_reading.specs.declared.Reading.{Reading}
 use Rattle.plan_reading.specs.declared.Said.{Said}
 use Rattle.plan_reading.specs.declared.Said.TheVariants as said
-use Rattle.plan_reading.specs.Reading.{no_start, taken_of, plan_after}
+use Rattle.plan_reading.specs.Reading.{taken_of, plan_after}
 
 -- ---- the lines of a text
 
@@ -31,10 +32,10 @@ pub record ReadPlan : Type 0 where
 
 -- no line is read yet
 abbrev pub unread : List ℕ → ReadPlan
-unread lent = record { reading = record { start = no_start; words = 0 }; lent = lent }
+unread lent = record { reading = record { start = None; words = 0 }; lent = lent }
 
 -- what the next line says, and the plan after it
-abbrev pub said_by : List ℕ → ReadPlan → Said
+abbrev pub said_by : List ℕ → ReadPlan → Result Said Slip
 said_by line p = (taken_of line p.reading p.lent).said
 
 abbrev pub after_line : List ℕ → ReadPlan → ReadPlan
@@ -52,11 +53,11 @@ plan_read text lent = read_lines (lines_in text) (unread lent)
 -- ---- the starts that are named
 
 -- a mark for each offset; a line that names a start, or has a route from it, marks it
-unfoldable pub named_by : Said → List Bool → List Bool
-named_by said.Nothing named = named
-named_by (said.Start start) named = set named start true
-named_by (said.Route start) named = set named start true
-named_by (said.Wrong slip) named = named
+unfoldable pub named_by : Result Said Slip → List Bool → List Bool
+named_by (Ok said.Nothing) named = named
+named_by (Ok (said.Start start)) named = set named start true
+named_by (Ok (said.Route start)) named = set named start true
+named_by (Err slip) named = named
 
 -- 02: Ticket8.4
 unfoldable pub named_after : List (List ℕ) → ReadPlan → List Bool → List Bool

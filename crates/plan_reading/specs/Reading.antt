@@ -1,6 +1,6 @@
 -- A plan, read line by line (docs/PLAN.md): what a line says with those above it. `r` is how far the plan is read: the start that holds, and
 -- how many words the routes take; these words stand at the front of `plan`.
-use Rattle.std.specs.Prelude.{ℕ, suc, ◌+◌, ◌-◌, min, Bool, true, false, not, ◌&&◌, List, [], ◌∷◌, ◌++◌, length, take, drop, eqb, leb}
+use Rattle.std.specs.Prelude.{ℕ, suc, ◌+◌, ◌-◌, min, Bool, true, false, not, List, [], ◌∷◌, ◌++◌, Option, None, Some, Result, Ok, Err, length, take, drop, leb}
 use Rattle.plan_lines.specs.declared.Line.{Line}
 use Rattle.plan_lines.specs.declared.Line.TheVariants as line
 use Rattle.plan_lines.specs.declared.Slip.{Slip}
@@ -11,15 +11,12 @@ use Rattle.plan_reading.specs.declared.Reading.{Reading}
 use Rattle.plan_reading.specs.declared.Said.TheVariants as said
 use Rattle.plan_reading.specs.declared.Taken.{Taken}
 
--- in place of a start: none holds
-abbrev pub no_start : ℕ
-no_start = 65536
-
 -- ---- a route with the lines above it
 
 -- a start holds, and the route starts elsewhere
-abbrev pub is_elsewhere : List ℕ → ℕ → Bool
-is_elsewhere route start = not (eqb start no_start) && not (starts_at start route)
+unfoldable pub is_elsewhere : List ℕ → Option ℕ → Bool
+is_elsewhere route None = false
+is_elsewhere route (Some start) = not (starts_at start route)
 
 -- where the words of the routes end, and these routes
 abbrev pub end_of : Reading → List ℕ → ℕ
@@ -41,7 +38,7 @@ first_of (x ∷ route) = x
 
 -- a wrong line is passed over
 abbrev pub wrong_by : Slip → Reading → Taken
-wrong_by s r = record { said = said.Wrong s; reading = r }
+wrong_by s r = record { said = Err s; reading = r }
 
 -- a route that starts elsewhere, stands among those so far, or finds no room is wrong; else it takes its words
 unfoldable pub route_by : Bool → Bool → Bool → List ℕ → Reading → List ℕ → Taken
@@ -49,7 +46,7 @@ route_by true again full route r plan = wrong_by slip.Elsewhere r
 route_by false true full route r plan = wrong_by slip.Again r
 route_by false false true route r plan = wrong_by slip.NoRoom r
 route_by false false false route r plan =
-    record { said = said.Route (first_of route); reading = record { start = r.start; words = end_of r plan + suc (length route) } }
+    record { said = Ok (said.Route (first_of route)); reading = record { start = r.start; words = end_of r plan + suc (length route) } }
 
 abbrev pub route_taken : List ℕ → Reading → List ℕ → Taken
 route_taken route r plan =
@@ -57,12 +54,12 @@ route_taken route r plan =
 
 -- a line 'from' names a start and sets it; after a wrong one no start holds
 -- 02: Ticket8.4
-unfoldable pub taken_by : Line → List ℕ → Reading → List ℕ → Taken
-taken_by line.Empty route r plan = record { said = said.Nothing; reading = r }
-taken_by (line.From start) route r plan = record { said = said.Start start; reading = record { start = start; words = r.words } }
-taken_by line.FromWrong route r plan = record { said = said.Wrong slip.From; reading = record { start = no_start; words = r.words } }
-taken_by (line.Route n) route r plan = route_taken route r plan
-taken_by (line.Wrong s) route r plan = wrong_by s r
+unfoldable pub taken_by : Result Line Slip → List ℕ → Reading → List ℕ → Taken
+taken_by (Ok line.Empty) route r plan = record { said = Ok said.Nothing; reading = r }
+taken_by (Ok (line.From start)) route r plan = record { said = Ok (said.Start start); reading = record { start = Some start; words = r.words } }
+taken_by (Ok (line.Route n)) route r plan = route_taken route r plan
+taken_by (Err slip.From) route r plan = record { said = Err slip.From; reading = record { start = None; words = r.words } }
+taken_by (Err s) route r plan = wrong_by s r
 
 abbrev pub taken_of : List ℕ → Reading → List ℕ → Taken
 taken_of text r plan = taken_by (line_of text) (offsets_in text) r plan
@@ -83,12 +80,11 @@ abbrev pub route_left : List ℕ → Reading → List ℕ → List ℕ
 route_left route r plan =
     route_laid (is_elsewhere route r.start) (among (routes_so_far r plan) route) (is_full route r plan) route (end_of r plan) plan
 
-unfoldable pub left_by : Line → List ℕ → Reading → List ℕ → List ℕ
-left_by line.Empty route r plan = plan
-left_by (line.From start) route r plan = plan
-left_by line.FromWrong route r plan = plan
-left_by (line.Route n) route r plan = route_left route r plan
-left_by (line.Wrong s) route r plan = plan
+unfoldable pub left_by : Result Line Slip → List ℕ → Reading → List ℕ → List ℕ
+left_by (Ok line.Empty) route r plan = plan
+left_by (Ok (line.From start)) route r plan = plan
+left_by (Ok (line.Route n)) route r plan = route_left route r plan
+left_by (Err s) route r plan = plan
 
 abbrev pub plan_after : List ℕ → Reading → List ℕ → List ℕ
 plan_after text r plan = left_by (line_of text) (offsets_in text) r plan

@@ -5,21 +5,17 @@ ghost use Rattle.std.specs.Prelude.{◌≡◌, suc, ◌+◌, ◌≤◌, ◌<◌,
 ghost use Rattle.plan_lines.specs.Lines.{route_most};
 ghost use Rattle.plan_reading.specs.Reading.{is_elsewhere, laid, wrong_by, route_taken, route_left, taken_of, plan_after};
 
-use octets::least;
 use plan_lines::{Line, ROUTE_MOST, Slip, read};
 use plan_routes::stands;
 
-// In place of a start, which is an offset: none holds.
-pub const NO_START: usize = 65536;
-
-// How far a plan is read: the start that the last line `from` has set, and how many words the routes take.
+// How far a plan is read: the start that the last line `from` has set, if one holds, and how many words the routes take.
 #[derive(Clone, Copy)]
 pub struct Reading {
-    pub start: usize,
+    pub start: Option<usize>,
     pub words: usize,
 }
 
-// What a line says with those above it.
+// What a line that is not wrong says with those above it.
 #[derive(Clone, Copy)]
 pub enum Said {
     Nothing,
@@ -27,27 +23,24 @@ pub enum Said {
     Start(u16),
     // it has a route, from this start
     Route(u16),
-    Wrong(Slip),
 }
 
 // What a line says, and how far the plan is read after it.
 #[derive(Clone, Copy)]
 pub struct Taken {
-    pub said: Said,
+    pub said: Result<Said, Slip>,
     pub reading: Reading,
 }
 
 // Whether a route starts elsewhere than where the routes below the last line `from` do.
-fn is_elsewhere(route: &[u16], start: usize) -> bool
+fn is_elsewhere(route: &[u16], start: Option<usize>) -> bool
     ensures { result ≡ is_elsewhere route.now start }
 {
-    if start == NO_START {
-        return false;
+    match (start, route) {
+        (None, _) => false,
+        (Some(_), []) => true,
+        (Some(start), [first, ..]) => usize::from(*first) != start,
     }
-    if route.len() == 0 {
-        return true;
-    }
-    route[0] as usize != start
 }
 
 // Puts the words of a route into a plan, at a place. There is room for them.
@@ -57,11 +50,7 @@ fn put(route: &[u16], plan: &mut [u16], at: usize)
     ensures { plan.new ≡ laid route.now at plan.old }
 {
     plan[at] = route.len() as u16;
-    let mut k = 0;
-    while k < route.len() {
-        plan[at + 1 + k] = route[k];
-        k += 1;
-    }
+    plan[at + 1..at + 1 + route.len()].copy_from_slice(route);
 }
 
 // A wrong line, which is passed over.
@@ -69,7 +58,7 @@ fn wrong(slip: Slip, r: Reading) -> Taken
     ensures { result ≡ wrong_by slip r }
 {
     Taken {
-        said: Said::Wrong(slip),
+        said: Err(slip),
         reading: r,
     }
 }
@@ -83,7 +72,7 @@ fn take_route(route: &[u16], r: Reading, plan: &mut [u16]) -> Taken
     if is_elsewhere(route, r.start) {
         return wrong(Slip::Elsewhere, r);
     }
-    let at = least(r.words, plan.len());
+    let at = r.words.min(plan.len());
     if stands(&plan[..at], route) {
         return wrong(Slip::Again, r);
     }
@@ -92,7 +81,7 @@ fn take_route(route: &[u16], r: Reading, plan: &mut [u16]) -> Taken
     }
     put(route, plan, at);
     Taken {
-        said: Said::Route(route[0]),
+        said: Ok(Said::Route(route[0])),
         reading: Reading {
             start: r.start,
             words: at + (route.len() + 1),
@@ -107,26 +96,26 @@ fn take_with(line: &[u8], r: Reading, plan: &mut [u16], route: &mut [u16]) -> Ta
     ensures plan_after { plan.new ≡ plan_after line.now r plan.old }
 {
     match read(line, route) {
-        Line::Empty => Taken {
-            said: Said::Nothing,
+        Ok(Line::Empty) => Taken {
+            said: Ok(Said::Nothing),
             reading: r,
         },
-        Line::From(start) => Taken {
-            said: Said::Start(start),
+        Ok(Line::From(start)) => Taken {
+            said: Ok(Said::Start(start)),
             reading: Reading {
-                start: start as usize,
+                start: Some(usize::from(start)),
                 words: r.words,
             },
         },
-        Line::FromWrong => Taken {
-            said: Said::Wrong(Slip::From),
+        Ok(Line::Route(n)) => take_route(&route[..n], r, plan),
+        Err(Slip::From) => Taken {
+            said: Err(Slip::From),
             reading: Reading {
-                start: NO_START,
+                start: None,
                 words: r.words,
             },
         },
-        Line::Route(n) => take_route(&route[..n], r, plan),
-        Line::Wrong(slip) => wrong(slip, r),
+        Err(slip) => wrong(slip, r),
     }
 }
 

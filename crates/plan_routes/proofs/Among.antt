@@ -1,45 +1,37 @@
 -- Whether a route stands among others, and how many do not, by the first route and those after it; and whether a route is apart from others.
-use Prim.Native.Nat.{ℕ, suc}
+use Prim.Native.Nat.{ℕ, ◌+◌, ◌≤◌, ◌<◌}
 use native.Mathlib.Omega.{arith}
-use mathlib.Core.Path.{◌≡◌, refl}
-use mathlib.Core.Bool.{Bool, true, false, not}
+use mathlib.Core.Path.{◌≡◌, refl, ap}
+use mathlib.Core.Bool.{Bool, true, false, cond, ◌||◌}
 use mathlib.Core.List.{List, [], ◌∷◌}
 use lib.ListN.{length, get_or}
-use borrow.Author.Tests.{eq-eqb, ne_eqb}
+use lib.Dec.{eqb}
+use Rattle.std.specs.List.{list_any, filter}
 use Rattle.plan_routes.specs.Routes.{same_route, among, starts_at, is_apart, apart}
 
--- t says it of the first
-module _ (rs qs : List (List ℕ)) (q : List ℕ) (e : rs ≡ q ∷ qs) (t : Bool) where
-  pub among_here : (r : List ℕ) → t ≡ same_route q r → t ≡ true → among rs r ≡ true
-  unfolding among
-  among_here r s h = rw (e, ← s, h) refl
+-- as a test that some of them pass, and as a test that picks some
+pub among_any : (rs : List (List ℕ)) (r : List ℕ) → list_any (λ q. same_route q r) rs ≡ among rs r
+unfolding among
+among_any [] r = refl
+among_any (q ∷ rs) r = ap (λ (t : Bool). same_route q r || t) (among_any rs r)
 
-  pub among_later : (r : List ℕ) → t ≡ same_route q r → t ≡ false → among rs r ≡ among qs r
-  unfolding among
-  among_later r s h = rw (e, ← s, h) refl
+pub apart_filter : (rs : List (List ℕ)) (start : ℕ) (others : List (List ℕ)) → length (filter (λ r. is_apart r start others) rs) ≡ apart rs start others
+unfolding apart
+apart_filter [] start others = refl
+apart_filter (r ∷ rs) start others = by_test (is_apart r start others) (apart_filter rs start others)
+  where
+    by_test : (b : Bool) → length (filter (λ q. is_apart q start others) rs) ≡ apart rs start others
+        → length (cond b (r ∷ filter (λ q. is_apart q start others) rs) (filter (λ q. is_apart q start others) rs)) ≡ cond b 1 0 + apart rs start others
+    by_test true e = omega arith
+    by_test false e = omega arith
 
-  module _ (start : ℕ) (others : List (List ℕ)) (s : t ≡ is_apart q start others) where
-    pub one_more : t ≡ true → apart rs start others ≡ suc (apart qs start others)
-    unfolding apart
-    one_more h = rw (e, ← s, h) (omega arith)
+-- whether a route is from a start
+pub no_start : (route : List ℕ) (start : ℕ) → length route < 1 → starts_at start route ≡ false
+unfolding starts_at
+no_start [] start h = refl
+no_start (x ∷ route) start h = absurd (omega arith)
 
-    pub no_more : t ≡ false → apart rs start others ≡ apart qs start others
-    unfolding apart
-    no_more h = rw (e, ← s, h) (omega arith)
-
--- the ways out of `is_apart`
-module _ (start : ℕ) (others : List (List ℕ)) where
-  pub no_objects : (r : List ℕ) → length r ≡ 0 → false ≡ is_apart r start others
-  unfolding starts_at
-  no_objects [] e = refl
-  no_objects (x ∷ r) e = absurd (omega arith)
-
-  pub from_elsewhere : (r : List ℕ) → ¬ (length r ≡ 0) → ¬ (get_or r 0 0 ≡ start) → false ≡ is_apart r start others
-  unfolding starts_at
-  from_elsewhere [] n d = absurd (n refl)
-  from_elsewhere (x ∷ r) n d = rw (ne_eqb x start d) refl
-
-  pub from_start : (r : List ℕ) (t : Bool) → ¬ (length r ≡ 0) → get_or r 0 0 ≡ start → t ≡ among others r → not t ≡ is_apart r start others
-  unfolding starts_at
-  from_start [] t n d e = absurd (n refl)
-  from_start (x ∷ r) t n d e = rw (eq-eqb x start d, e) refl
+pub first_start : (route : List ℕ) (start : ℕ) → 1 ≤ length route → starts_at start route ≡ eqb (get_or route 0 0) start
+unfolding starts_at
+first_start [] start h = absurd (omega arith)
+first_start (x ∷ route) start h = refl

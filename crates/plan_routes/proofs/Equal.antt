@@ -1,13 +1,13 @@
--- Two routes are the same exactly where they are one list; and how the loop of `same` comes down from their ends.
-use Prim.Native.Nat.{ℕ, suc, ◌<◌}
-use mathlib.Core.Path.{◌≡◌, refl, sym, ap₂, ◌∙◌}
+-- Two routes are the same exactly where they are one list.
+use Prim.Native.Nat.{ℕ}
+use mathlib.Core.Path.{◌≡◌, refl, sym, ap, ap₂, ◌∙◌}
 use mathlib.Core.Bool.{Bool, true, false, ◌&&◌, true≢false}
 use mathlib.Core.Logic.{◌↔◌}
-use mathlib.Core.List.{List, [], ◌∷◌}
-use lib.ListN.{length, get_or, drop}
-use lib.Seq.{drop-cons}
+use mathlib.Core.List.{List, [], ◌∷◌, reverse}
 use lib.Dec.{eqb}
 use borrow.Author.Tests.{eqb-true, eq-eqb}
+use Rattle.std.specs.Bool.{Decides}
+use Rattle.std.proofs.lemmas.List.{reverse-reverse}
 use Rattle.plan_routes.specs.Routes.{same_route}
 
 same_equal : (a b : List ℕ) → same_route a b ≡ true → a ≡ b
@@ -37,6 +37,10 @@ same_not a b n = go (same_route a b) refl
     go true e = absurd (n (same_equal a b e))
     go false e = refl
 
--- one turn of the loop of `same`: the lists are the same from k + 1 on and at k
-pub one_down : (a b : List ℕ) (k : ℕ) → k < length a → k < length b → get_or a k 0 ≡ get_or b k 0 → drop (suc k) a ≡ drop (suc k) b → drop k a ≡ drop k b
-one_down a b k h q e r = drop-cons a k 0 h ∙ ap₂ ◌∷◌ e r ∙ sym (drop-cons b k 0 q)
+-- what a comparison decides that goes from the ends
+pub same_reversed : (a b : List ℕ) (t : Bool) → Decides t (reverse a ≡ reverse b) → t ≡ same_route a b
+same_reversed a b t d = by_test t d
+  where
+    by_test : (t : Bool) → Decides t (reverse a ≡ reverse b) → t ≡ same_route a b
+    by_test true h = sym ((same_iff a b).1 (sym (reverse-reverse a) ∙ ap reverse (h.0 refl) ∙ reverse-reverse b))
+    by_test false h = sym (same_not a b (λ e. true≢false (sym (h.1 (ap reverse e)))))

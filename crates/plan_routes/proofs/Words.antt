@@ -1,12 +1,10 @@
 -- The routes in words, one at a time from a place on.
-use Prim.Native.Nat.{ℕ, zero, suc, ◌+◌, ◌-◌, ◌≤◌, ◌<◌, min}
+use Prim.Native.Nat.{ℕ, zero, suc, ◌<◌, min}
 use native.Mathlib.Nat.{zero-min, min-zero, suc-min-suc}
-use native.Mathlib.Numerals.{add-one}
 use native.Mathlib.Omega.{arith}
 use mathlib.Core.Path.{◌≡◌, refl, sym, ap, ap₂, ◌∙◌}
 use mathlib.Core.List.{List, [], ◌∷◌}
-use lib.ListN.{length, get_or, take, drop, length-drop, drop_of_length-le}
-use lib.Seq.{drop-cons, drop-drop}
+use lib.ListN.{length, take, drop}
 use Rattle.plan_routes.specs.Routes.{routes_after, routes_in, route_end}
 
 -- words that are passed over are as if they were not there
@@ -32,21 +30,15 @@ pub first_route : (c : ℕ) (ws : List ℕ) → routes_in (c ∷ ws) ≡ take c 
 unfolding routes_after
 first_route c ws = ap (λ (rs : List (List ℕ)). take c ws ∷ rs) (passed_over c ws)
 
--- the route whose count is the word at a place, and those after it
-pub next_route : (ws : List ℕ) (at end : ℕ) → at < length ws → end ≡ route_end ws at → routes_in (drop at ws) ≡ take (end - (at + 1)) (drop (at + 1) ws) ∷ routes_in (drop end ws)
-next_route ws at end h e =
-    let c = get_or ws at 0 in
-    let rest = drop (at + 1) ws in
-    let l = length-drop (at + 1) ws in
-    let few : min c (length rest) ≡ end - (at + 1) = omega arith in
-    let far : at + 1 + c ≡ suc (at + c) = omega arith in
-    ap routes_in (rw add-one (drop-cons ws at 0 h))
-    ∙ first_route c rest
-    ∙ ap₂ (λ (r : List ℕ) (rs : List (List ℕ)). r ∷ rs)
-    (sym (take_least c rest) ∙ ap (λ (k : ℕ). take k rest) few)
-    (ap routes_in (drop-drop c (at + 1) ws ∙ ap (λ (k : ℕ). drop k ws) far ∙ sym (drop_least (suc (at + c)) ws) ∙ ap (λ (k : ℕ). drop k ws) (sym e)))
+-- the words of the first route, its count among them, and those after it
+pub next_route : (ws : List ℕ) (end : ℕ) → 0 < length ws → end ≡ route_end ws 0 → routes_in ws ≡ drop 1 (take end ws) ∷ routes_in (drop end ws)
+next_route [] end h e = absurd (omega arith)
+next_route (c ∷ ws) end h e =
+    let k : end ≡ suc (min c (length ws)) = omega arith in
+    first_route c ws ∙ rw k (ap₂ (λ (r rest : List ℕ). r ∷ routes_in rest) (sym (take_least c ws)) (sym (drop_least c ws)))
 
--- from the end of the words on there is none
-pub none_left : (ws : List ℕ) (at : ℕ) → length ws ≤ at → routes_in (drop at ws) ≡ []
+-- without a word there is none
+pub no_routes : (ws : List ℕ) → length ws ≡ 0 → routes_in ws ≡ []
 unfolding routes_after
-none_left ws at h = ap routes_in (drop_of_length-le ws {i = at} h)
+no_routes [] e = refl
+no_routes (c ∷ ws) e = absurd (omega arith)

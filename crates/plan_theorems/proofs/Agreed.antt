@@ -12,19 +12,18 @@ use Rattle.verdict.specs.declared.Fault.{Fault}
 use Rattle.x2_layout.specs.Layout.{layout_of}
 use Rattle.x2_obeys.specs.Links.{Target}
 use Rattle.route_graph.specs.Objects.{object_at, boundary_starts}
+use Rattle.std.specs.Prelude.{Ok, Err}
 use Rattle.route_walks.specs.declared.Tally.{Tally}
 use Rattle.route_walks.specs.Walks.{words_of}
 use Rattle.route_walks.specs.All.{Exactly}
 use Rattle.route_walks.proofs.Order.{all_routes_lem}
-use Rattle.route_lister.specs.declared.RoutesAnswer.{RoutesAnswer}
-use Rattle.route_lister.specs.declared.RoutesAnswer.TheVariants as routes
-use Rattle.route_lister.specs.Answered.{limit_of}
+use Rattle.std.specs.Prelude.{Ok, Err}
+use Rattle.route_lister.specs.Answered.{RoutesAnswer, limit_of}
 use Rattle.route_lister.proofs.Whole.{in_range_iff}
 use Rattle.route_question.specs.Routes.{routes_asked}
 use Rattle.plan_routes.specs.Routes.{routes_in, among, starts_at, is_apart, apart}
 use Rattle.plan_routes.proofs.Listed.{routes_back}
 use Rattle.plan_question.specs.declared.Compared.{Compared as Counts}
-use Rattle.plan_question.specs.declared.PlanAnswer.TheVariants.{Compared, Refused}
 use Rattle.plan_question.specs.Compared.{most_room, routes_from, counts_of, compared_by, compared_asked, leaves_by, left_compared}
 use Rattle.plan_question.proofs.Told.{Told, told}
 use Rattle.plan_question.proofs.Fits.{compared_by_lem}
@@ -32,8 +31,8 @@ use Rattle.route_theorems.proofs.Listed.{linked, place}
 use Rattle.plan_theorems.specs.Agree.{Legal, Planned, From, Agree, Counted}
 use Rattle.plan_theorems.proofs.Standing.{among_iff, from_iff, apart_iff, picked, picked_number, picked_rest, apart_picked, none_apart}
 
-module _ (f plan : List ℕ) (start limit budget room : ℕ) (c : Counts) (e : compared_asked f start limit budget plan room ≡ Compared c) where
-  by : (t : Tally) × (routes_asked f start limit budget (min room most_room) ≡ routes.Listed t) × (c ≡ counts_of (routes_in plan) start (routes_from f start limit) t)
+module _ (f plan : List ℕ) (start limit budget room : ℕ) (c : Counts) (e : compared_asked f start limit budget plan room ≡ Ok c) where
+  by : (t : Tally) × (routes_asked f start limit budget (min room most_room) ≡ Ok t) × (c ≡ counts_of (routes_in plan) start (routes_from f start limit) t)
   by = compared_by_lem (routes_in plan) (routes_from f start limit) start c (routes_asked f start limit budget (min room most_room)) e
 
   known : Told f start limit budget (min room most_room) by.0
@@ -114,23 +113,23 @@ module _ (f plan : List ℕ) (start limit budget room : ℕ) (c : Counts) (e : c
       )
 
 -- THEOREM: a comparison is refused exactly as the question routes is, and then every word lent is as it was
-pub refused_iff : (f plan : List ℕ) (start limit budget room : ℕ) (u : Fault) → (compared_asked f start limit budget plan room ≡ Refused u) ↔ (routes_asked f start limit budget (min room most_room) ≡ routes.Refused u)
+pub refused_iff : (f plan : List ℕ) (start limit budget room : ℕ) (u : Fault) → (compared_asked f start limit budget plan room ≡ Err u) ↔ (routes_asked f start limit budget (min room most_room) ≡ Err u)
 unfolding compared_by
 refused_iff f plan start limit budget room u = (
   there (routes_asked f start limit budget (min room most_room)),
   λ e. ap (compared_by (routes_in plan) start (routes_from f start limit)) e,
 )
   where
-    there : (a : RoutesAnswer) → compared_by (routes_in plan) start (routes_from f start limit) a ≡ Refused u → a ≡ routes.Refused u
-    there (routes.Listed t) e = let z : ◌≡◌ {A = ℕ} 0 1 = cc in absurd (omega arith)
-    there (routes.Refused v) e = cc
+    there : (a : RoutesAnswer) → compared_by (routes_in plan) start (routes_from f start limit) a ≡ Err u → a ≡ Err u
+    there (Ok t) e = let z : ◌≡◌ {A = ℕ} 0 1 = cc in absurd (omega arith)
+    there (Err v) e = cc
 
-pub refused_keeps : (f plan list : List ℕ) (start limit budget : ℕ) (u : Fault) → compared_asked f start limit budget plan (length list) ≡ Refused u → left_compared f start limit budget list ≡ list
+pub refused_keeps : (f plan list : List ℕ) (start limit budget : ℕ) (u : Fault) → compared_asked f start limit budget plan (length list) ≡ Err u → left_compared f start limit budget list ≡ list
 unfolding leaves_by
 refused_keeps f plan list start limit budget u e = rw ((refused_iff f plan start limit budget (length list) u).0 e) refl
 
 -- THEOREM: the words lent hold every route that is listed
-pub listed_words : (f plan list : List ℕ) (start limit budget : ℕ) (c : Counts) → compared_asked f start limit budget plan (length list) ≡ Compared c
+pub listed_words : (f plan list : List ℕ) (start limit budget : ℕ) (c : Counts) → compared_asked f start limit budget plan (length list) ≡ Ok c
     → routes_in (take c.words (left_compared f start limit budget list)) ≡ routes_from f start limit
 unfolding leaves_by
 listed_words f plan list start limit budget c e =

@@ -16,11 +16,14 @@ use mathlib.Core.List.{
 }
 use lib.ListN.{length, take, drop, length-append}
 use lib.Seq.{length-take-le, take_at}
+use Rattle.std.specs.Prelude.{Option, None, Some, Result, Ok, Err}
 use Rattle.route_walks.specs.Legal.{NoneTwice}
 use Rattle.route_walks.specs.Walks.{words_of}
 use Rattle.route_walks.specs.All.{Number}
 use Rattle.plan_lines.specs.declared.Line.{Line}
 use Rattle.plan_lines.specs.declared.Line.TheVariants as line
+use Rattle.plan_lines.specs.declared.Slip.{Slip}
+use Rattle.plan_lines.specs.declared.Slip.TheVariants as slip
 use Rattle.plan_lines.specs.Lines as lines
 use Rattle.plan_lines.specs.Lines.{route_least, route_most, words_in, line_of, offsets_in}
 use Rattle.plan_lines.proofs.Lent.{line_told}
@@ -31,10 +34,9 @@ use Rattle.plan_reading.specs.declared.Reading.{Reading}
 use Rattle.plan_reading.specs.declared.Said.{Said}
 use Rattle.plan_reading.specs.declared.Said.TheVariants as said
 use Rattle.plan_reading.specs.declared.Taken.{Taken}
-use Rattle.plan_reading.specs.Reading.{no_start, is_elsewhere, end_of, routes_so_far, is_full, route_by, route_taken, taken_by, taken_of, laid, route_laid, route_left, left_by, plan_after}
+use Rattle.plan_reading.specs.Reading.{is_elsewhere, end_of, routes_so_far, is_full, route_by, route_taken, taken_by, taken_of, laid, route_laid, route_left, left_by, plan_after}
 use Rattle.plan_reading.proofs.After.{within}
 use Rattle.plan_question.specs.declared.Compared.{Compared as Counts}
-use Rattle.plan_question.specs.declared.PlanAnswer.TheVariants.{Compared}
 use Rattle.plan_question.specs.Compared.{compared_asked}
 use Rattle.plan_theorems.specs.Agree.{Legal, Planned, From}
 use Rattle.plan_reading.specs.ReadPlan.{ReadPlan, unread, said_by, after_line, read_lines}
@@ -76,7 +78,7 @@ module _ (r : Reading) (plan : List ℕ) (w : Whole (read_to r plan)) (route : L
   so_far = plan_routes (read_to r plan)
 
   -- the words stay
-  same_words : (s : Said) (start : ℕ) → route_said s route ≡ [] → Next so_far route (record { said = s; reading = record { start = start; words = r.words } }) plan
+  same_words : (s : Result Said Slip) (start : Option ℕ) → route_said s route ≡ [] → Next so_far route (record { said = s; reading = record { start = start; words = r.words } }) plan
   same_words s start e = record {
     whole = record { within = w.within; whole = w.whole; once = w.once; sizes = w.sizes };
     routes = rw e (sym (append-nil so_far));
@@ -98,7 +100,7 @@ module _ (r : Reading) (plan : List ℕ) (w : Whole (read_to r plan)) (route : L
     routes_put = ap routes_in words_put ∙ routes_back (so_far ++ (route ∷ []))
 
     route_put : (first : ℕ) → at + suc (length route) ≤ length (laid route at plan) → ¬ Memᴰ route so_far → Sized route
-        → Next so_far route (record { said = said.Route first; reading = record { start = r.start; words = at + suc (length route) } }) (laid route at plan)
+        → Next so_far route (record { said = Ok (said.Route first); reading = record { start = r.start; words = at + suc (length route) } }) (laid route at plan)
     unfolding route_said
     route_put first h new size = record {
       whole = record {
@@ -126,14 +128,14 @@ module _ (r : Reading) (plan : List ℕ) (w : Whole (read_to r plan)) (route : L
           let new : ¬ Memᴰ route so_far = λ m. true≢false (sym ((among_iff so_far route).1 m) ∙ rw ends at q) in
           route_put (end_of r plan) ends _ k new size
 
-  by_line : (l : Line) → ((n : ℕ) → l ≡ line.Route n → Sized route) → (taken_by l route r plan).reading.words ≤ length (left_by l route r plan)
+  by_line : (l : Result Line Slip) → ((n : ℕ) → l ≡ Ok (line.Route n) → Sized route) → (taken_by l route r plan).reading.words ≤ length (left_by l route r plan)
       → Next so_far route (taken_by l route r plan) (left_by l route r plan)
   unfolding taken_by left_by route_said
-  by_line line.Empty size h = same_words said.Nothing r.start refl
-  by_line (line.From start) size h = same_words (said.Start start) start refl
-  by_line line.FromWrong size h = same_words _ no_start refl
-  by_line (line.Route n) size h = by_route (size n refl) h
-  by_line (line.Wrong s) size h = same_words (said.Wrong s) r.start refl
+  by_line (Ok line.Empty) size h = same_words (Ok said.Nothing) r.start refl
+  by_line (Ok (line.From start)) size h = same_words (Ok (said.Start start)) (Some start) refl
+  by_line (Ok (line.Route n)) size h = by_route (size n refl) h
+  by_line (Err slip.From) size h = same_words _ None refl
+  by_line (Err s) size h = same_words (Err s) r.start refl
 
 next : (p : ReadPlan) → Whole p → (text : List ℕ) → Next (plan_routes p) (offsets_in text) (taken_of text p.reading p.lent) (plan_after text p.reading p.lent)
 next p w text =
@@ -141,7 +143,7 @@ next p w text =
     by_line p.reading p.lent w (offsets_in text) (line_of text) size (rw k.0 k.1)
   where
     -- a route has 2 to 512 offsets
-    size : (n : ℕ) → line_of text ≡ line.Route n → Sized (offsets_in text)
+    size : (n : ℕ) → line_of text ≡ Ok (line.Route n) → Sized (offsets_in text)
     size n e =
         let t = line_told (words_in (lines.said text)) n e in
         let l = offsets_length (words_in (lines.said text)) in
@@ -184,7 +186,7 @@ read_routes texts lent = routes_after_lem texts (unread lent) (unread_whole lent
 
 -- THEOREM: beside a plan that is read, the number of missing routes is that of its routes from the start that are not legal
 pub missing_read : (texts : List (List ℕ)) (lent f : List ℕ) (start limit budget room : ℕ) (c : Counts)
-    → compared_asked f start limit budget (plan_words (read_lines texts (unread lent))) room ≡ Compared c
+    → compared_asked f start limit budget (plan_words (read_lines texts (unread lent))) room ≡ Ok c
     → Number (λ w. Planned (plan_words (read_lines texts (unread lent))) w × From start w × (¬ Legal f start limit w)) c.missing
 missing_read texts lent f start limit budget room c e =
     (counted f (plan_words (read_lines texts (unread lent))) start limit budget room c e).missing (read_whole texts lent).once

@@ -36,6 +36,8 @@ use Rattle.c_values.proofs.load.state_in.Kinds as state-in-kinds
 use Rattle.c_values.proofs.load.state_in.Reads as state-in-reads
 use Rattle.c_values.proofs.load.state_words.Kinds as state-words-kinds
 use Rattle.c_values.proofs.load.state_words.Reads as state-words-reads
+use Rattle.c_values.proofs.words.pair_refused.Kinds as pair-refused-kinds
+use Rattle.c_values.proofs.words.pair_refused.Reads as pair-refused-reads
 
 pub header_words_determined : Determined 0 header-words-kinds.ps header-words-kinds.r header-words-reads.Pre header-words-reads.Post
 header_words_determined κs a = by_equation (λ v w. refl)
@@ -84,3 +86,6 @@ state_in_determined κs a = by_equation (λ v w. refl)
 
 pub state_words_determined : Determined 0 state-words-kinds.ps state-words-kinds.r state-words-reads.Pre state-words-reads.Post
 state_words_determined κs a = by_equation (λ v w. refl)
+
+pub pair_refused_determined : Determined 0 pair-refused-kinds.ps pair-refused-kinds.r pair-refused-reads.Pre pair-refused-reads.Post
+pair_refused_determined κs a = by_equation (λ v w. refl)

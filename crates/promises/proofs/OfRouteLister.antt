@@ -4,20 +4,20 @@ use mathlib.Core.List.{List}
 use Prim.Native.Nat.{ℕ}
 use Rattle.promises.specs.Determined.{Determined}
 use Rattle.promises.proofs.Equations.{by_equation}
-use Rattle.route_lister.proofs.RoutesAnswer.number.Kinds as routesanswer-number-kinds
-use Rattle.route_lister.proofs.RoutesAnswer.number.Reads as routesanswer-number-reads
-use Rattle.route_lister.proofs.RoutesAnswer.place.Kinds as routesanswer-place-kinds
-use Rattle.route_lister.proofs.RoutesAnswer.place.Reads as routesanswer-place-reads
+use Rattle.route_lister.proofs.number.Kinds as number-kinds
+use Rattle.route_lister.proofs.number.Reads as number-reads
+use Rattle.route_lister.proofs.place.Kinds as place-kinds
+use Rattle.route_lister.proofs.place.Reads as place-reads
 use Rattle.route_lister.proofs.list.Kinds as list-kinds
 use Rattle.route_lister.proofs.list.Reads as list-reads
 use Rattle.route_lister.proofs.list_flat.Kinds as list-flat-kinds
 use Rattle.route_lister.proofs.list_flat.Reads as list-flat-reads
 
-pub routesanswer_number_determined : Determined 0 routesanswer-number-kinds.ps routesanswer-number-kinds.r routesanswer-number-reads.Pre routesanswer-number-reads.Post
-routesanswer_number_determined κs a = by_equation (λ v w. refl)
+pub number_determined : Determined 0 number-kinds.ps number-kinds.r number-reads.Pre number-reads.Post
+number_determined κs a = by_equation (λ v w. refl)
 
-pub routesanswer_place_determined : Determined 0 routesanswer-place-kinds.ps routesanswer-place-kinds.r routesanswer-place-reads.Pre routesanswer-place-reads.Post
-routesanswer_place_determined κs a = by_equation (λ v w. refl)
+pub place_determined : Determined 0 place-kinds.ps place-kinds.r place-reads.Pre place-reads.Post
+place_determined κs a = by_equation (λ v w. refl)
 
 pub list_determined : Determined 2 list-kinds.ps list-kinds.r list-reads.Pre list-reads.Post
 list_determined κs a = (tt, λ x y v w p q. (p.0 ∙ sym q.0, ap (λ (l : List ℕ). (tt, (tt, (tt, (tt, (tt, (l, tt))))))) (p.1 ∙ sym q.1)))

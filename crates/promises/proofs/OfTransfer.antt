@@ -18,6 +18,8 @@ use Rattle.transfer.proofs.finishing.finish.Kinds as finish-kinds
 use Rattle.transfer.proofs.finishing.finish.Reads as finish-reads
 use Rattle.transfer.proofs.heads.head_of.Kinds as head-of-kinds
 use Rattle.transfer.proofs.heads.head_of.Reads as head-of-reads
+use Rattle.transfer.proofs.IdentityPartialEq.eq.Kinds as identitypartialeq-eq-kinds
+use Rattle.transfer.proofs.IdentityPartialEq.eq.Reads as identitypartialeq-eq-reads
 
 pub identity_of_determined : Determined 1 identity-of-kinds.ps identity-of-kinds.r identity-of-reads.Pre identity-of-reads.Post
 identity_of_determined κs a = by_equation (λ v w. refl)
@@ -39,3 +41,6 @@ finish_determined κs a = by_equation (λ v w. refl)
 
 pub head_of_determined : Determined 0 head-of-kinds.ps head-of-kinds.r head-of-reads.Pre head-of-reads.Post
 head_of_determined κs a = by_equation (λ v w. refl)
+
+pub identitypartialeq_eq_determined : Determined 2 identitypartialeq-eq-kinds.ps identitypartialeq-eq-kinds.r identitypartialeq-eq-reads.Pre identitypartialeq-eq-reads.Post
+identitypartialeq_eq_determined κs a = by_equation (λ v w. refl)

@@ -10,7 +10,7 @@ use native.Mathlib.Nat.{mul-zero, mul-suc}
 use native.Mathlib.Omega.{arith}
 use borrow.Author.Tests.{ltb-true}
 use Rattle.verdict.specs.declared.Mark.{Mark}
-use Rattle.verdict.specs.declared.Judged.TheVariants.{Refused}
+use Rattle.std.specs.Prelude.{Ok, Err}
 use Rattle.verdict.specs.Facts.{test, Holds, Fact, fact, first_fault, AllHold}
 use Rattle.verdict.specs.Walk.{walk, starts_from}
 use Rattle.verdict.proofs.Facts.{Agrees, agrees, never}
@@ -116,7 +116,7 @@ rises_above low high (fact c m ∷ fs) h q (inr g) = let r = rises_above m.place
 
 -- the place of the first fact that fails is as said
 abbrev pub Located : List Fact → (ℕ → Type 0) → Type 0
-Located fs Q = (m : Mark) → first_fault fs ≡ Refused m → Q m.place
+Located fs Q = (m : Mark) → first_fault fs ≡ Err m → Q m.place
 
 -- no two places are as said
 abbrev pub Only : (ℕ → Type 0) → Type 0
@@ -137,7 +137,7 @@ unfolding first_fault
 first_lowest low high [] r m e = absurd (never m (sym e))
 first_lowest low high (fact c n ∷ fs) r m e = go (test c) (agrees c) e (first_lowest n.place high fs r.1 m)
   where
-    go : (t : Bool) → Agrees t (Holds c) → cond t (first_fault fs) (Refused n) ≡ Refused m → (first_fault fs ≡ Refused m → Lowest (Failing fs) m.place) → Lowest (Failing (fact c n ∷ fs)) m.place
+    go : (t : Bool) → Agrees t (Holds c) → cond t (first_fault fs) (Err n) ≡ Err m → (first_fault fs ≡ Err m → Lowest (Failing fs) m.place) → Lowest (Failing (fact c n ∷ fs)) m.place
     go true a e ih = let w = ih e in record { there = inr w.there; least = λ q g. ⊎_elim (λ (x : (q ≡ n.place) × (Holds c → ⊥)). absurd (x.1 a)) (λ (x : Failing fs q). w.least q x) g }
     go false a e ih =
         let x : n ≡ m = cc in
@@ -150,20 +150,20 @@ located low high fs P r iff m e =
     record { there = (iff m.place).0 w.there; least = λ q g. w.least q ((iff q).1 g) }
 
 -- of two lists: the first counts where one of its facts fails
-pub refused_cut : (a b : List Fact) (m : Mark) → first_fault (a ++ b) ≡ Refused m → (first_fault a ≡ Refused m) ⊎ (AllHold a × (first_fault b ≡ Refused m))
+pub refused_cut : (a b : List Fact) (m : Mark) → first_fault (a ++ b) ≡ Err m → (first_fault a ≡ Err m) ⊎ (AllHold a × (first_fault b ≡ Err m))
 unfolding first_fault AllHold
 refused_cut [] b m e = inr (tt, e)
 refused_cut (fact c n ∷ fs) b m e = go (test c) (agrees c) e (refused_cut fs b m)
   where
-    go : (t : Bool) → Agrees t (Holds c) → cond t (first_fault (fs ++ b)) (Refused n) ≡ Refused m
-        → (first_fault (fs ++ b) ≡ Refused m → (first_fault fs ≡ Refused m) ⊎ (AllHold fs × (first_fault b ≡ Refused m)))
-        → (cond t (first_fault fs) (Refused n) ≡ Refused m) ⊎ ((Holds c × AllHold fs) × (first_fault b ≡ Refused m))
-    go true a e ih = ⊎_elim (λ (x : first_fault fs ≡ Refused m). inl x) (λ (x : AllHold fs × (first_fault b ≡ Refused m)). inr ((a, x.0), x.1)) (ih e)
+    go : (t : Bool) → Agrees t (Holds c) → cond t (first_fault (fs ++ b)) (Err n) ≡ Err m
+        → (first_fault (fs ++ b) ≡ Err m → (first_fault fs ≡ Err m) ⊎ (AllHold fs × (first_fault b ≡ Err m)))
+        → (cond t (first_fault fs) (Err n) ≡ Err m) ⊎ ((Holds c × AllHold fs) × (first_fault b ≡ Err m))
+    go true a e ih = ⊎_elim (λ (x : first_fault fs ≡ Err m). inl x) (λ (x : AllHold fs × (first_fault b ≡ Err m)). inr ((a, x.0), x.1)) (ih e)
     go false a e ih = inl e
 
 pub located_or : (a b : List Fact) (P Q : ℕ → Type 0) → Located a (Lowest P) → ((p : ℕ) → Failing a p ↔ P p) → (AllHold a → Located b Q) → Located (a ++ b) (Or P Q)
 located_or a b P Q first iff next m e =
-    ⊎_elim (λ (x : first_fault a ≡ Refused m). inl (first m x)) (λ (x : AllHold a × (first_fault b ≡ Refused m)). inr (λ q g. held_none a q x.0 ((iff q).1 g), next x.0 m x.1)) (refused_cut a b m e)
+    ⊎_elim (λ (x : first_fault a ≡ Err m). inl (first m x)) (λ (x : AllHold a × (first_fault b ≡ Err m)). inr (λ q g. held_none a q x.0 ((iff q).1 g), next x.0 m x.1)) (refused_cut a b m e)
 
 -- facts at one place
 pub rises_one : (at low high : ℕ) (fs : List Fact) → Each (λ c m. m.place ≡ at) fs → low ≤ at → at ≤ high → Rises low high fs
@@ -175,7 +175,7 @@ unfolding first_fault
 located_one at [] k m e = absurd (never m (sym e))
 located_one at (fact c n ∷ fs) k m e = go (test c) e (located_one at fs k.1 m)
   where
-    go : (t : Bool) → cond t (first_fault fs) (Refused n) ≡ Refused m → (first_fault fs ≡ Refused m → m.place ≡ at) → m.place ≡ at
+    go : (t : Bool) → cond t (first_fault fs) (Err n) ≡ Err m → (first_fault fs ≡ Err m → m.place ≡ at) → m.place ≡ at
     go true e ih = ih e
     go false e ih = let x : n ≡ m = cc in ap (λ (i : Mark). i.place) (sym x) ∙ k.0
 
@@ -199,7 +199,7 @@ pub record FirstOf (s end at : ℕ) (g : ℕ → List Fact) (m : Mark) : Type 0 
   pub which : ℕ
   pub inside : at + s * which < end
   pub before : (i : ℕ) → i < which → AllHold (g (at + s * i))
-  pub refused : first_fault (g (at + s * which)) ≡ Refused m
+  pub refused : first_fault (g (at + s * which)) ≡ Err m
 
 module _ (s end : ℕ) (g : ℕ → List Fact) (m : Mark) where
   next-first : (at : ℕ) → at < end → AllHold (g at) → FirstOf s end (at + s) g m → FirstOf s end at g m
@@ -207,7 +207,7 @@ module _ (s end : ℕ) (g : ℕ → List Fact) (m : Mark) where
     which = suc w.which;
     inside = omega (arith, mul-suc s w.which, w.inside);
     before = λ i k. held i k;
-    refused = subst (λ (x : ℕ). first_fault (g x) ≡ Refused m) (step w.which) w.refused;
+    refused = subst (λ (x : ℕ). first_fault (g x) ≡ Err m) (step w.which) w.refused;
   }
     where
       step : (i : ℕ) → (at + s) + s * i ≡ at + s * suc i
@@ -217,25 +217,25 @@ module _ (s end : ℕ) (g : ℕ → List Fact) (m : Mark) where
       held zero k = let z = mul-zero s in let e : at ≡ at + s * 0 = omega arith in subst (λ (x : ℕ). AllHold (g x)) e h
       held (suc i) k = subst (λ (x : ℕ). AllHold (g x)) (step i) (w.before i (omega arith))
 
-  this_first : (at : ℕ) → at < end → first_fault (g at) ≡ Refused m → FirstOf s end at g m
+  this_first : (at : ℕ) → at < end → first_fault (g at) ≡ Err m → FirstOf s end at g m
   this_first at l e =
       let z = mul-zero s in
       let q : at ≡ at + s * 0 = omega arith in
-      record { which = 0; inside = omega arith; before = λ i k. absurd (omega arith); refused = subst (λ (x : ℕ). first_fault (g x) ≡ Refused m) q e }
+      record { which = 0; inside = omega arith; before = λ i k. absurd (omega arith); refused = subst (λ (x : ℕ). first_fault (g x) ≡ Err m) q e }
 
-  first_walk : (k at : ℕ) → first_fault (flat_map g (walk (λ _. s) end k at)) ≡ Refused m → FirstOf s end at g m
+  first_walk : (k at : ℕ) → first_fault (flat_map g (walk (λ _. s) end k at)) ≡ Err m → FirstOf s end at g m
   unfolding walk flat_map first_fault
   first_walk zero at e = absurd (never m (sym e))
   first_walk (suc k) at e = go (ltb at end) refl e (first_walk k (at + s))
     where
-      go : (t : Bool) → ltb at end ≡ t → first_fault (flat_map g (cond t (at ∷ walk (λ _. s) end k (at + s)) [])) ≡ Refused m
-          → (first_fault (flat_map g (walk (λ _. s) end k (at + s))) ≡ Refused m → FirstOf s end (at + s) g m) → FirstOf s end at g m
+      go : (t : Bool) → ltb at end ≡ t → first_fault (flat_map g (cond t (at ∷ walk (λ _. s) end k (at + s)) [])) ≡ Err m
+          → (first_fault (flat_map g (walk (λ _. s) end k (at + s))) ≡ Err m → FirstOf s end (at + s) g m) → FirstOf s end at g m
       go true q e ih =
-          ⊎_elim (λ (x : first_fault (g at) ≡ Refused m). this_first at (ltb-true at end q) x)
-          (λ (x : AllHold (g at) × (first_fault (flat_map g (walk (λ _. s) end k (at + s))) ≡ Refused m)). next-first at (ltb-true at end q) x.0 (ih x.1))
+          ⊎_elim (λ (x : first_fault (g at) ≡ Err m). this_first at (ltb-true at end q) x)
+          (λ (x : AllHold (g at) × (first_fault (flat_map g (walk (λ _. s) end k (at + s))) ≡ Err m)). next-first at (ltb-true at end q) x.0 (ih x.1))
           (refused_cut (g at) (flat_map g (walk (λ _. s) end k (at + s))) m e)
       go false q e ih = absurd (never m (sym e))
 
-pub first-of : (s end at : ℕ) (g : ℕ → List Fact) (m : Mark) → first_fault (flat_map g (starts_from (λ _. s) end at)) ≡ Refused m → FirstOf s end at g m
+pub first-of : (s end at : ℕ) (g : ℕ → List Fact) (m : Mark) → first_fault (flat_map g (starts_from (λ _. s) end at)) ≡ Err m → FirstOf s end at g m
 unfolding starts_from
 first-of s end at g m e = first_walk s end g m end at e

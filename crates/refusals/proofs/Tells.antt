@@ -6,8 +6,8 @@ use mathlib.Core.Logic.{◌⊎◌, inl, inr, ⊎_elim, ◌↔◌}
 use mathlib.Core.List.{List, [], ◌∷◌, ◌++◌, append-nil}
 use Rattle.verdict.specs.declared.Mark.{Mark}
 use Rattle.verdict.specs.declared.Reason.{Reason}
-use Rattle.verdict.specs.declared.Judged.{Judged}
-use Rattle.verdict.specs.declared.Judged.TheVariants.{Refused}
+use Rattle.verdict.specs.Verdicts.{Judged}
+use Rattle.std.specs.Prelude.{Ok, Err}
 use Rattle.verdict.specs.Facts.{Claim, test, Holds, Fact, fact, first_fault, AllHold}
 use Rattle.verdict.proofs.Facts.{Agrees, agrees}
 use Rattle.verdict.specs.Reasons.{number_of, shown_of, number_in, place_in}
@@ -32,7 +32,7 @@ unfolding first_fault
 one_more c m b A cs iff rest = record { is = λ n p. go n p (test c) (agrees c) }
   where
     go : (n p : ℕ) (t : Bool) → Agrees t (Holds c)
-        → ((number_in (shown_of (cond t (first_fault b) (Refused m))) ≡ n) × (place_in (shown_of (cond t (first_fault b) (Refused m))) ≡ p))
+        → ((number_in (shown_of (cond t (first_fault b) (Err m))) ≡ n) × (place_in (shown_of (cond t (first_fault b) (Err m))) ≡ p))
         ↔ ((A × Reported cs n p) ⊎ ((A → ⊥) × ((n ≡ number_of m.reason) × (p ≡ m.place))))
     go n p true a =
         let x = iff.0 a in (

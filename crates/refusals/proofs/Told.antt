@@ -8,8 +8,8 @@ use lib.Dec.{eqb}
 use borrow.Author.Tests.{eqb-true, eqb-false}
 use Rattle.verdict.specs.declared.Mark.{Mark}
 use Rattle.verdict.specs.declared.Reason.{Reason}
-use Rattle.verdict.specs.declared.Judged.{Judged}
-use Rattle.verdict.specs.declared.Judged.TheVariants.{Refused}
+use Rattle.verdict.specs.Verdicts.{Judged}
+use Rattle.std.specs.Prelude.{Ok, Err}
 use Rattle.verdict.specs.Facts.{Claim, test, Holds, Fact, fact, first_fault, AllHold}
 use Rattle.verdict.specs.Reasons.{number_of, shown_of, number_in, place_in}
 use Rattle.verdict.proofs.Facts.{Agrees, agrees}
@@ -32,8 +32,8 @@ pub record Told (fs : List Fact) (cs : List Check) : Type 0 where
 pub record Stops (r : Reason) (a b : List Fact) : Type 0 where
   pub not_held : AllHold a → ⊥
   pub mark : Mark
-  pub own : first_fault a ≡ Refused mark
-  pub whole : first_fault (a ++ b) ≡ Refused mark
+  pub own : first_fault a ≡ Err mark
+  pub whole : first_fault (a ++ b) ≡ Err mark
   pub why : mark.reason ≡ r
 
 -- the section holds and the rest counts, or it stops there
@@ -43,7 +43,7 @@ cut says r [] b k = inl (tt, refl)
 cut says r (fact c m ∷ fs) b k = go (test c) refl (agrees c) (cut says r fs b k.1)
   where
     go : (t : Bool) → test c ≡ t → Agrees t (Holds c) → (AllHold fs × (first_fault (fs ++ b) ≡ first_fault b)) ⊎ Stops r fs b
-        → ((Holds c × AllHold fs) × (cond (test c) (first_fault (fs ++ b)) (Refused m) ≡ first_fault b)) ⊎ Stops r (fact c m ∷ fs) b
+        → ((Holds c × AllHold fs) × (cond (test c) (first_fault (fs ++ b)) (Err m) ≡ first_fault b)) ⊎ Stops r (fact c m ∷ fs) b
     go true e a (inl h) = inl ((a, h.0), rw e h.1)
     go true e a (inr h) = inr (record { not_held = λ g. h.not_held g.1; mark = h.mark; own = rw e h.own; whole = rw e h.whole; why = h.why })
     go false e a ih = inr (record { not_held = λ g. a g.0; mark = m; own = rw e; whole = rw e; why = k.0.0 })

@@ -8,8 +8,7 @@ use lib.IntN.{ℤ, nat_abs}
 use mir.Facts.{and_yes, leb_yes, ltb_yes}
 use borrow.Author.Tests.{le-leb, lt-ltb}
 use Rattle.octets.proofs.Signs.{kept, read}
-use Rattle.rounding.specs.declared.Way.{Way}
-use Rattle.rounding.specs.declared.Way.TheVariants.{At, Outside}
+use Rattle.std.specs.Prelude.{Option, Some, None}
 use Rattle.rounding.specs.Nearest.{nearest_of, exact_of, coordinate_of}
 use Rattle.rounding.specs.Way.{farthest, longest, inside_of, way_of, Limits}
 use Rattle.rounding.proofs.Ends.{coordinate_mag}
@@ -36,19 +35,19 @@ module _ (y0 y1 : ℤ) (t den : ℕ) where
       simp (le-leb (nat_abs y0) farthest l.first, le-leb (nat_abs y1) farthest l.last, le-leb t den l.on, lt-ltb 0 den l.some, le-leb den longest l.short)
 
   -- the two answers, by the test
-  inside : inside_of y0 y1 t den ≡ true → way_of y0 y1 t den ≡ At (coordinate_of y0 y1 t den)
+  inside : inside_of y0 y1 t den ≡ true → way_of y0 y1 t den ≡ Some (coordinate_of y0 y1 t den)
   unfolding way_of
   inside e = simp e
 
-  pub outside : inside_of y0 y1 t den ≡ false → way_of y0 y1 t den ≡ Outside
+  pub outside : inside_of y0 y1 t den ≡ false → way_of y0 y1 t den ≡ None
   unfolding way_of
   outside e = simp e
 
   -- where the limits are kept the answer is the coordinate, and only there
-  pub answered : Limits y0 y1 t den → way_of y0 y1 t den ≡ At (coordinate_of y0 y1 t den)
+  pub answered : Limits y0 y1 t den → way_of y0 y1 t den ≡ Some (coordinate_of y0 y1 t den)
   answered l = inside (inside_limits l)
 
-  pub answered_only : {r : ℤ} → way_of y0 y1 t den ≡ At r → Limits y0 y1 t den
+  pub answered_only : {r : ℤ} → way_of y0 y1 t den ≡ Some r → Limits y0 y1 t den
   answered_only {r} e = by_test (inside_of y0 y1 t den) refl
     where
       by_test : (b : Bool) → inside_of y0 y1 t den ≡ b → Limits y0 y1 t den
@@ -56,22 +55,22 @@ module _ (y0 y1 : ℤ) (t den : ℕ) where
       by_test false i = let o = outside i in let z : ◌≡◌ {A = ℕ} 0 1 = cc in absurd (omega arith)
 
   -- the coordinate in two steps, as the code finds it
-  pub found : {e r : ℤ} → inside_of y0 y1 t den ≡ true → e ≡ exact_of y0 y1 t den → r ≡ nearest_of e den → At r ≡ way_of y0 y1 t den
+  pub found : {e r : ℤ} → inside_of y0 y1 t den ≡ true → e ≡ exact_of y0 y1 t den → r ≡ nearest_of e den → Some r ≡ way_of y0 y1 t den
   unfolding coordinate_of
-  found i p q = ap At (q ∙ ap (λ (z : ℤ). nearest_of z den) p) ∙ sym (inside i)
+  found i p q = ap Some (q ∙ ap (λ (z : ℤ). nearest_of z den) p) ∙ sym (inside i)
 
 -- ---- for a caller who keeps the limits: z0 and z1 are the ends as the machine reads them, w is the answer
 
-module _ {y0 y1 : ℤ} {t den : ℕ} (l : Limits y0 y1 t den) {z0 z1 : ℤ} {w : Way} (p : z0 ≡ y0) (q : z1 ≡ y1) (e : w ≡ way_of z0 z1 t den) where
-  called : w ≡ At (coordinate_of y0 y1 t den)
+module _ {y0 y1 : ℤ} {t den : ℕ} (l : Limits y0 y1 t den) {z0 z1 : ℤ} {w : Option ℤ} (p : z0 ≡ y0) (q : z1 ≡ y1) (e : w ≡ way_of z0 z1 t den) where
+  called : w ≡ Some (coordinate_of y0 y1 t den)
   called = e ∙ ap₂ (λ (x y : ℤ). way_of x y t den) p q ∙ answered y0 y1 t den l
 
-  pub never_outside : w ≡ Outside → ⊥
+  pub never_outside : w ≡ None → ⊥
   never_outside o = let c = called in let z : ◌≡◌ {A = ℕ} 0 1 = cc in omega arith
 
-  pub given : {r : ℤ} → w ≡ At r → r ≡ coordinate_of y0 y1 t den
+  pub given : {r : ℤ} → w ≡ Some r → r ≡ coordinate_of y0 y1 t den
   given {r} a = let c = called in cc
 
-  pub given_read : {r : ℤ} → w ≡ At r → read r ≡ coordinate_of y0 y1 t den
+  pub given_read : {r : ℤ} → w ≡ Some r → read r ≡ coordinate_of y0 y1 t den
   given_read {r} a =
       ap read (given a) ∙ kept (coordinate_of y0 y1 t den) (omega (arith, coordinate_mag y0 y1 t den l.on l.some farthest l.first l.last))

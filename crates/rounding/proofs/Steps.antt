@@ -1,17 +1,15 @@
 -- The machine's steps on signed numbers. Each operation reads its operands back from their bits, and each step is right: it gives the number
 -- that the definition has, and that number is in the machine's range.
-use mathlib.Core.Path.{◌≡◌, refl, sym, ap, ap₂, ◌∙◌, subst, subst⁻¹}
-use mathlib.Core.Bool.{true, false}
-use Prim.Native.Nat.{ℕ, ◌*◌, ◌/◌, ◌^◌, ◌≤◌, ◌<◌}
-use native.Mathlib.Nat.{div-le_self, mul-le-mul_right}
+use mathlib.Core.Path.{◌≡◌, ap, ap₂, ◌∙◌, subst⁻¹}
+use Prim.Native.Nat.{ℕ, ◌*◌, ◌^◌, ◌≤◌, ◌<◌}
+use native.Mathlib.Nat.{mul-le-mul_right}
 use native.Mathlib.Omega.{arith}
-use lib.Dec.{T, leb-zero}
-use lib.IntN.{ℤ, pos, negsuc, nat_abs, ◌+ℤ◌, ◌-ℤ◌, ◌*ℤ◌, *ℤ_comm}
-use lib.Signed.{mag, le_z, quot_z, shr_z, mag_shr}
+use lib.IntN.{ℤ, pos, nat_abs, ◌+ℤ◌, ◌-ℤ◌, ◌*ℤ◌, *ℤ_comm}
+use lib.Signed.{mag}
 use mir.Syntax.{w64}
 use mir.Val.{to_z, SFits}
 use mir.Facts.{to_z_pos}
-use Rattle.octets.proofs.Signs.{kept, read, small, minus, down}
+use Rattle.octets.proofs.Signs.{kept, read}
 use Rattle.rounding.specs.Nearest.{exact_of}
 use Rattle.rounding.specs.Way.{farthest, longest, Limits}
 use Rattle.rounding.proofs.Sizes.{sum_size, minus_size, times_size, mag_size}
@@ -27,49 +25,6 @@ fit r = subst⁻¹ (SFits w64) r.same (record { sfits = r.small })
 
 pub reads : {x y : ℤ} → Right x y → read x ≡ y
 reads {x} {y} r = ap read r.same ∙ kept y r.small
-
--- ---- rounded down
-
-quotient_up : (y : ℤ) (d : ℕ) → le_z (pos 0) y ≡ true → quot_z y (pos d) ≡ shr_z y d
-quotient_up (pos a) d e = refl
-quotient_up (negsuc a) d e = absurd (subst T (sym e) tt)
-
-quotient_down : (y : ℤ) (d : ℕ) → le_z (pos 0) y ≡ false → negsuc (mag y / d) ≡ shr_z y d
-quotient_down (pos a) d e = absurd (subst T (sym (leb-zero a) ∙ e) tt)
-quotient_down (negsuc a) d e = refl
-
-module _ (z : ℤ) (d : ℕ) (fits : SFits w64 z) (few : d < 2 ^ 63) where
-  back : shr_z (read z) d ≡ shr_z z d
-  back = ap (λ (y : ℤ). shr_z y d) (kept z fits.sfits)
-
-  down_small : mag (shr_z z d) < 2 ^ 63
-  down_small = omega (arith, fits.sfits, mag_shr z d)
-
-  pub up_quotient : le_z (pos 0) (read z) ≡ true → Right (quot_z (read z) (to_z w64 d)) (shr_z z d)
-  up_quotient e =
-      record {
-        same = ap (λ (y : ℤ). quot_z (read z) y) (to_z_pos w64 few) ∙ quotient_up (read z) d e ∙ back;
-        small = down_small;
-      }
-
-  module _ (e : le_z (pos 0) (read z) ≡ false) where
-    pub below : Right (negsuc 0 -ℤ read z) (pos (mag (read z)))
-    below = record { same = down (read z) e; small = small z fits }
-
-    pub below_quotient : Right (quot_z (read (negsuc 0 -ℤ read z)) (to_z w64 d)) (pos (mag (read z) / d))
-    below_quotient =
-        record {
-          same = ap₂ quot_z (reads below) (to_z_pos w64 few);
-          small = omega (arith, small z fits, div-le_self (mag (read z)) d);
-        }
-
-    pub down_quotient : Right (negsuc 0 -ℤ read (quot_z (read (negsuc 0 -ℤ read z)) (to_z w64 d))) (shr_z z d)
-    down_quotient =
-        let h = below_quotient.small in
-        record {
-          same = ap (λ (y : ℤ). negsuc 0 -ℤ y) (reads below_quotient ∙ sym (to_z_pos w64 h)) ∙ minus (mag (read z) / d) h ∙ quotient_down (read z) d e ∙ back;
-          small = down_small;
-        }
 
 -- ---- the nearest
 

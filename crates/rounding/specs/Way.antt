@@ -1,9 +1,7 @@
 -- What `coordinate` answers for every two numbers and every way between them: the coordinate where the numbers are inside the limits, and
--- else that they are outside. The limits hold all that 01 allows: coordinates within ±648000000, positions at most 2147483647.
-use Rattle.std.specs.Prelude.{ℕ, ◌≤◌, ◌<◌, Bool, cond, ◌&&◌, leb, ltb, ℤ, nat_abs}
+-- else none. The limits hold all that 01 allows: coordinates within ±648000000, positions at most 2147483647.
+use Rattle.std.specs.Prelude.{ℕ, ◌≤◌, ◌<◌, Bool, cond, ◌&&◌, leb, ltb, ℤ, nat_abs, Option, Some, None}
 use Rattle.rounding.specs.Nearest.{coordinate_of}
-use Rattle.rounding.specs.declared.Way.{Way}
-use Rattle.rounding.specs.declared.Way.TheVariants.{At, Outside}
 
 -- how far from 0 a coordinate may be, and how long a way
 abbrev pub farthest : ℕ
@@ -17,8 +15,8 @@ unfoldable pub inside_of : ℤ → ℤ → ℕ → ℕ → Bool
 inside_of y0 y1 t den = leb (nat_abs y0) farthest && (leb (nat_abs y1) farthest && (leb t den && (ltb 0 den && leb den longest)))
 
 -- the answer
-unfoldable pub way_of : ℤ → ℤ → ℕ → ℕ → Way
-way_of y0 y1 t den = cond (inside_of y0 y1 t den) (At (coordinate_of y0 y1 t den)) Outside
+unfoldable pub way_of : ℤ → ℤ → ℕ → ℕ → Option ℤ
+way_of y0 y1 t den = cond (inside_of y0 y1 t den) (Some (coordinate_of y0 y1 t den)) None
 
 -- the same limits, as facts
 pub record Limits (y0 y1 : ℤ) (t den : ℕ) : Type 0 where

@@ -13,23 +13,12 @@ const FARTHEST: usize = 0x8000_0000;
 // How many centimetres a way may be long: the highest position of 01.
 const LONGEST: usize = 0x7FFF_FFFF;
 
-// A coordinate on a way, or that what was asked is outside the limits.
-#[derive(Clone, Copy)]
-pub enum Way {
-    At(i64),
-    Outside,
-}
-
-// The largest whole number that is at most z / d. The machine's own division cuts toward 0, so below 0 it counts down from -1.
+// The largest whole number that is at most z / d.
 fn floor(z: i64, d: usize) -> i64
     requires { (0 < d) × (d < 2 ^ 63) }
     ensures { result ≡ shr_z z d }
 {
-    if z >= 0 {
-        z / d as i64
-    } else {
-        -1 - (-1 - z) / d as i64
-    }
+    z.div_euclid(d as i64)
 }
 
 // The whole number nearest num / den, a half going up.
@@ -56,13 +45,13 @@ fn inside(y0: i64, y1: i64, t: usize, den: usize) -> bool
         & ((octets::distance(y1) <= FARTHEST) & ((t <= den) & ((0 < den) & (den <= LONGEST))))
 }
 
-// The coordinate t of the den centimetres on the way from y0 to y1, or that this is outside the limits.
-pub fn coordinate(y0: i64, y1: i64, t: usize, den: usize) -> Way
+// The coordinate t of the den centimetres on the way from y0 to y1; none where this is outside the limits.
+pub fn coordinate(y0: i64, y1: i64, t: usize, den: usize) -> Option<i64>
     ensures { result ≡ way_of y0 y1 t den }
 {
     if inside(y0, y1, t, den) {
-        Way::At(nearest(exact(y0, y1, t, den), den))
+        Some(nearest(exact(y0, y1, t, den), den))
     } else {
-        Way::Outside
+        None
     }
 }

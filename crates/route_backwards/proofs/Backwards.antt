@@ -6,7 +6,7 @@ use mathlib.Core.Bool.{true}
 use mathlib.Core.Logic.{⊎_elim, ◌↔◌}
 use mathlib.Core.List.{List, reverse}
 use Rattle.verdict.specs.declared.Fault.{Fault}
-use Rattle.verdict.specs.declared.Verdict.TheVariants.{Accepted}
+use Rattle.std.specs.Prelude.{Ok, Err}
 use Rattle.verdict.specs.Answers.{answer_number, answer_place}
 use Rattle.verdict.specs.Order.{Answered}
 use Rattle.verdict.proofs.Questions.{accepted_by}
@@ -16,9 +16,8 @@ use Rattle.x2_verdict.specs.Facts.{verdict_of}
 use Rattle.route_graph.specs.Objects.{object_at, is_boundary}
 use Rattle.route_graph.proofs.Places.{boundary_iff}
 use Rattle.route_walks.specs.Legal.{Route}
-use Rattle.route_lister.specs.declared.RoutesAnswer.{RoutesAnswer}
-use Rattle.route_lister.specs.declared.RoutesAnswer.TheVariants.{Listed, Refused}
-use Rattle.route_lister.specs.Answered.{limit_of, answer_in, routes_answer}
+use Rattle.std.specs.Prelude.{Ok, Err}
+use Rattle.route_lister.specs.Answered.{RoutesAnswer, limit_of, answer_in, routes_answer}
 use Rattle.route_walks.specs.Lent.{room_of}
 use Rattle.route_question.specs.Routes.{routes_asked}
 use Rattle.route_theorems.specs.Asked.{BoundaryHere, routes_checks}
@@ -31,7 +30,7 @@ use Rattle.route_backwards.proofs.Reading as reading
 
 -- ---- of a file
 
-module _ (f : List ℕ) (e : verdict_of f ≡ Accepted) where
+module _ (f : List ℕ) (e : verdict_of f ≡ Ok tt) where
   seen_boundary : (x : ℕ) → BoundaryHere f x → is_boundary (object_at f (layout_of f) x) ≡ true
   seen_boundary x here = ((boundary_iff f (layout_of f) x (whole f e) (small f e)).0 ((boundary_here f e x).1 here)).1
 
@@ -46,18 +45,18 @@ module _ (f : List ℕ) (e : verdict_of f ≡ Accepted) where
 
 module _ (q : NotRefused) where
   -- the file is accepted
-  pub accepted : verdict_of q.file ≡ Accepted
+  pub accepted : verdict_of q.file ≡ Ok tt
   unfolding routes_asked
-  accepted = (accepted_by Refused (verdict_of q.file) (answer_in q.file (layout_of q.file) q.start q.limit q.budget (room_of q.lent)) (Listed q.tally) never q.listed).0
+  accepted = (accepted_by Err (verdict_of q.file) (answer_in q.file (layout_of q.file) q.start q.limit q.budget (room_of q.lent)) (Ok q.tally) never q.listed).0
     where
-      never : (u : Fault) → Refused u ≡ Listed q.tally → ⊥
+      never : (u : Fault) → Err u ≡ Ok q.tally → ⊥
       never u e = let z : ◌≡◌ {A = ℕ} 0 1 = cc in omega arith
 
   -- the start is a boundary
   pub here : BoundaryHere q.file q.start
   here =
       ⊎_elim
-      (λ (x : (verdict_of q.file ≡ Accepted) × Answered (routes_checks q.file q.start q.limit q.budget (room_of q.lent)) 0 0). x.1.0.boundary)
+      (λ (x : (verdict_of q.file ≡ Ok tt) × Answered (routes_checks q.file q.start q.limit q.budget (room_of q.lent)) 0 0). x.1.0.boundary)
       (λ x. absurd (x.0 accepted))
       ((routes_asked_lem q.file q.start q.limit q.budget (room_of q.lent) 0 0).0 (ap (λ (r : RoutesAnswer). answer_number (routes_answer r)) q.listed, ap (λ (r : RoutesAnswer). answer_place (routes_answer r)) q.listed))
 

@@ -16,9 +16,8 @@ use Rattle.c_values.specs.Words.{number_part, value_size, value_words}
 use Rattle.c_values.specs.Shown.{short, shown, leaves, words_left}
 use Rattle.route_walks.specs.declared.Tally.{Tally}
 use Rattle.route_walks.specs.Lent.{room_of}
-use Rattle.route_lister.specs.declared.RoutesAnswer.{RoutesAnswer}
-use Rattle.route_lister.specs.declared.RoutesAnswer.TheVariants.{Listed, Refused}
-use Rattle.route_lister.specs.Answered.{limit_of, tally_values, routes_answer}
+use Rattle.std.specs.Prelude.{Ok, Err}
+use Rattle.route_lister.specs.Answered.{RoutesAnswer, limit_of, tally_values, routes_answer}
 use Rattle.route_question.specs.declared.Engine.{Engine}
 use Rattle.route_question.specs.declared.Engine.TheVariants.{First, Second}
 use Rattle.route_question.specs.Routes.{routes_asked, left_asked}
@@ -40,7 +39,7 @@ known_back s z k l = rw (← k.same, ← l.same) (lists_back k.question l.questi
 
 -- ---- the question
 
-asked_known : (f : List ℕ) (start limit budget : ℕ) (lent left : List ℕ) (t : Tally) → Listed t ≡ routes_asked f start limit budget (room_of lent) → left ≡ left_asked f start limit budget lent
+asked_known : (f : List ℕ) (start limit budget : ℕ) (lent left : List ℕ) (t : Tally) → Ok t ≡ routes_asked f start limit budget (room_of lent) → left ≡ left_asked f start limit budget lent
     → Known (record { file = f; start = start; limit = limit_of limit; words = t.words; memory = left })
 asked_known f start limit budget lent left t a l = record {
   question = record { file = f; start = start; limit = limit; budget = budget; lent = lent; tally = t; listed = sym a };
@@ -60,13 +59,13 @@ questions_back e e' p q = known_back (seen_asking e p) (seen_asking e' q) (asked
 -- a call whose number is 0 lists, says how many words, and leaves them
 record Told (a : RoutesAnswer) (counts words listed : List ℕ) : Type 0 where
   pub tally : Tally
-  pub listed_is : a ≡ Listed tally
+  pub listed_is : a ≡ Ok tally
   pub left_is : words_left counts words listed ≡ listed
 
 told : (a : RoutesAnswer) (counts words listed : List ℕ) → number_shown (routes_answer a) counts ≡ 0 → Told a counts words listed
 unfolding words_left
-told (Refused u) counts words listed e = absurd (some_number u.reason e)
-told (Listed t) counts words listed e = record { tally = t; listed_is = refl; left_is = by_test (short (value_words (tally_values t)) counts) refl e }
+told (Err u) counts words listed e = absurd (some_number u.reason e)
+told (Ok t) counts words listed e = record { tally = t; listed_is = refl; left_is = by_test (short (value_words (tally_values t)) counts) refl e }
   where
     by_test : (b : Bool) → short (value_words (tally_values t)) counts ≡ b → cond b (number_of Room) 0 ≡ 0 → words_left counts words listed ≡ listed
     by_test true s z = absurd (omega arith)

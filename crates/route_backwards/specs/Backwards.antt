@@ -8,7 +8,7 @@ use Rattle.route_walks.specs.declared.Tally.{Tally}
 use Rattle.route_walks.specs.Legal.{last_object, Route}
 use Rattle.route_walks.specs.Walks.{words_of}
 use Rattle.route_walks.specs.Lent.{word_size, room_of}
-use Rattle.route_lister.specs.declared.RoutesAnswer.TheVariants.{Listed}
+use Rattle.std.specs.Prelude.{Ok}
 use Rattle.route_lister.specs.Answered.{limit_of}
 use Rattle.route_question.specs.Routes.{routes_asked, left_asked}
 
@@ -67,7 +67,7 @@ pub record NotRefused : Type 0 where
   -- 02: Ticket13.3
   pub lent : List ℕ
   pub tally : Tally
-  pub listed : routes_asked file start limit budget (room_of lent) ≡ Listed tally
+  pub listed : routes_asked file start limit budget (room_of lent) ≡ Ok tally
 
 abbrev pub seen_of : NotRefused → Seen
 seen_of q = record {

@@ -7,7 +7,7 @@ use denote.Triple.Clauses.{Lasts, at_exit}
 use Rattle.octets.specs.Octets.{num_at}
 use Rattle.c_values.specs.Words.{number_part, value_size}
 use Rattle.route_walks.specs.declared.Tally.{Tally}
-use Rattle.route_lister.specs.declared.RoutesAnswer.TheVariants.{Listed}
+use Rattle.std.specs.Prelude.{Ok}
 use Rattle.route_lister.specs.Answered.{limit_of}
 use Rattle.route_question.specs.declared.Engine.{Engine}
 use Rattle.route_question.specs.declared.Engine.TheVariants.{First, Second}
@@ -37,7 +37,7 @@ asked_of Second = routes-flat-reads.Post
 pub record AskedBy (e : Engine) : Type 0 where
   pub call : Call 2 routes-kinds.ps routes-kinds.r (asked_of e)
   pub tally : Tally
-  pub not_refused : call.returned ≡ Listed tally
+  pub not_refused : call.returned ≡ Ok tally
 
 abbrev pub seen_asking : (e : Engine) → AskedBy e → Seen
 seen_asking e q = record {

@@ -1,33 +1,30 @@
 -- The three numbers tell what the layout tells: each region of the layout is tested, and regions of objects with the same links are one.
-use Prim.Native.Nat.{ℕ}
+use Prim.Native.Nat.{ℕ, max}
 use native.Mathlib.Omega.{arith}
 use mathlib.Core.Path.{◌≡◌, refl}
 use mathlib.Core.Bool.{Bool, true, false, cond, ◌||◌}
 use mathlib.Core.List.{List}
 use lib.Dec.{ltb}
 use borrow.Author.Tests.{ltb-true, lt-ltb, ltb-false, le-ltb}
-use Rattle.x2_records.specs.declared.Kind.{Kind}
 use Rattle.x2_records.specs.declared.Kind.TheVariants as kind
 use Rattle.x2_layout.specs.declared.Layout.{Layout}
 use Rattle.x2_layout.specs.Records.{kind_at}
 use Rattle.route_graph.specs.Objects.{view_at, object_at}
-use Rattle.route_graph.specs.inner.Ends.{later, ends_of, kind_in, object_in}
+use Rattle.route_graph.specs.inner.Ends.{ends_of, kind_in, object_in}
 
 -- a place lies before the later of two where it lies before one of them
-below_later : (x a b : ℕ) → ltb x (later a b) ≡ (ltb x a || ltb x b)
-unfolding later
-below_later x a b = go (ltb a b) (ltb x a) refl refl
+below_max : (x a b : ℕ) → ltb x (max a b) ≡ (ltb x a || ltb x b)
+below_max x a b = go (ltb x a) (ltb x b) refl refl
   where
-    go : (p q : Bool) → ltb a b ≡ p → ltb x a ≡ q → ltb x (cond p b a) ≡ (q || ltb x b)
-    go true true e h = let m = ltb-true a b e in let n = ltb-true x a h in lt-ltb x b (omega arith)
-    go true false e h = refl
-    go false true e h = h
-    go false false e h = let m = ltb-false a b e in let n = ltb-false x a h in rw (h, le-ltb x b (omega arith)) refl
+    go : (p q : Bool) → ltb x a ≡ p → ltb x b ≡ q → ltb x (max a b) ≡ (p || q)
+    go true q h k = let m = ltb-true x a h in lt-ltb x (max a b) (omega arith)
+    go false true h k = let m = ltb-true x b k in lt-ltb x (max a b) (omega arith)
+    go false false h k = let m = ltb-false x a h in let n = ltb-false x b k in le-ltb x (max a b) (omega arith)
 
 object_same : (f : List ℕ) (l : Layout) (at : ℕ) → object_in f (ends_of l) at ≡ object_at f l at
 unfolding object_in kind_in ends_of object_at kind_at view_at
 object_same f l at =
-    rw (below_later at l.ends l.turnouts, below_later at (later l.signals l.joints) l.sidings, below_later at l.signals l.joints)
+    rw (below_max at l.ends l.turnouts, below_max at (max l.signals l.joints) l.sidings, below_max at l.signals l.joints)
     (go (ltb at l.ends) (ltb at l.turnouts) (ltb at l.balises) (ltb at l.signals) (ltb at l.joints) (ltb at l.sidings))
   where
     go : (a b c d e g : Bool)

@@ -2,4 +2,3 @@ pub mod Ways
 pub mod Places
 pub mod Read
 pub mod EndsLaws
-pub mod Indexed

@@ -3,15 +3,15 @@
 // answers for every file, every layout and every place.
 #![tactic(auto)]
 
-ghost use Rattle.std.specs.Prelude.{◌≡◌, [], ◌∷◌, length, get_or};
+ghost use Rattle.std.specs.Prelude.{◌≡◌, length, get_or};
 ghost use Rattle.octets.specs.Octets.{num_at};
-ghost use Rattle.route_graph.specs.Objects.{link_at, view_of, object_at, boundary_starts, links_of, edge_link, is_boundary};
+ghost use Rattle.route_graph.specs.Objects.{link_at, view_of, view_at, object_at, boundary_starts, links_of, edge_link, is_boundary};
 ghost use Rattle.route_graph.specs.Ways.{onward_of};
 
 use octets::{byte_at, u16_at};
 use tables::place_of;
 use x2_layout::{Layout, kind_at};
-use x2_records::{Boundary, Links, Turnout};
+use x2_records::{Boundary, Kind, Links, Turnout};
 
 mod regions;
 
@@ -34,6 +34,7 @@ pub struct TurnoutLinks {
 }
 
 // What stands at a place. A link of 0 is none.
+// Stays (1): 0 is a link that names nothing in the paper's own words, and in the definition `Follows` of crate route_walks, whose edit `link_1_ends` is refused.
 #[derive(Clone, Copy)]
 pub enum Object {
     // a boundary, with its link
@@ -52,11 +53,10 @@ impl PlainLinks {
     pub fn onward(self, from: u16) -> u16
         ensures { result ≡ onward_of self from }
     {
-        let previous = self.previous;
-        if previous == from {
+        if self.previous == from {
             self.next
         } else {
-            previous
+            self.previous
         }
     }
 }
@@ -68,9 +68,7 @@ impl Object {
     {
         match self {
             Object::Boundary(link) => link,
-            Object::Plain(_) => 0,
-            Object::Turnout(_) => 0,
-            Object::Nothing => 0,
+            _ => 0,
         }
     }
 
@@ -91,9 +89,9 @@ impl Object {
         ensures { result ≡ get_or (links_of self) index 0 }
     {
         match self {
-            Object::Boundary(link) => pick(index, link, 0, 0),
-            Object::Plain(p) => pick(index, p.previous, p.next, 0),
-            Object::Turnout(t) => pick(index, t.front, t.normal, t.reverse),
+            Object::Boundary(link) => pick(&[link], index),
+            Object::Plain(p) => pick(&[p.previous, p.next], index),
+            Object::Turnout(t) => pick(&[t.front, t.normal, t.reverse], index),
             Object::Nothing => 0,
         }
     }
@@ -102,29 +100,15 @@ impl Object {
     pub fn is_boundary(self) -> bool
         ensures { result ≡ is_boundary self }
     {
-        match self {
-            Object::Boundary(_) => true,
-            Object::Plain(_) => false,
-            Object::Turnout(_) => false,
-            Object::Nothing => false,
-        }
+        matches!(self, Object::Boundary(_))
     }
 }
 
-// The first, the second or the third link, by an index; 0 after these.
-fn pick(index: usize, first: u16, second: u16, third: u16) -> u16
-    ensures { result ≡ get_or (first ∷ second ∷ third ∷ []) index 0 }
+// The link of an index; 0 after the last.
+fn pick(links: &[u16], index: usize) -> u16
+    ensures { result ≡ get_or links.now index 0 }
 {
-    if index == 0 {
-        return first;
-    }
-    if index == 1 {
-        return second;
-    }
-    if index == 2 {
-        return third;
-    }
-    0
+    links.get(index).copied().unwrap_or(0)
 }
 
 // The number at a place of one byte.
@@ -161,12 +145,20 @@ pub fn view(f: &[u8], at: u32, links: Links) -> Object
     }
 }
 
+// The record of a kind that starts at a place.
+#[inline(always)]
+fn record_at(f: &[u8], k: Kind, at: u16) -> Object
+    ensures { result ≡ view_at f.now k at }
+{
+    let at = u32::from(at);
+    view(f, at, k.links(at))
+}
+
 // The object that starts at a place.
 pub fn object_at(f: &[u8], l: Layout, at: u16) -> Object
     ensures { result ≡ object_at f.now l at }
 {
-    let k = kind_at(l, at as usize);
-    view(f, at as u32, k.links(at as u32))
+    record_at(f, kind_at(l, usize::from(at)), at)
 }
 
 // Whether a boundary starts at a place.

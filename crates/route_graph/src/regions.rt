@@ -1,8 +1,8 @@
 // The few numbers of a layout that tell what object stands at a place: where the boundaries, the turnouts and the plain objects end.
 ghost use Rattle.std.specs.Prelude.{◌≡◌};
-ghost use Rattle.route_graph.specs.inner.Ends.{later, ends_of, kind_in, object_in};
+ghost use Rattle.route_graph.specs.inner.Ends.{ends_of, kind_in, object_in};
 
-use crate::{Object, view};
+use crate::{Object, record_at};
 use x2_layout::Layout;
 use x2_records::Kind;
 
@@ -14,22 +14,14 @@ pub struct Ends {
     pub plain: usize,
 }
 
-// The later of two places.
-fn later_of(a: usize, b: usize) -> usize
-    ensures { result ≡ later a b }
-{
-    if a < b { b } else { a }
-}
-
 // Where the objects of a layout end.
 pub fn ends_of(l: Layout) -> Ends
     ensures { result ≡ ends_of l }
 {
-    let before_joints = later_of(l.signals, l.joints);
     Ends {
-        boundaries: later_of(l.ends, l.turnouts),
+        boundaries: l.ends.max(l.turnouts),
         turnouts: l.balises,
-        plain: later_of(before_joints, l.sidings),
+        plain: l.signals.max(l.joints).max(l.sidings),
     }
 }
 
@@ -50,9 +42,9 @@ pub fn kind_in(e: Ends, at: usize) -> Kind
 }
 
 // The object that starts at a place, of a layout whose objects end there.
+#[inline(always)]
 pub fn object_in(f: &[u8], e: Ends, at: u16) -> Object
     ensures { result ≡ object_in f.now e at }
 {
-    let k = kind_in(e, at as usize);
-    view(f, at as u32, k.links(at as u32))
+    record_at(f, kind_in(e, usize::from(at)), at)
 }

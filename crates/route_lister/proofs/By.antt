@@ -13,7 +13,6 @@ use Rattle.route_graph.specs.Objects.{is_boundary}
 use Rattle.route_graph.specs.Ways.{onward_of}
 use Rattle.route_walks.specs.Walks.{has, walks, branches}
 use Rattle.route_walks.proofs.Unfold.{walks_none, walks_boundary, walks_nothing, walks_turnout, walks_plain, turnout_front}
-use Rattle.route_lister.specs.declared.ways.Way.{Way}
 use Rattle.route_lister.specs.declared.ways.Way.TheVariants.{Arrives, Forks, On}
 use Rattle.route_lister.specs.inner.Ways.{turnout_way, way_of}
 

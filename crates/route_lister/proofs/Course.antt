@@ -1,17 +1,16 @@
 -- The course of the second lister's loop, over plain numbers and lists: what is done, and then what the open choices still give, is all that is to be found.
 use Prim.Native.Nat.{ℕ, zero, suc, ◌+◌, ◌-◌, ◌≤◌, ◌<◌}
-use native.Mathlib.Numerals.{add-one, sub-one}
+use native.Mathlib.Numerals.{sub-one}
 use native.Mathlib.Omega.{arith}
 use mathlib.Core.Path.{◌≡◌, refl, sym, ap, subst, ◌∙◌}
 use mathlib.Core.Bool.{Bool, true, false, cond, not, true≢false, ◌&&◌}
-use mathlib.Core.Logic.{◌⊎◌, ⊎_elim, inl, inr}
+use mathlib.Core.Logic.{◌⊎◌, inl, inr}
 use mathlib.Core.List.{List, [], ◌∷◌, ◌++◌, append_assoc, append-nil}
 use lib.ListN.{length, get_or, take, set, length-append, length-set}
 use lib.Seq.{length-take-le, take-set-le, get_or-set_same, get_or-set_other}
 use lib.Dec.{eqb, ltb}
-use borrow.Author.Tests.{not-true, not-false, eqb-true, eqb-false, ltb-true, ltb-false}
+use borrow.Author.Tests.{not-true, eqb-true, eqb-false, ltb-true, ltb-false}
 use Rattle.verdict.proofs.Orders.{and-true}
-use Rattle.route_graph.specs.declared.TurnoutLinks.{TurnoutLinks}
 use Rattle.route_graph.specs.declared.Object.{Object}
 use Rattle.route_graph.specs.declared.Object.TheVariants.{Boundary, Plain, Turnout, Nothing}
 use Rattle.route_graph.specs.Objects.{is_boundary}

@@ -4,14 +4,15 @@ use native.Mathlib.Nat.{zero-add}
 use native.Mathlib.Numerals.{sub-one}
 use native.Mathlib.Omega.{arith}
 use mathlib.Core.Path.{◌≡◌, refl, sym, ap, subst, ◌∙◌}
-use mathlib.Core.Bool.{Bool, true, false, not}
+use mathlib.Core.Bool.{Bool, true, false}
 use mathlib.Core.Logic.{⊎_elim, ◌↔◌}
 use mathlib.Core.List.{List, [], ◌∷◌, ◌++◌}
 use lib.ListN.{length}
 use lib.Dec.{leb, ltb}
-use borrow.Author.Tests.{not-true, not-false, leb-true, le-leb, ltb-false, lt-ltb}
+use borrow.Author.Tests.{leb-true, le-leb, ltb-false, lt-ltb}
 use Rattle.verdict.specs.declared.Fault.{Fault}
 use Rattle.verdict.specs.declared.Reason.TheVariants.{Question}
+use Rattle.verdict.specs.Answers.{refusal}
 use Rattle.verdict.proofs.Orders.{le-or-lt, and-true}
 use Rattle.x2_layout.specs.declared.Layout.{Layout}
 use Rattle.route_graph.specs.declared.Object.{Object}
@@ -27,9 +28,8 @@ use Rattle.route_walks.specs.Range.{limit_least, limit_most, budget_least, budge
 use Rattle.route_walks.specs.inner.Grown.{nothing, Grown}
 use Rattle.route_walks.proofs.Lent.{lays_front}
 use Rattle.route_walks.proofs.Grow.{grown_open, grown_seq}
-use Rattle.route_lister.specs.declared.RoutesAnswer.{RoutesAnswer}
-use Rattle.route_lister.specs.declared.RoutesAnswer.TheVariants.{Listed, Refused}
-use Rattle.route_lister.specs.Answered.{in_range, limit_of, tally_of, refused_for, judged, answer_at, answer_of, leaves, left_of}
+use Rattle.std.specs.Prelude.{Ok, Err}
+use Rattle.route_lister.specs.Answered.{RoutesAnswer, in_range, limit_of, tally_of, judged, answer_at, answer_of, leaves, left_of}
 use Rattle.route_lister.specs.Listing.{Within}
 use Rattle.route_lister.specs.inner.Ready.{PassedOver}
 use Rattle.route_lister.specs.inner.Choices.{one_walk}
@@ -79,10 +79,10 @@ pub in_range_iff : (asked : Bool) (limit budget : ℕ) → (in_range asked limit
 in_range_iff asked limit budget = (tested asked limit budget, met asked limit budget)
 
 -- what the code's test of the range says
-pub within : (asked ok : Bool) (limit budget : ℕ) → ok ≡ in_range asked limit budget → not ok ≡ false → Within asked limit budget
-within asked ok limit budget o e = tested asked limit budget (sym o ∙ not-false ok e)
+pub within : (asked ok : Bool) (limit budget : ℕ) → ok ≡ in_range asked limit budget → ok ≡ true → Within asked limit budget
+within asked ok limit budget o e = tested asked limit budget (sym o ∙ e)
 
-pub start_fits : (l : Layout) (start limit budget : ℕ) (asked ok : Bool) → asked ≡ boundary_starts l start → ok ≡ in_range asked limit budget → not ok ≡ false → start ≤ offset_most
+pub start_fits : (l : Layout) (start limit budget : ℕ) (asked ok : Bool) → asked ≡ boundary_starts l start → ok ≡ in_range asked limit budget → ok ≡ true → start ≤ offset_most
 start_fits l start limit budget asked ok a o e = (boundary_facts l start (sym a ∙ (within asked ok limit budget o e).boundary)).small
 
 -- ---- the answer by the tally of a pass
@@ -102,11 +102,11 @@ module _ (v : ℕ → Object) (start limit budget : ℕ) (c : Tally) (x x' : Lis
       (λ q. rw (e, lt-ltb budget c.walks (g.beyond (omega arith)), lt-ltb budget (length (all_walks v start limit)) q) refl)
       (le-or-lt (length (all_walks v start limit)) budget)
 
-not_listed : (x : Fault) (c : Tally) → Refused x ≡ Listed c → ⊥
+not_listed : (x : Fault) (c : Tally) → Err x ≡ Ok c → ⊥
 not_listed x c e = let z : ◌≡◌ {A = ℕ} 0 1 = cc in omega arith
 
 -- what a listing says of the tests
-listed_if : (steps room : Bool) (t c : Tally) → judged true steps room t ≡ Listed c → (steps ≡ false) × (room ≡ false)
+listed_if : (steps room : Bool) (t c : Tally) → judged true steps room t ≡ Ok c → (steps ≡ false) × (room ≡ false)
 unfolding judged
 listed_if true room t c e = absurd (not_listed _ c e)
 listed_if false true t c e = absurd (not_listed _ c e)
@@ -128,31 +128,31 @@ module _ (v : ℕ → Object) (there asked ok : Bool) (start limit most budget :
   as_put : (r : RoutesAnswer) (out' : List ℕ) → r ≡ answer_at v asked start most budget (room_of out) → out' ≡ leaves r (words_of (all_routes v start most)) out → Right r out'
   as_put r out' a b = (rw (asked_is, most_is) at a, rw (a, asked_is, most_is) at b)
 
-  pub out_of_range : (r : RoutesAnswer) → r ≡ refused_for Question → not ok ≡ true → Right r out
+  pub out_of_range : (t : Fault) → t ≡ refusal Question → ok ≡ false → Right (Err t) out
   unfolding answer_at judged leaves
-  out_of_range r e n =
-      let q : in_range asked most budget ≡ false = sym ok_is ∙ not-true ok n in
-      as_put r out (e ∙ rw (q, answer_at, judged) refl) (rw (e, leaves) refl)
+  out_of_range t e n =
+      let q : in_range asked most budget ≡ false = sym ok_is ∙ n in
+      as_put (Err t) out (ap Err e ∙ rw (q, answer_at, judged) refl) refl
 
   -- the counting pass is lent no byte, and answer is what its tally settles
-  module _ (granted : not ok ≡ false) (c : Tally) (x part : List ℕ) (none : length part ≡ 0) (g : Grown v (all_walks v start most) budget nothing c x part) (answer : RoutesAnswer)
+  module _ (granted : ok ≡ true) (c : Tally) (x part : List ℕ) (none : length part ≡ 0) (g : Grown v (all_walks v start most) budget nothing c x part) (answer : RoutesAnswer)
       (settled : answer ≡ judged true (ltb budget c.walks) (ltb (room_of (part ++ out)) c.words) c) where
     in_range_lem : in_range asked most budget ≡ true
-    in_range_lem = sym ok_is ∙ not-false ok granted
+    in_range_lem = sym ok_is ∙ granted
 
     right : answer ≡ answer_at v asked start most budget (room_of out)
     right = (rw (lent_none part out none) at settled) ∙ by_count v start most budget c x part g asked (room_of out) in_range_lem
 
-    pub refuses : (t : Fault) → answer ≡ Refused t → Right answer (part ++ out)
+    pub refuses : (t : Fault) → answer ≡ Err t → Right (Err t) (part ++ out)
     unfolding leaves
-    refuses t e = as_put answer (part ++ out) right (rw (e, leaves) (lent_none part out none))
+    refuses t e = as_put (Err t) (part ++ out) (sym e ∙ right) (lent_none part out none)
 
-    pub lists : (t r : Tally) (out' : List ℕ) → answer ≡ Listed t → Grown v (all_walks v start most) budget nothing r (part ++ out) out' → Right (Listed r) out'
+    pub lists : (t r : Tally) (out' : List ℕ) → answer ≡ Ok t → Grown v (all_walks v start most) budget nothing r (part ++ out) out' → Right (Ok r) out'
     unfolding answer_at judged leaves tally_of
     lists t r out' e f =
         let q = listed_if (ltb budget (length (all_walks v start most))) (ltb (room_of out) (length (words_of (all_routes v start most)))) (tally_of v start most) t (rw in_range_lem at (sym right ∙ e)) in
         let fits = ltb-false budget (length (all_walks v start most)) q.0 in
         let enough = ltb-false (room_of out) (length (words_of (all_routes v start most))) q.1 in
         let room : 2 * length (words_of (all_routes v start most)) ≤ length out = omega arith in
-        as_put (Listed r) out' (ap Listed (counts_all v start most budget r (part ++ out) out' f fits) ∙ rw (in_range_lem, q.0, q.1, answer_at, judged) refl)
+        as_put (Ok r) out' (ap Ok (counts_all v start most budget r (part ++ out) out' f fits) ∙ rw (in_range_lem, q.0, q.1, answer_at, judged) refl)
         (f.out-is (omega arith) ∙ ap (λ (o : List ℕ). lays o 0 (words_of (all_routes v start most))) (lent_none part out none) ∙ lays_front (words_of (all_routes v start most)) out room)

@@ -1,6 +1,7 @@
 -- What the lister answers and what it leaves in the bytes lent, for every input (01, 'Routes'): 13, then 14, then 15, else the listing.
 -- `v` says what stands at a place, and `asked` whether a boundary starts at `start`.
-use Rattle.std.specs.Prelude.{ℕ, ◌*◌, Bool, true, false, cond, ◌&&◌, List, [], ◌∷◌, ◌++◌, ℤ, pos, length, drop, eqb, leb, ltb}
+use Rattle.std.specs.Prelude.{ℕ, ◌*◌, Bool, true, false, cond, ◌&&◌, List, [], ◌∷◌, ◌++◌, ℤ, pos, length, drop, eqb, leb, ltb, Result, Ok, Err}
+use Rattle.verdict.specs.declared.Fault.{Fault}
 use Rattle.verdict.specs.declared.Reason.{Reason}
 use Rattle.verdict.specs.declared.Reason.TheVariants.{Question, Steps, Room}
 use Rattle.verdict.specs.Answers.{Answer, answered, refused, refusal}
@@ -11,8 +12,6 @@ use Rattle.route_walks.specs.declared.Tally.{Tally}
 use Rattle.route_walks.specs.Walks.{all_walks, all_routes, words_of}
 use Rattle.route_walks.specs.Lent.{word_size, room_of, octets_of}
 use Rattle.route_walks.specs.Range.{limit_least, limit_most, budget_least, budget_most}
-use Rattle.route_lister.specs.declared.RoutesAnswer.{RoutesAnswer}
-use Rattle.route_lister.specs.declared.RoutesAnswer.TheVariants.{Listed, Refused}
 
 -- ---- the range
 
@@ -32,6 +31,10 @@ in_range asked limit budget = asked && (leb limit_least limit && (leb limit limi
 
 -- ---- the answer
 
+-- a listing's numbers, or why there is none
+abbrev pub RoutesAnswer : Type 0
+RoutesAnswer = Result Tally Fault
+
 -- the number of all partial walks, the number of routes, and the words that these take
 unfoldable pub tally_of : (ℕ → Object) → ℕ → ℕ → Tally
 tally_of v start limit = record {
@@ -42,14 +45,14 @@ tally_of v start limit = record {
 
 -- a refusal for a reason, at place 0
 abbrev pub refused_for : Reason → RoutesAnswer
-refused_for reason = Refused (refusal reason)
+refused_for reason = Err (refusal reason)
 
 -- the question is in range, the partial walks outnumber the budget, the list is longer than the room
 unfoldable pub judged : Bool → Bool → Bool → Tally → RoutesAnswer
 judged false steps room t = refused_for Question
 judged true true room t = refused_for Steps
 judged true false true t = refused_for Room
-judged true false false t = Listed t
+judged true false false t = Ok t
 
 -- the answer, of a limit that is meant
 unfoldable pub answer_at : (ℕ → Object) → Bool → ℕ → ℕ → ℕ → ℕ → RoutesAnswer
@@ -66,8 +69,8 @@ answer_of v asked start limit budget room = answer_at v asked start (limit_of li
 -- it was
 -- 01: Ask.6
 unfoldable pub leaves : RoutesAnswer → List ℕ → List ℕ → List ℕ
-leaves (Listed t) ws out = octets_of ws ++ drop (word_size * length ws) out
-leaves (Refused t) ws out = out
+leaves (Ok t) ws out = octets_of ws ++ drop (word_size * length ws) out
+leaves (Err t) ws out = out
 
 abbrev pub left_of : (ℕ → Object) → Bool → ℕ → ℕ → ℕ → List ℕ → List ℕ
 left_of v asked start limit budget out =
@@ -93,5 +96,5 @@ tally_values t = pos t.routes ∷ pos t.words ∷ pos t.walks ∷ []
 
 -- 01: Form.10
 abbrev pub routes_answer : RoutesAnswer → Answer
-routes_answer (Listed t) = answered (tally_values t)
-routes_answer (Refused t) = refused 3 t
+routes_answer (Ok t) = answered (tally_values t)
+routes_answer (Err t) = refused 3 t

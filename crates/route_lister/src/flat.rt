@@ -1,34 +1,23 @@
 // The second lister: one loop, which takes up an open choice after the other until none is left. No function here calls itself, directly or
-// through others. With the first lister it shares the reading of an object, the test for a repeat, the storing of a route's words, and how a
-// question is settled; how the walks are found, and their order, comes from the array of open choices alone.
+// through others. With the first lister it shares the reading of an object, the test for a repeat, the count of a walk and the storing of a route's
+// words, and how a question is settled; how the walks are found, and their order, comes from the arrays of open choices alone.
 ghost use Rattle.std.specs.Prelude.{◌≡◌, ◌≤◌, length, take};
 ghost use Rattle.route_graph.specs.Objects.{is_boundary};
-ghost use Rattle.route_graph.specs.inner.Ends.{object_in};
 ghost use Rattle.route_walks.specs.Lent.{room_of};
 ghost use Rattle.route_walks.specs.Range.{limit_most, budget_most, Bounds};
 ghost use Rattle.route_walks.specs.inner.Grown.{Sane};
 ghost use Rattle.route_lister.specs.inner.Marks.{Marked};
 ghost use Rattle.route_lister.specs.inner.Choices.{Sized, goes_on, Taken, taken_bytes, TakenUp};
-ghost use Rattle.route_lister.specs.inner.Ready.{PassedOver};
 ghost use Rattle.route_lister.specs.Answered.{answer_in, left_in};
 
-use crate::RoutesAnswer;
-use crate::asked::{in_range, limit_of, refused, settled};
+use crate::asked::{Lister, list_by};
 use crate::choices::{choice_above, put_choice, put_exits};
 use crate::marks::{CELLS, push, stands};
-use crate::steps::put_in_room;
-use route_graph::{Ends, Object, boundary_at, ends_of, kind_in, object_at, view};
-use route_walks::{LIMIT_MOST, Tally, WORD_SIZE};
-use verdict::Reason;
+use crate::steps::{ONE_WALK, arrived, opened};
+use route_graph::{Ends, Object, ends_of, object_at, object_in};
+use route_walks::{LIMIT_MOST, Tally};
+use verdict::Fault;
 use x2_layout::Layout;
-
-// The object that starts at a place: what `object_in` reads, by its two steps, so that it is compiled in place in the loop.
-fn object_of(f: &[u8], e: Ends, at: u16) -> Object
-    ensures { result ≡ object_in f.now e at }
-{
-    let k = kind_in(e, at as usize);
-    view(f, at as u32, k.links(at as u32))
-}
 
 // Whether the walk of the first n of a path goes on by a link: it names an object, the limit allows one more, and the object does not stand
 // in the walk.
@@ -51,20 +40,10 @@ fn count(o: Object, path: &[u16], n: usize, out: &mut [u8], t: Tally) -> Tally
     ensures counted { Taken (is_boundary o) n t result }
     ensures stored { out.new ≡ taken_bytes (is_boundary o) out.old t.words n (take n path.now) }
 {
-    let walks = t.walks + 1;
-    if !o.is_boundary() {
-        return Tally {
-            walks: walks,
-            routes: t.routes,
-            words: t.words,
-        };
-    }
-    let at = t.words;
-    put_in_room(path, n, out, at);
-    Tally {
-        walks: walks,
-        routes: t.routes + 1,
-        words: at + (n + 1),
+    if o.is_boundary() {
+        arrived(path, n, out, t)
+    } else {
+        opened(t)
     }
 }
 
@@ -85,11 +64,7 @@ fn take_up(
     requires { Bounds limit budget × (limit_most ≤ length path.old) × Marked marks.old path.old 1 × Sized objects.old links.old }
     ensures { TakenUp f.now e first limit budget path.old result out.old out.new }
 {
-    let mut t = Tally {
-        walks: 1,
-        routes: 0,
-        words: 0,
-    };
+    let mut t = ONE_WALK;
     let mut n = 1;
     let mut waiting = put_choice(objects, links, 0, n, first);
     while (0 < waiting) & (t.walks <= budget) {
@@ -101,7 +76,7 @@ fn take_up(
             let from = path[n - 1];
             push(path, marks, n, link);
             n += 1;
-            let o = object_of(f, e, link);
+            let o = object_in(f, e, link);
             t = count(o, path, n, out, t);
             waiting = put_exits(o, from, objects, links, waiting, n);
         }
@@ -109,30 +84,31 @@ fn take_up(
     t
 }
 
-// One pass over the partial walks from the boundary `start`: counts them, and stores the words of the routes as far as there is room.
-fn pass_flat(f: &[u8], l: Layout, start: u16, limit: usize, budget: usize, out: &mut [u8]) -> Tally
-    requires { Bounds limit budget }
-    ensures { PassedOver f.now l start limit budget result out.old out.new }
-{
-    let mut path = [0u16; LIMIT_MOST];
-    path[0] = start;
-    let mut marks = [0u16; CELLS];
-    let mut objects = [0u16; LIMIT_MOST];
-    let mut links = [0u16; LIMIT_MOST];
-    let e = ends_of(l);
-    let first = object_at(f, l, start).edge_link();
-    take_up(
-        f,
-        e,
-        first,
-        limit,
-        budget,
-        &mut path,
-        &mut marks,
-        &mut objects,
-        &mut links,
-        out,
-    )
+// The lister that holds the open choices.
+pub struct Flat;
+
+impl Lister for Flat {
+    fn pass(f: &[u8], l: Layout, start: u16, limit: usize, budget: usize, out: &mut [u8]) -> Tally {
+        let mut path = [0u16; LIMIT_MOST];
+        path[0] = start;
+        let mut marks = [0u16; CELLS];
+        let mut objects = [0u16; LIMIT_MOST];
+        let mut links = [0u16; LIMIT_MOST];
+        let e = ends_of(l);
+        let first = object_at(f, l, start).edge_link();
+        take_up(
+            f,
+            e,
+            first,
+            limit,
+            budget,
+            &mut path,
+            &mut marks,
+            &mut objects,
+            &mut links,
+            out,
+        )
+    }
 }
 
 // What `list` answers and leaves, by the second lister.
@@ -143,21 +119,9 @@ pub fn list_flat(
     limit: usize,
     budget: usize,
     out: &mut [u8],
-) -> RoutesAnswer
+) -> Result<Tally, Fault>
     ensures answered { result ≡ answer_in f.now l start limit budget (room_of out.old) }
     ensures written { out.new ≡ left_in f.now l start limit budget out.old }
 {
-    let most = limit_of(limit);
-    let asked = boundary_at(l, start);
-    if !in_range(asked, most, budget) {
-        return refused(Reason::Question);
-    }
-    let at = start as u16;
-    let none = 0;
-    let counted = pass_flat(f, l, at, most, budget, &mut out[..none]);
-    let answer = settled(counted, budget, out.len() / WORD_SIZE);
-    let RoutesAnswer::Listed(_) = answer else {
-        return answer;
-    };
-    RoutesAnswer::Listed(pass_flat(f, l, at, most, budget, out))
+    list_by::<Flat>(f, l, start, limit, budget, out)
 }

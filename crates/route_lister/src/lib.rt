@@ -24,34 +24,22 @@ pub use lister::list;
 // The limit that a limit of 0 means.
 pub const DEFAULT_LIMIT: usize = 160;
 
-// The answer to the question for routes.
-#[derive(Clone, Copy)]
-pub enum RoutesAnswer {
-    Listed(Tally),
-    Refused(Fault),
+// The number of an answer: 0 where the routes are listed.
+pub fn number(answer: Result<Tally, Fault>) -> usize
+    ensures { result ≡ answer_number (routes_answer answer) }
+{
+    match answer {
+        Ok(_) => 0,
+        Err(fault) => fault.reason.number(),
+    }
 }
 
-impl RoutesAnswer {
-    // The number of the answer: 0 where the routes are listed.
-    pub fn number(self) -> usize
-        ensures { result ≡ answer_number (routes_answer self) }
-    {
-        match self {
-            RoutesAnswer::Listed(_) => 0,
-            RoutesAnswer::Refused(fault) => {
-                let reason = fault.reason;
-                reason.number()
-            }
-        }
-    }
-
-    // The place of the answer: 0 where the routes are listed.
-    pub fn place(self) -> usize
-        ensures { result ≡ answer_place (routes_answer self) }
-    {
-        match self {
-            RoutesAnswer::Listed(_) => 0,
-            RoutesAnswer::Refused(fault) => fault.place,
-        }
+// The place of an answer: 0 where the routes are listed.
+pub fn place(answer: Result<Tally, Fault>) -> usize
+    ensures { result ≡ answer_place (routes_answer answer) }
+{
+    match answer {
+        Ok(_) => 0,
+        Err(fault) => fault.place,
     }
 }

@@ -1,18 +1,16 @@
 // The first lister. Following one link and branching at a turnout call each other; the objects still allowed by the limit fall.
 ghost use Rattle.std.specs.Prelude.{◌≡◌, take};
 ghost use Rattle.route_walks.specs.Lent.{room_of};
-ghost use Rattle.route_walks.specs.Range.{Bounds};
-ghost use Rattle.route_lister.specs.inner.Ready.{Ready, Held, Followed, Branched, PassedOver};
+ghost use Rattle.route_lister.specs.inner.Ready.{Ready, Held, Followed, Branched};
 ghost use Rattle.route_lister.specs.Answered.{answer_in, left_in};
 
-use crate::RoutesAnswer;
-use crate::asked::{in_range, limit_of, refused, settled};
+use crate::asked::{Lister, list_by};
 use crate::marks::{CELLS, push};
-use crate::steps::{arrived, opened, opens};
+use crate::steps::{ONE_WALK, arrived, opened, opens};
 use crate::ways::{Way, way_of};
-use route_graph::{Ends, TurnoutLinks, boundary_at, ends_of, object_at, object_in};
-use route_walks::{LIMIT_MOST, Tally, WORD_SIZE};
-use verdict::Reason;
+use route_graph::{Ends, TurnoutLinks, ends_of, object_at, object_in};
+use route_walks::{LIMIT_MOST, Tally};
+use verdict::Fault;
 use x2_layout::Layout;
 
 // Follows the link `to` of the object `from`, which is the last of the n in path: opens each partial walk that goes on by it with at most
@@ -83,38 +81,34 @@ fn branch(
     follow(f, e, at, reverse, path, marks, n, left, budget, out, u)
 }
 
-// One pass over the partial walks from the boundary `start`: counts them, and stores the words of the routes as far as there is room.
-fn pass(f: &[u8], l: Layout, start: u16, limit: usize, budget: usize, out: &mut [u8]) -> Tally
-    requires { Bounds limit budget }
-    ensures { PassedOver f.now l start limit budget result out.old out.new }
-{
-    let mut path = [0u16; LIMIT_MOST];
-    path[0] = start;
-    let mut marks = [0u16; CELLS];
-    let t = Tally {
-        walks: 1,
-        routes: 0,
-        words: 0,
-    };
-    let e = ends_of(l);
-    let first = object_at(f, l, start).edge_link();
-    follow(
-        f,
-        e,
-        start,
-        first,
-        &mut path,
-        &mut marks,
-        1,
-        limit - 1,
-        budget,
-        out,
-        t,
-    )
+// The lister whose functions call each other.
+pub struct Nested;
+
+impl Lister for Nested {
+    fn pass(f: &[u8], l: Layout, start: u16, limit: usize, budget: usize, out: &mut [u8]) -> Tally {
+        let mut path = [0u16; LIMIT_MOST];
+        path[0] = start;
+        let mut marks = [0u16; CELLS];
+        let e = ends_of(l);
+        let first = object_at(f, l, start).edge_link();
+        follow(
+            f,
+            e,
+            start,
+            first,
+            &mut path,
+            &mut marks,
+            1,
+            limit - 1,
+            budget,
+            out,
+            ONE_WALK,
+        )
+    }
 }
 
 // Every route from the boundary `start`, in order, with the numbers of the listing. The words go to the front of `out`, two bytes each, low
-// byte first; a refusal leaves every byte of it as it was. The first pass is lent no byte and counts.
+// byte first; a refusal leaves every byte of it as it was.
 pub fn list(
     f: &[u8],
     l: Layout,
@@ -122,21 +116,9 @@ pub fn list(
     limit: usize,
     budget: usize,
     out: &mut [u8],
-) -> RoutesAnswer
+) -> Result<Tally, Fault>
     ensures answered { result ≡ answer_in f.now l start limit budget (room_of out.old) }
     ensures written { out.new ≡ left_in f.now l start limit budget out.old }
 {
-    let most = limit_of(limit);
-    let asked = boundary_at(l, start);
-    if !in_range(asked, most, budget) {
-        return refused(Reason::Question);
-    }
-    let at = start as u16;
-    let none = 0;
-    let counted = pass(f, l, at, most, budget, &mut out[..none]);
-    let answer = settled(counted, budget, out.len() / WORD_SIZE);
-    let RoutesAnswer::Listed(_) = answer else {
-        return answer;
-    };
-    RoutesAnswer::Listed(pass(f, l, at, most, budget, out))
+    list_by::<Nested>(f, l, start, limit, budget, out)
 }

@@ -8,6 +8,9 @@ ghost use Rattle.route_lister.specs.inner.Marks.{cells, cell_of, mark_of, told, 
 
 use route_walks::stands_in;
 
+// Stays (5): a struct of the path, its marks and n, with that they are right for it as its invariant, was proved too, beside a struct of the open
+// choices; by the two the second lister took 631 us in place of 452, and the first 577 us in place of 651, on the yard of the row `routes` of
+// tools/bench, without the verdict.
 // How many cells there are.
 pub const CELLS: usize = 2048;
 

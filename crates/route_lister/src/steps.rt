@@ -1,13 +1,20 @@
 // What the lister does with each partial walk that it opens: the test whether it opens one, the count, and the words of a route.
-ghost use Rattle.std.specs.Prelude.{◌≡◌, ◌+◌, ◌≤◌, ◌<◌, ◌∷◌, length, take};
-ghost use Rattle.route_walks.specs.Lent.{room_of, lay, lays};
+ghost use Rattle.std.specs.Prelude.{◌≡◌, ◌+◌, ◌≤◌, ◌∷◌, length, take};
+ghost use Rattle.route_walks.specs.Lent.{lays};
 ghost use Rattle.route_walks.specs.Range.{limit_most, budget_most};
 ghost use Rattle.route_walks.specs.inner.Grown.{Sane, Counted};
 ghost use Rattle.route_lister.specs.inner.Marks.{Marked};
-ghost use Rattle.route_lister.specs.inner.Steps.{Lesser, Tested};
+ghost use Rattle.route_lister.specs.inner.Steps.{Tested};
 
 use crate::marks::{CELLS, stands};
-use route_walks::{BYTE_VALUES, Tally, WORD_SIZE};
+use route_walks::{Tally, put_words};
+
+// What is counted before any link is followed: the walk of the boundary alone.
+pub const ONE_WALK: Tally = Tally {
+    walks: 1,
+    routes: 0,
+    words: 0,
+};
 
 // Whether a walk of the first n of a path opens another by the link `to`: the link names an object, `left` objects more are allowed, the
 // walks do not outnumber the budget, and the object does not stand in the walk.
@@ -35,48 +42,6 @@ pub fn opens(
     !stands(path, marks, n, to)
 }
 
-// Stores a word in two bytes, low byte first. There is room for it.
-fn store(out: &mut [u8], at: usize, word: u16)
-    requires { at < room_of out.old }
-    ensures { out.new ≡ lay out.old at word }
-{
-    out[WORD_SIZE * at] = (word % BYTE_VALUES) as u8;
-    out[WORD_SIZE * at + 1] = (word / BYTE_VALUES) as u8;
-}
-
-// The lesser of two numbers.
-fn lesser(a: usize, b: usize) -> usize
-    ensures { Lesser a b result }
-{
-    if a < b { a } else { b }
-}
-
-// Stores the words of the route in the first n of a path: its object count, for which there is room, and then the offsets, as many as find
-// room.
-fn put(path: &[u16], n: usize, out: &mut [u8], at: usize)
-    requires { (n ≤ length path.now) × (n ≤ limit_most) × (at < room_of out.old) }
-    ensures { out.new ≡ lays out.old at (n ∷ take n path.now) }
-{
-    let whole = lesser(n, out.len() / WORD_SIZE - at - 1);
-    store(out, at, n as u16);
-    let mut i = 0;
-    while i < whole {
-        store(out, at + 1 + i, path[i]);
-        i += 1;
-    }
-}
-
-// The same, where there is room for the first of these words; the pass that only counts has none.
-pub fn put_in_room(path: &[u16], n: usize, out: &mut [u8], at: usize)
-    requires { (n ≤ length path.now) × (n ≤ limit_most) }
-    ensures { out.new ≡ lays out.old at (n ∷ take n path.now) }
-{
-    let room = out.len() / WORD_SIZE;
-    if at < room {
-        put(path, n, out, at);
-    }
-}
-
 // Counts a partial walk that is no route.
 pub fn opened(t: Tally) -> Tally
     requires { Sane budget_most t }
@@ -84,23 +49,23 @@ pub fn opened(t: Tally) -> Tally
 {
     Tally {
         walks: t.walks + 1,
-        routes: t.routes,
-        words: t.words,
+        ..t
     }
 }
 
-// Counts the route in the first n of a path, and stores its words.
+// Counts the route in the first n of a path, and stores its words: its object count and then the offsets, as many as find room. The pass that only
+// counts has room for none.
 pub fn arrived(path: &[u16], n: usize, out: &mut [u8], t: Tally) -> Tally
     requires { (n ≤ length path.now) × (n ≤ limit_most) × Sane budget_most t }
     ensures counted { Counted 1 1 (n + 1) t result }
     ensures stored { out.new ≡ lays out.old t.words (n ∷ take n path.now) }
 {
-    let at = t.words;
-    put_in_room(path, n, out, at);
-    let u = opened(t);
+    let offsets = t.words + 1;
+    put_words(out, t.words, &[n as u16]);
+    put_words(out, offsets, &path[..n]);
     Tally {
-        walks: u.walks,
-        routes: u.routes + 1,
-        words: at + (n + 1),
+        routes: t.routes + 1,
+        words: offsets + n,
+        ..opened(t)
     }
 }

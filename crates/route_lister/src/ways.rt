@@ -12,6 +12,7 @@ pub enum Way {
     // by normal and by reverse: a turnout, entered at the front
     Forks(TurnoutLinks),
     // by this link, which 0 ends
+    // Stays (1): 0 is a link that names nothing in the paper's own words, as in crate route_graph.
     On(u16),
 }
 

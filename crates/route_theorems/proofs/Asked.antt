@@ -10,7 +10,7 @@ use lib.ListN.{length}
 use lib.Dec.{ltb}
 use borrow.Author.Tests.{ltb-true, ltb-false}
 use Rattle.verdict.specs.declared.Reason.TheVariants as reason
-use Rattle.verdict.specs.declared.Verdict.TheVariants.{Accepted}
+use Rattle.std.specs.Prelude.{Ok, Err}
 use Rattle.verdict.specs.Answers.{Answer, answered, refused, answer_number, answer_place, refusal}
 use Rattle.verdict.specs.Order.{Check, check, Asked}
 use Rattle.verdict.proofs.Questions.{asked_is, AnswerIs, all_passed, passed, failed, some_number}
@@ -23,16 +23,15 @@ use Rattle.route_walks.specs.Legal.{Walk, Route}
 use Rattle.route_walks.specs.Walks.{all_walks, all_routes, words_of}
 use Rattle.route_walks.proofs.Order.{walks_counted, all_routes_lem}
 use Rattle.route_walks.proofs.Count.{one_number, one_length}
-use Rattle.route_lister.specs.declared.RoutesAnswer.{RoutesAnswer}
-use Rattle.route_lister.specs.declared.RoutesAnswer.TheVariants.{Listed, Refused}
-use Rattle.route_lister.specs.Answered.{limit_of, in_range, tally_of, judged, answer_at, answer_in, tally_values, routes_answer}
+use Rattle.std.specs.Prelude.{Ok, Err}
+use Rattle.route_lister.specs.Answered.{RoutesAnswer, limit_of, in_range, tally_of, judged, answer_at, answer_in, tally_values, routes_answer}
 use Rattle.route_lister.proofs.Whole.{in_range_iff}
 use Rattle.route_theorems.specs.Asked.{BoundaryHere, InRange, StepsFew, RoomEnough, routes_checks}
 use Rattle.route_question.specs.Routes.{routes_asked}
 use Rattle.route_theorems.proofs.Listed.{linked}
 use Rattle.route_theorems.proofs.Range.{range_iff, target}
 
-module _ (f : List ℕ) (e : verdict_of f ≡ Accepted) (start limit budget room : ℕ) where
+module _ (f : List ℕ) (e : verdict_of f ≡ Ok tt) (start limit budget room : ℕ) where
   -- ---- the walks and the words, counted in the computed lists
 
   abbrev walk_count : ℕ
@@ -107,7 +106,7 @@ module _ (f : List ℕ) (start limit budget room : ℕ) where
   pub routes_asked_lem : (n p : ℕ) → ((answer_number answer ≡ n) × (answer_place answer ≡ p)) ↔ Asked (verdict_of f) (routes_checks f start limit budget room) n p
   unfolding routes_asked answer_at tally_of
   routes_asked_lem n p =
-      asked_is Refused routes_answer (verdict_of f) (answer_in f (layout_of f) start limit budget room) (routes_checks f start limit budget room) (λ t. (refl, refl))
+      asked_is Err routes_answer (verdict_of f) (answer_in f (layout_of f) start limit budget room) (routes_checks f start limit budget room) (λ t. (refl, refl))
       (λ e. (routes_own f e start limit budget room (in_range (boundary_starts (layout_of f) start) (limit_of limit) budget) _ _ refl refl refl).exactly) n p
 
   -- THEOREM: the cases exclude each other: a question has one number and one place.
@@ -118,6 +117,6 @@ module _ (f : List ℕ) (start limit budget room : ℕ) where
       (sym x.0 ∙ y.0, sym x.1 ∙ y.1)
 
 -- THEOREM: the number is 0 exactly where the routes are listed.
-pub listed_iff : (r : RoutesAnswer) → (answer_number (routes_answer r) ≡ 0) ↔ ((t : Tally) × (r ≡ Listed t))
-listed_iff (Listed t) = (λ e. (t, refl), λ h. refl)
-listed_iff (Refused t) = (λ e. absurd (some_number t.reason e), λ h. ap (λ (r : RoutesAnswer). answer_number (routes_answer r)) h.1)
+pub listed_iff : (r : RoutesAnswer) → (answer_number (routes_answer r) ≡ 0) ↔ ((t : Tally) × (r ≡ Ok t))
+listed_iff (Ok t) = (λ e. (t, refl), λ h. refl)
+listed_iff (Err t) = (λ e. absurd (some_number t.reason e), λ h. ap (λ (r : RoutesAnswer). answer_number (routes_answer r)) h.1)

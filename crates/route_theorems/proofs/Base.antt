@@ -13,9 +13,8 @@ use Rattle.x2_verdict.specs.Facts.{verdict_of}
 use Rattle.route_graph.specs.Objects.{object_at, boundary_starts}
 use Rattle.route_walks.specs.Walks.{all_routes, words_of}
 use Rattle.route_walks.specs.Lent.{room_of}
-use Rattle.route_lister.specs.declared.RoutesAnswer.{RoutesAnswer}
-use Rattle.route_lister.specs.declared.RoutesAnswer.TheVariants.{Refused}
-use Rattle.route_lister.specs.Answered.{default_limit, limit_of, answer_at, leaves}
+use Rattle.std.specs.Prelude.{Err}
+use Rattle.route_lister.specs.Answered.{RoutesAnswer, default_limit, limit_of, answer_at, leaves}
 use Rattle.route_question.specs.Routes.{routes_asked, left_asked}
 use Rattle.route_theorems.specs.Base.{default_was, limit_was, routes_was, left_was}
 
@@ -31,7 +30,7 @@ module _ (f : List ℕ) (start : ℕ) where
   module _ (limit other : ℕ) (budget : ℕ) (same : limit_of limit ≡ limit_was other) where
     same_answer : (room : ℕ) → routes_asked f start limit budget room ≡ routes_was f start other budget room
     unfolding routes_asked routes_was
-    same_answer room = ap (λ (k : ℕ). after_verdict Refused (verdict_of f) (answered_at budget room k)) same
+    same_answer room = ap (λ (k : ℕ). after_verdict Err (verdict_of f) (answered_at budget room k)) same
 
     same_left : (out : List ℕ) → left_asked f start limit budget out ≡ left_was f start other budget out
     unfolding left_asked left_was

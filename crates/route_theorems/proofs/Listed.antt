@@ -12,8 +12,8 @@ use Rattle.verdict.specs.declared.Fault.{Fault}
 use Rattle.verdict.specs.declared.Reason.{Reason}
 use Rattle.verdict.specs.declared.Reason.TheVariants.{Question, Steps, Room}
 use Rattle.verdict.specs.Reasons.{number_of}
-use Rattle.verdict.specs.declared.Verdict.{Verdict}
-use Rattle.verdict.specs.declared.Verdict.TheVariants as verdict
+use Rattle.verdict.specs.Verdicts.{Verdict}
+use Rattle.std.specs.Prelude.{Ok, Err}
 use Rattle.verdict.specs.Answers.{answer_number, after_verdict}
 use Rattle.verdict.proofs.Questions.{no_fault}
 use Rattle.x2_layout.specs.Layout.{layout_of}
@@ -32,9 +32,8 @@ use Rattle.route_walks.specs.Legal.{Walk, Route}
 use Rattle.route_walks.specs.Walks.{words_of}
 use Rattle.route_walks.specs.Lent.{room_of}
 use Rattle.route_walks.specs.All.{Exactly, Number}
-use Rattle.route_lister.specs.declared.RoutesAnswer.{RoutesAnswer}
-use Rattle.route_lister.specs.declared.RoutesAnswer.TheVariants.{Listed, Refused}
-use Rattle.route_lister.specs.Answered.{limit_of, refused_for, judged, answer_at, answer_of, answer_in, left_in, routes_answer}
+use Rattle.std.specs.Prelude.{Ok, Err}
+use Rattle.route_lister.specs.Answered.{RoutesAnswer, limit_of, refused_for, judged, answer_at, answer_of, answer_in, left_in, routes_answer}
 use Rattle.route_lister.specs.Listing.{Within, Listing}
 use Rattle.route_theorems.proofs.Listing.{no_room_iff as room-iff}
 use Rattle.route_theorems.proofs.Listing.{listing, question_iff, steps_iff, kept}
@@ -48,17 +47,17 @@ from_boundary v true start limit budget room r e n = refl
 from_boundary v false start limit budget room r e n = absurd (n (ap answer_number (ap routes_answer (sym e))))
 
 keeps :
-    (w : Verdict) (f : List ℕ) (start limit budget : ℕ) (out : List ℕ) (u : Fault) → after_verdict Refused w (answer_in f (layout_of f) start limit budget (room_of out)) ≡ Refused u
+    (w : Verdict) (f : List ℕ) (start limit budget : ℕ) (out : List ℕ) (u : Fault) → after_verdict Err w (answer_in f (layout_of f) start limit budget (room_of out)) ≡ Err u
     → after_verdict (λ (t : Fault). out) w (left_in f (layout_of f) start limit budget out) ≡ out
-keeps (verdict.Refused t) f start limit budget out u e = refl
-keeps verdict.Accepted f start limit budget out u e = kept (object_at f (layout_of f)) (boundary_starts (layout_of f) start) start limit budget out u e
+keeps (Err t) f start limit budget out u e = refl
+keeps (Ok tt) f start limit budget out u e = kept (object_at f (layout_of f)) (boundary_starts (layout_of f) start) start limit budget out u e
 
 -- THEOREM: a refusal leaves every byte lent as it was
-pub refused_keeps : (f : List ℕ) (start limit budget : ℕ) (out : List ℕ) (u : Fault) → routes_asked f start limit budget (room_of out) ≡ Refused u → left_asked f start limit budget out ≡ out
+pub refused_keeps : (f : List ℕ) (start limit budget : ℕ) (out : List ℕ) (u : Fault) → routes_asked f start limit budget (room_of out) ≡ Err u → left_asked f start limit budget out ≡ out
 unfolding routes_asked left_asked
 refused_keeps f start limit budget out u e = keeps (verdict_of f) f start limit budget out u e
 
-module _ (f : List ℕ) (e : verdict_of f ≡ verdict.Accepted) where
+module _ (f : List ℕ) (e : verdict_of f ≡ Ok tt) where
   obeys : Obeys f
   obeys = verdict_obeys f e
 
@@ -76,18 +75,18 @@ module _ (f : List ℕ) (e : verdict_of f ≡ verdict.Accepted) where
 
   asked_is : (start limit budget room : ℕ) → routes_asked f start limit budget room ≡ answer_in f (layout_of f) start limit budget room
   unfolding routes_asked
-  asked_is start limit budget room = no_fault Refused (verdict_of f) _ e
+  asked_is start limit budget room = no_fault Err (verdict_of f) _ e
 
   left_is : (start limit budget : ℕ) (out : List ℕ) → left_asked f start limit budget out ≡ left_in f (layout_of f) start limit budget out
   unfolding left_asked
   left_is start limit budget out = no_fault (λ (t : Fault). out) (verdict_of f) _ e
 
   -- THEOREM: an answer lists every legal route once, in order, and nothing else
-  pub listed : (start limit budget : ℕ) (out : List ℕ) (t : Tally) → routes_asked f start limit budget (room_of out) ≡ Listed t
+  pub listed : (start limit budget : ℕ) (out : List ℕ) (t : Tally) → routes_asked f start limit budget (room_of out) ≡ Ok t
       → Listing (object_at f (layout_of f)) start (limit_of limit) budget t out (left_asked f start limit budget out)
   listed start limit budget out t q =
       let a = sym (asked_is start limit budget (room_of out)) ∙ q in
-      let b = from_boundary (object_at f (layout_of f)) (boundary_starts (layout_of f) start) start limit budget (room_of out) (Listed t) a (λ z. omega arith) in
+      let b = from_boundary (object_at f (layout_of f)) (boundary_starts (layout_of f) start) start limit budget (room_of out) (Ok t) a (λ z. omega arith) in
       subst⁻¹ (Listing (object_at f (layout_of f)) start (limit_of limit) budget t out) (left_is start limit budget out)
       (listing (object_at f (layout_of f)) (Target f (layout_of f)) linked start (place start b) (boundary_starts (layout_of f) start) limit budget out t a)
 

@@ -24,9 +24,8 @@ use Rattle.route_walks.specs.All.{Exactly, Number}
 use Rattle.route_walks.proofs.Order.{walks_counted, all_routes_lem}
 use Rattle.route_walks.proofs.Count.{one_number, one_length}
 use Rattle.route_walks.proofs.Lent.{octets_length, read_back}
-use Rattle.route_lister.specs.declared.RoutesAnswer.{RoutesAnswer}
-use Rattle.route_lister.specs.declared.RoutesAnswer.TheVariants.{Listed, Refused}
-use Rattle.route_lister.specs.Answered.{limit_of, in_range, tally_of, refused_for, judged, answer_at, answer_of, leaves, left_of, routes_answer}
+use Rattle.std.specs.Prelude.{Ok, Err}
+use Rattle.route_lister.specs.Answered.{RoutesAnswer, limit_of, in_range, tally_of, refused_for, judged, answer_at, answer_of, leaves, left_of, routes_answer}
 use Rattle.route_lister.specs.Listing.{Within, Listing}
 use Rattle.route_lister.proofs.Whole.{in_range_iff}
 
@@ -37,19 +36,19 @@ pub record Answered (range steps room : Bool) (t u : Tally) : Type 0 where
   pub fits : room ≡ false
   pub same : t ≡ u
 
-listed_by : (range steps room : Bool) (t u : Tally) → judged range steps room t ≡ Listed u → Answered range steps room t u
+listed_by : (range steps room : Bool) (t u : Tally) → judged range steps room t ≡ Ok u → Answered range steps room t u
 unfolding judged
 listed_by false steps room t u e = absurd (never e)
   where
-    never : refused_for Question ≡ Listed u → ⊥
+    never : refused_for Question ≡ Ok u → ⊥
     never q = let z : ◌≡◌ {A = ℕ} 13 0 = ap answer_number (ap routes_answer q) in omega arith
 listed_by true true room t u e = absurd (never e)
   where
-    never : refused_for Steps ≡ Listed u → ⊥
+    never : refused_for Steps ≡ Ok u → ⊥
     never q = let z : ◌≡◌ {A = ℕ} 14 0 = ap answer_number (ap routes_answer q) in omega arith
 listed_by true false true t u e = absurd (never e)
   where
-    never : refused_for Room ≡ Listed u → ⊥
+    never : refused_for Room ≡ Ok u → ⊥
     never q = let z : ◌≡◌ {A = ℕ} 15 0 = ap answer_number (ap routes_answer q) in omega arith
 listed_by true false false t u e = record { in_range_lem = refl; few = refl; fits = refl; same = cc }
 
@@ -75,12 +74,12 @@ room_by true true room t e = let z : ◌≡◌ {A = ℕ} 14 15 = ap answer_numbe
 room_by true false true t e = (refl, refl, refl)
 room_by true false false t e = let z : ◌≡◌ {A = ℕ} 0 15 = ap answer_number (ap routes_answer e) in absurd (omega arith)
 
-kept_by : (r : RoutesAnswer) (u : Fault) (ws out : List ℕ) → r ≡ Refused u → leaves r ws out ≡ out
+kept_by : (r : RoutesAnswer) (u : Fault) (ws out : List ℕ) → r ≡ Err u → leaves r ws out ≡ out
 unfolding leaves
 kept_by r u ws out e = rw e refl
 
 -- THEOREM: a refusal leaves every byte lent as it was
-pub kept : (v : ℕ → Object) (asked : Bool) (start limit budget : ℕ) (out : List ℕ) (u : Fault) → answer_of v asked start limit budget (room_of out) ≡ Refused u → left_of v asked start limit budget out ≡ out
+pub kept : (v : ℕ → Object) (asked : Bool) (start limit budget : ℕ) (out : List ℕ) (u : Fault) → answer_of v asked start limit budget (room_of out) ≡ Err u → left_of v asked start limit budget out ≡ out
 kept v asked start limit budget out u e = kept_by (answer_of v asked start limit budget (room_of out)) u (words_of (all_routes v start (limit_of limit))) out e
 
 -- the bytes of some words that find room, with what stands after them
@@ -106,7 +105,7 @@ question_iff v asked start limit budget room = (
 )
 
 module _ (v : ℕ → Object) (Good : ℕ → Type 0) (joined : Joined v Good) (start : ℕ) (good : Good start) where
-  listing_at : (asked : Bool) (limit budget : ℕ) (out : List ℕ) (t : Tally) → answer_at v asked start limit budget (room_of out) ≡ Listed t
+  listing_at : (asked : Bool) (limit budget : ℕ) (out : List ℕ) (t : Tally) → answer_at v asked start limit budget (room_of out) ≡ Ok t
       → Listing v start limit budget t out (leaves (answer_at v asked start limit budget (room_of out)) (words_of (all_routes v start limit)) out)
   unfolding answer_at leaves tally_of
   listing_at asked limit budget out t e =
@@ -131,7 +130,7 @@ module _ (v : ℕ → Object) (Good : ℕ → Type 0) (joined : Joined v Good) (
       }
 
   -- THEOREM: an answer is a listing
-  pub listing : (asked : Bool) (limit budget : ℕ) (out : List ℕ) (t : Tally) → answer_of v asked start limit budget (room_of out) ≡ Listed t
+  pub listing : (asked : Bool) (limit budget : ℕ) (out : List ℕ) (t : Tally) → answer_of v asked start limit budget (room_of out) ≡ Ok t
       → Listing v start (limit_of limit) budget t out (left_of v asked start limit budget out)
   listing asked limit budget out t e = listing_at asked (limit_of limit) budget out t e
 

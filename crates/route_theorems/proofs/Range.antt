@@ -8,7 +8,7 @@ use mathlib.Core.Logic.{◌⊎◌, inl, inr, ⊎_elim, ◌↔◌}
 use mathlib.Core.List.{List, Memᴰ}
 use lib.Dec.{eqb}
 use borrow.Author.Tests.{eqb-true, eqb-false}
-use Rattle.verdict.specs.declared.Verdict.TheVariants.{Accepted}
+use Rattle.std.specs.Prelude.{Ok, Err}
 use Rattle.x2_records.specs.declared.Kind.{Kind}
 use Rattle.x2_records.specs.declared.Kind.TheVariants as kind
 use Rattle.x2_layout.specs.Layout.{layout_of}
@@ -51,7 +51,7 @@ limit_iff limit = by_test (eqb limit 0) refl
     by_test true e = (λ h. inl (eqb-true limit 0 e), λ h. (omega arith, omega arith))
     by_test false e = (λ h. inr h, ⊎_elim (λ (z : limit ≡ 0). absurd (eqb-false limit 0 e z)) (λ (h : (2 ≤ limit) × (limit ≤ 512)). h))
 
-module _ (f : List ℕ) (e : verdict_of f ≡ Accepted) where
+module _ (f : List ℕ) (e : verdict_of f ≡ Ok tt) where
   -- THEOREM: in an accepted file a boundary of either kind starts exactly where `boundary_starts` says
   pub boundary_here : (x : ℕ) → (boundary_starts (layout_of f) x ≡ true) ↔ BoundaryHere f x
   unfolding object_at

@@ -7,9 +7,8 @@ use Rattle.x2_verdict.specs.Facts.{verdict_of}
 use Rattle.route_graph.specs.Objects.{object_at, boundary_starts}
 use Rattle.route_walks.specs.Walks.{all_routes, words_of}
 use Rattle.route_walks.specs.Lent.{room_of}
-use Rattle.route_lister.specs.declared.RoutesAnswer.{RoutesAnswer}
-use Rattle.route_lister.specs.declared.RoutesAnswer.TheVariants.{Refused}
-use Rattle.route_lister.specs.Answered.{answer_at, leaves}
+use Rattle.std.specs.Prelude.{Err}
+use Rattle.route_lister.specs.Answered.{RoutesAnswer, answer_at, leaves}
 
 -- the limit that 0 meant
 -- 02: Ticket8.5
@@ -30,7 +29,7 @@ list_was f start limit budget out =
 -- the same of every file: its own fault comes first
 -- 02: Ticket8.5
 unfoldable pub routes_was : List ℕ → ℕ → ℕ → ℕ → ℕ → RoutesAnswer
-routes_was f start limit budget room = after_verdict Refused (verdict_of f) (answer_was f start limit budget room)
+routes_was f start limit budget room = after_verdict Err (verdict_of f) (answer_was f start limit budget room)
 
 -- 02: Ticket8.5
 unfoldable pub left_was : List ℕ → ℕ → ℕ → ℕ → List ℕ → List ℕ

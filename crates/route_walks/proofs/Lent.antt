@@ -1,15 +1,19 @@
 -- What words that are stored in the bytes lent leave there: as many bytes as before; where there is room, the bytes of the words in front
 -- and every byte after them as it was; and each word is read back as the number that it is. Two lists stored one after the other are one.
-use Prim.Native.Nat.{ℕ, zero, suc, ◌+◌, ◌*◌, ◌/◌, ◌%◌, ◌≤◌, ◌<◌}
+use Prim.Native.Nat.{ℕ, zero, suc, ◌+◌, ◌-◌, ◌*◌, ◌/◌, ◌%◌, ◌≤◌, ◌<◌}
 use native.Mathlib.Nat.{add-zero, add-suc, suc-add}
+use native.Mathlib.Numerals.{add-one}
 use native.Mathlib.Omega.{arith}
 use mathlib.Core.Path.{◌≡◌, refl, sym, ap, ◌∙◌}
 use mathlib.Core.Bool.{Bool, true, false, cond}
 use mathlib.Core.List.{List, [], ◌∷◌, ◌++◌}
-use lib.ListN.{length, get_or, drop, set, length-set}
-use lib.Seq.{sets, sets-eq}
+use mathlib.Core.Logic.{⊎_elim}
+use lib.ListN.{length, get_or, take, drop, set, length-set, take-append-drop}
+use lib.Seq.{sets, sets-eq, take-suc, take_all, length-take-le}
 use lib.Dec.{ltb}
 use borrow.Author.Tests.{lt-ltb, le-ltb}
+use Rattle.std.specs.Prelude.{min}
+use Rattle.verdict.proofs.Orders.{le-or-lt}
 use Rattle.octets.specs.Octets.{num_at}
 use Rattle.route_walks.specs.Lent.{word_size, room_of, octets_of, lay, lays}
 
@@ -49,6 +53,23 @@ lays_append out k (w ∷ ws) vs = lays_append (lay out k w) (suc k) ws vs ∙ ap
 pub lays_snoc : (out : List ℕ) (k : ℕ) (ws : List ℕ) (w : ℕ) → lays out k (ws ++ (w ∷ [])) ≡ lay (lays out k ws) (k + length ws) w
 unfolding lays
 lays_snoc out k ws w = lays_append out k ws (w ∷ [])
+
+-- one turn of the loop of `put_words`: a word more
+pub stored_more : (out words q q' : List ℕ) (k i : ℕ) → i < length words → q ≡ lays out k (take i words) → q' ≡ lay q (k + i) (get_or words i 0) → q' ≡ lays out k (take (i + 1) words)
+stored_more out words q q' k i h e e' =
+    let l : length (take i words) ≡ i = length-take-le i words (omega arith) in
+    rw (e', e, add-one i, take-suc words i 0 h, lays_snoc out k (take i words) (get_or words i 0)) (ap (λ (j : ℕ). lay (lays out k (take i words)) (k + j) (get_or words i 0)) (sym l))
+
+-- words after the last for which there is room are not stored
+pub stored_all : (out : List ℕ) (k m : ℕ) (words : List ℕ) → min (room_of out - k) (length words) ≤ m → m ≤ length words → lays out k (take m words) ≡ lays out k words
+stored_all out k m words low high = ⊎_elim
+    (λ h. ap (lays out k) (take_all m words h))
+    (λ h.
+    let l : length (take m words) ≡ m = length-take-le m words high in
+    let o = length_lays out k (take m words) in
+    let none = lays_out (lays out k (take m words)) (k + length (take m words)) (drop m words) (omega arith) in
+    sym none ∙ sym (lays_append out k (take m words) (drop m words)) ∙ ap (lays out k) (take-append-drop m words))
+    (le-or-lt (length words) m)
 
 pub octets_length : (ws : List ℕ) → length (octets_of ws) ≡ word_size * length ws
 unfolding octets_of

@@ -6,10 +6,10 @@ use mathlib.Core.Bool.{Bool, true, false, true≢false, ◌||◌}
 use mathlib.Core.Logic.{⊎_elim}
 use mathlib.Core.List.Memᴰ
 use mathlib.Core.List.{List, [], ◌∷◌, ◌++◌, Memᴰ}
-use lib.ListN.{length, get_or, take}
-use lib.Seq.{take-suc}
 use lib.Dec.{eqb}
 use borrow.Author.Tests.{eq-eqb, ne_eqb, eqb-true, eqb-false}
+use lib.ListN.{length, get_or, take}
+use lib.Seq.{take-suc}
 use Rattle.verdict.proofs.Orders.{neither}
 use Rattle.route_walks.specs.Legal.{NoneTwice}
 use Rattle.route_walks.specs.Walks.{has}

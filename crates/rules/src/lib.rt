@@ -1,45 +1,43 @@
 // The shapes of rules (01, 'Verdicts and their order'). One function for each shape that both files have: the verdict so far, then the
 // one fact that the constructor of the same name in specs/ makes. `start` is where the record starts, `place` the byte place that a
 // refusal reports.
-#![tactic(auto)]
+#![tactic(auto, unfolding(verdict::specs::Facts::first_fault))]
 
 ghost use Rattle.std.specs.Prelude.{◌≡◌, [], ◌∷◌, ◌/◌, ◌%◌};
-ghost use Rattle.verdict.specs.Facts.{judge};
+ghost use Rattle.verdict.specs.Facts.{first_fault};
 ghost use Rattle.rules.specs.Rules.{length_between, is_number, between, fits, whole, ends_at, zero_at, same_as, above};
 
 use octets::{Width, num_at};
-use verdict::{Judged, Reason, Rule, also_fact};
+use verdict::{Mark, Reason, Rule, fact};
 
 // The file's length lies between two numbers.
-pub fn length_between(v: Judged, f: &[u8], low: usize, high: usize) -> Judged
-    ensures { result ≡ judge v (length_between f.now low high ∷ []) }
+pub fn length_between(f: &[u8], low: usize, high: usize) -> Result<(), Mark>
+    ensures { result ≡ first_fault (length_between f.now low high ∷ []) }
 {
     let n = f.len();
     let rule = Rule::LengthBetween(low, high);
-    also_fact(v, (low <= n) & (n <= high), Reason::Length, 0, 0, 0, rule)
+    fact((low <= n) & (n <= high), Reason::Length, 0, 0, 0, rule)
 }
 
 // The number at a place is this one.
 pub fn is_number(
-    v: Judged,
     f: &[u8],
     reason: Reason,
     start: usize,
     place: usize,
     w: Width,
     x: usize,
-) -> Judged
-    ensures { result ≡ judge v (is_number reason f.now start place w x ∷ []) }
+) -> Result<(), Mark>
+    ensures { result ≡ first_fault (is_number reason f.now start place w x ∷ []) }
 {
     let n = num_at(f, place, w);
     let width = w.bytes();
     let rule = Rule::Is(x);
-    also_fact(v, n == x, reason, start, place, width, rule)
+    fact(n == x, reason, start, place, width, rule)
 }
 
 // The number at a place lies between two numbers.
 pub fn between(
-    v: Judged,
     f: &[u8],
     reason: Reason,
     start: usize,
@@ -47,40 +45,31 @@ pub fn between(
     w: Width,
     low: usize,
     high: usize,
-) -> Judged
-    ensures { result ≡ judge v (between reason f.now start place w low high ∷ []) }
+) -> Result<(), Mark>
+    ensures { result ≡ first_fault (between reason f.now start place w low high ∷ []) }
 {
     let n = num_at(f, place, w);
     let width = w.bytes();
     let rule = Rule::Between(low, high);
-    also_fact(
-        v,
-        (low <= n) & (n <= high),
-        reason,
-        start,
-        place,
-        width,
-        rule,
-    )
+    fact((low <= n) & (n <= high), reason, start, place, width, rule)
 }
 
 // x divided by d, and by 0 it is 0.
 pub fn quotient(x: usize, d: usize) -> usize
     ensures { result ≡ x / d }
 {
-    if d == 0 { 0 } else { x / d }
+    x.checked_div(d).unwrap_or(0)
 }
 
 // What x divided by d leaves, and by 0 it leaves x.
 pub fn rest(x: usize, d: usize) -> usize
     ensures { result ≡ x % d }
 {
-    if d == 0 { x } else { x % d }
+    x.checked_rem(d).unwrap_or(x)
 }
 
 // What ends at `reach`, which the field `from` tells, fits into a room that ends at `room`, which is `other` or the number there.
 pub fn fits(
-    v: Judged,
     start: usize,
     place: usize,
     width: usize,
@@ -88,79 +77,76 @@ pub fn fits(
     from: usize,
     room: usize,
     other: usize,
-) -> Judged
-    ensures { result ≡ judge v (fits start place width reach from room other ∷ []) }
+) -> Result<(), Mark>
+    ensures { result ≡ first_fault (fits start place width reach from room other ∷ []) }
 {
     let rule = Rule::Fits(reach, from, room, other);
-    also_fact(v, reach <= room, Reason::Layout, start, place, width, rule)
+    fact(reach <= room, Reason::Layout, start, place, width, rule)
 }
 
 // So many bytes, between what a place tells and what `other` does, are whole records of a size.
 pub fn whole(
-    v: Judged,
     start: usize,
     place: usize,
     width: usize,
     bytes: usize,
     size: usize,
     other: usize,
-) -> Judged
-    ensures { result ≡ judge v (whole start place width bytes size other ∷ []) }
+) -> Result<(), Mark>
+    ensures { result ≡ first_fault (whole start place width bytes size other ∷ []) }
 {
     let left = rest(bytes, size);
     let rule = Rule::Whole(bytes, size, other);
-    also_fact(v, left == 0, Reason::Layout, start, place, width, rule)
+    fact(left == 0, Reason::Layout, start, place, width, rule)
 }
 
 // What stops at a place stops at the end that is due.
-pub fn ends_at(v: Judged, start: usize, place: usize, end: usize) -> Judged
-    ensures { result ≡ judge v (ends_at start place end ∷ []) }
+pub fn ends_at(start: usize, place: usize, end: usize) -> Result<(), Mark>
+    ensures { result ≡ first_fault (ends_at start place end ∷ []) }
 {
     let rule = Rule::EndsAt(end);
-    also_fact(v, place == end, Reason::Layout, start, place, 0, rule)
+    fact(place == end, Reason::Layout, start, place, 0, rule)
 }
 
 // The number of a field is 0.
-pub fn zero_at(v: Judged, f: &[u8], start: usize, place: usize, w: Width, field: usize) -> Judged
-    ensures { result ≡ judge v (zero_at f.now start place w field ∷ []) }
+pub fn zero_at(f: &[u8], start: usize, place: usize, w: Width, field: usize) -> Result<(), Mark>
+    ensures { result ≡ first_fault (zero_at f.now start place w field ∷ []) }
 {
     let n = num_at(f, field, w);
     let rule = Rule::Zero(field, w.bytes());
-    also_fact(v, n == 0, Reason::Agreement, start, place, 0, rule)
+    fact(n == 0, Reason::Agreement, start, place, 0, rule)
 }
 
 // The number of a field is that of another field.
 pub fn same_as(
-    v: Judged,
     f: &[u8],
     start: usize,
     place: usize,
     w: Width,
     field: usize,
     other: usize,
-) -> Judged
-    ensures { result ≡ judge v (same_as f.now start place w field other ∷ []) }
+) -> Result<(), Mark>
+    ensures { result ≡ first_fault (same_as f.now start place w field other ∷ []) }
 {
     let n = num_at(f, field, w);
     let m = num_at(f, other, w);
     let rule = Rule::SameAs(field, other, w.bytes());
-    also_fact(v, n == m, Reason::Agreement, start, place, 0, rule)
+    fact(n == m, Reason::Agreement, start, place, 0, rule)
 }
 
 // The number of a field is above that of another field.
 pub fn above(
-    v: Judged,
     f: &[u8],
     start: usize,
     place: usize,
     w: Width,
     field: usize,
     other: usize,
-) -> Judged
-    ensures { result ≡ judge v (above f.now start place w field other ∷ []) }
+) -> Result<(), Mark>
+    ensures { result ≡ first_fault (above f.now start place w field other ∷ []) }
 {
     let n = num_at(f, field, w);
     let m = num_at(f, other, w);
     let rule = Rule::Above(field, other, w.bytes());
-    also_fact(v, m < n, Reason::Agreement, start, place, 0, rule)
+    fact(m < n, Reason::Agreement, start, place, 0, rule)
 }

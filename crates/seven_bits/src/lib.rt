@@ -6,7 +6,7 @@ ghost use Rattle.std.specs.Prelude.{◌≡◌, ◌+◌, ◌≤◌, ◌<◌, leng
 ghost use Rattle.std.proofs.Math.Seq.{paste};
 ghost use Rattle.seven_bits.specs.Numbers.{group_values, bad, found, joined, groups_at, number_at, groups_of, put_in, put_next};
 
-use octets::{byte_at, less};
+use octets::byte_at;
 
 // The first number that does not fit 32 bits.
 pub const NUMBER_LIMIT: usize = 0x1_0000_0000;
@@ -111,7 +111,7 @@ pub fn put_number(out: &mut [u8], at: usize, v: usize) -> usize
     ensures next { result ≡ put_next out.old at v }
     ensures stored { out.new ≡ put_in out.old at v }
 {
-    if less(out.len(), at) < GROUPS_MOST {
+    if out.len().saturating_sub(at) < GROUPS_MOST {
         return at;
     }
     put_groups(out, at, v, GROUPS_MOST)

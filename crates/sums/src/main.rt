@@ -19,18 +19,6 @@ fn stop(err: Stderr, why: &[u8]) -> io::Result<bool> {
     Ok(false)
 }
 
-// A byte as a number.
-fn wide(byte: u8) -> usize
-    ensures { result < 256 }
-{
-    byte as usize
-}
-
-// The number that the four bytes of a length make, low byte first.
-fn number(b: &[u8; LENGTH]) -> usize {
-    wide(b[0]) + 256 * (wide(b[1]) + 256 * (wide(b[2]) + 256 * wide(b[3])))
-}
-
 // Prints a case's line.
 fn print_line(out: Stdout, s: &[u8]) -> io::Result<()> {
     let n = s.len();
@@ -39,6 +27,7 @@ fn print_line(out: Stdout, s: &[u8]) -> io::Result<()> {
 }
 
 // Reads until the room is full or the input ends. It answers how many bytes then stand at the front of the room.
+// Stays (3): `got` is no index: a read gives as many bytes as it has, and `read_exact` does not say how many came before the input's end.
 fn read_full(input: &mut impl Read, room: &mut [u8]) -> io::Result<usize>
     ensures { IfOk result (λ n. n ≤ length room.new) }
 {
@@ -86,7 +75,7 @@ fn next_case(input: &mut impl Read, out: Stdout, err: Stderr) -> io::Result<bool
     if got < LENGTH {
         return stop(err, b"sums: the input ends inside a case's length\n");
     }
-    let n = number(&length);
+    let n = u32::from_le_bytes(length) as usize;
     if n > LONGEST {
         return stop(err, b"sums: a case is over 65535 bytes long\n");
     }

@@ -11,10 +11,10 @@ use lib.Dec.{eqb}
 use borrow.Author.Tests.{eqb-true}
 use Rattle.octets.specs.Octets.{num_at}
 use Rattle.verdict.specs.declared.Mark.{Mark}
-use Rattle.verdict.specs.declared.Judged.TheVariants.{Accepted, Refused}
+use Rattle.std.specs.Prelude.{Ok, Err}
 use Rattle.verdict.specs.Facts.{Claim, test, Holds, Fact, fact, first_fault, AllHold, Marked}
 use Rattle.verdict.proofs.Facts.{Agrees, agrees, never, all_append, accepted_iff, marked_append}
-use Rattle.verdict.specs.declared.Judged.{Judged}
+use Rattle.verdict.specs.Verdicts.{Judged}
 use Rattle.verdict.specs.declared.Reason.TheVariants as reason
 use Rattle.verdict.specs.declared.Rule.TheVariants as rule
 use Rattle.rules.specs.Rules.{says}
@@ -83,17 +83,17 @@ values_at f at k w (named least) = (refl, tt)
 values_at f at k w (parts ps) = parts_at f at k w ps
 
 -- facts of one place refuse there, or all hold and the facts after them refuse
-first-at : (p : ℕ) (fs rest : List Fact) (m : Mark) → AllAt p fs → first_fault (fs ++ rest) ≡ Refused m
-    → ((AllHold fs → ⊥) × (m.place ≡ p)) ⊎ (AllHold fs × (first_fault rest ≡ Refused m))
+first-at : (p : ℕ) (fs rest : List Fact) (m : Mark) → AllAt p fs → first_fault (fs ++ rest) ≡ Err m
+    → ((AllHold fs → ⊥) × (m.place ≡ p)) ⊎ (AllHold fs × (first_fault rest ≡ Err m))
 unfolding first_fault AllHold
 first-at p [] rest m a e = inr (tt, e)
 first-at p (fact c n ∷ fs) rest m a e = go (test c) (agrees c) e (first-at p fs rest m a.1)
   where
-    go : (t : Bool) → Agrees t (Holds c) → cond t (first_fault (fs ++ rest)) (Refused n) ≡ Refused m
-        → (first_fault (fs ++ rest) ≡ Refused m → ((AllHold fs → ⊥) × (m.place ≡ p)) ⊎ (AllHold fs × (first_fault rest ≡ Refused m)))
-        → ((Holds c × AllHold fs → ⊥) × (m.place ≡ p)) ⊎ ((Holds c × AllHold fs) × (first_fault rest ≡ Refused m))
+    go : (t : Bool) → Agrees t (Holds c) → cond t (first_fault (fs ++ rest)) (Err n) ≡ Err m
+        → (first_fault (fs ++ rest) ≡ Err m → ((AllHold fs → ⊥) × (m.place ≡ p)) ⊎ (AllHold fs × (first_fault rest ≡ Err m)))
+        → ((Holds c × AllHold fs → ⊥) × (m.place ≡ p)) ⊎ ((Holds c × AllHold fs) × (first_fault rest ≡ Err m))
     go true h e ih =
-        ⊎_elim (λ (x : (AllHold fs → ⊥) × (m.place ≡ p)). inl (λ g. x.0 g.1, x.1)) (λ (x : AllHold fs × (first_fault rest ≡ Refused m)). inr ((h, x.0), x.1)) (ih e)
+        ⊎_elim (λ (x : (AllHold fs → ⊥) × (m.place ≡ p)). inl (λ g. x.0 g.1, x.1)) (λ (x : AllHold fs × (first_fault rest ≡ Err m)). inr ((h, x.0), x.1)) (ih e)
     go false h e ih = let x : n ≡ m = cc in inl (λ g. h g.0, ap (λ (i : Mark). i.place) (sym x) ∙ a.0)
 
 -- a field of a table stands after the table's start
@@ -106,7 +106,7 @@ fault_after f at from end t d q x = go x.which x.there d x.stands
         ⊎_elim (λ (z : r ≡ s). let y : r.offset ≡ s.offset = ap (λ (u : Row). u.offset) z in omega arith) (λ (n : Memᴰ r rs). let y = go r n d e in omega arith) (mathlib.Core.List.Memᴰ.cases_cons m)
 
 -- LAW: for any table that leaves no gap
-pub lowest_at_fault : (f : List ℕ) (at from end : ℕ) (t : List Row) (m : Mark) → Tiled from t end → first_fault (table_facts f at t) ≡ Refused m → LowestAtFault f at t m.place
+pub lowest_at_fault : (f : List ℕ) (at from end : ℕ) (t : List Row) (m : Mark) → Tiled from t end → first_fault (table_facts f at t) ≡ Err m → LowestAtFault f at t m.place
 unfolding first_fault
 lowest_at_fault f at from end [] m d e = absurd (never m (sym e))
 lowest_at_fault f at from end (r ∷ rs) m (next p d) e =
@@ -118,7 +118,7 @@ lowest_at_fault f at from end (r ∷ rs) m (next p d) e =
       least = λ q g. let y = fault_after f at from end (r ∷ rs) (next p d) q g in let z = x.1 in omega arith;
     }
 
-    later : (first_fault (table_facts f at rs) ≡ Refused m → LowestAtFault f at rs m.place) → AllHold (row_facts f at r) × (first_fault (table_facts f at rs) ≡ Refused m) → LowestAtFault f at (r ∷ rs) m.place
+    later : (first_fault (table_facts f at rs) ≡ Err m → LowestAtFault f at rs m.place) → AllHold (row_facts f at r) × (first_fault (table_facts f at rs) ≡ Err m) → LowestAtFault f at (r ∷ rs) m.place
     later again x =
         let ih = again x.1 in
         let g = ih.fault in
@@ -165,7 +165,7 @@ inside (next {r = s} {rs = rs} p d) r m =
 -- a table is refused at p
 pub record RefusedAt (f : List ℕ) (at : ℕ) (t : List Row) (p : ℕ) : Type 0 where
   pub mark : Mark
-  pub refused : first_fault (table_facts f at t) ≡ Refused mark
+  pub refused : first_fault (table_facts f at t) ≡ Err mark
   pub place : mark.place ≡ p
 
 -- LAW
@@ -173,10 +173,10 @@ pub fault_iff : (f : List ℕ) (at from end : ℕ) (t : List Row) (p : ℕ) → 
 fault_iff f at from end t p d = (λ r. subst (LowestAtFault f at t) r.place (lowest_at_fault f at from end t r.mark d r.refused), λ x. back x (first_fault (table_facts f at t)) refl)
   where
     back : LowestAtFault f at t p → (v : Judged) → first_fault (table_facts f at t) ≡ v → RefusedAt f at t p
-    back x Accepted e =
+    back x (Ok tt) e =
         let o = (table_iff f at t).0 ((accepted_iff (table_facts f at t)).0 e) in
         absurd (x.fault.fails (o.each x.fault.which x.fault.there))
-    back x (Refused m) e =
+    back x (Err m) e =
         let y = lowest_at_fault f at from end t m d e in
         let a = x.least m.place y.fault in
         let b = y.least p x.fault in

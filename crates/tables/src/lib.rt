@@ -2,11 +2,11 @@
 // bytes it has. For each sort of values that a row of a table allows there are two functions here: one tests the field, and one is the
 // verdict so far, then the facts of that row. A check tests a record as a whole, and goes fact by fact only where that fails. `at` is
 // where the record starts, a number of 32 bits, so that a field's place never overflows and nothing is asked of a caller.
-#![tactic(auto)]
+#![tactic(auto, unfolding(verdict::specs::Facts::first_fault))]
 
 ghost use Rattle.std.specs.Prelude.{◌≡◌, [], ◌∷◌, ◌+◌, ◌/◌, ◌%◌, nat_abs};
 ghost use Rattle.octets.specs.Octets.{bytes_of, num_at, signed_at, Is, IsSigned};
-ghost use Rattle.verdict.specs.Facts.{same, at_most, test, also, judge};
+ghost use Rattle.verdict.specs.Facts.{same, at_most, test, alone, first_fault};
 ghost use Rattle.rules.specs.Rules.{lies_between, is_among_four, is_among_five, is_number, between};
 ghost use Rattle.names.specs.Names.{object_bytes, object_name, name_at};
 ghost use Rattle.tables.specs.Rows.{field_mark, value_facts};
@@ -15,7 +15,7 @@ ghost use Rattle.tables.specs.Table as table;
 use names::{Name, is_name, name_at, object_name};
 use octets::{Width, distance_at, num_at, signed_at};
 use rules::{quotient, rest};
-use verdict::{Judged, Reason, Rule, also_fact};
+use verdict::{Mark, Reason, Rule, fact};
 
 // A number's field: its place in the record, and its width.
 #[derive(Clone, Copy)]
@@ -78,27 +78,26 @@ pub fn bits_of(x: usize, b: Bits) -> usize
 // ---- a rule of a field, for another reason than 5
 
 // The field is this number.
-pub fn number_is(v: Judged, f: &[u8], reason: Reason, at: u32, k: Field, x: usize) -> Judged
-    ensures { result ≡ judge v (is_number reason f.now at (at + k.0) k.1 x ∷ []) }
+pub fn number_is(f: &[u8], reason: Reason, at: u32, k: Field, x: usize) -> Result<(), Mark>
+    ensures { result ≡ first_fault (is_number reason f.now at (at + k.0) k.1 x ∷ []) }
 {
     let width = k.1;
-    rules::is_number(v, f, reason, at as usize, place_of(at, k), width, x)
+    rules::is_number(f, reason, at as usize, place_of(at, k), width, x)
 }
 
 // The field lies between two numbers.
 pub fn number_between(
-    v: Judged,
     f: &[u8],
     reason: Reason,
     at: u32,
     k: Field,
     low: usize,
     high: usize,
-) -> Judged
-    ensures { result ≡ judge v (between reason f.now at (at + k.0) k.1 low high ∷ []) }
+) -> Result<(), Mark>
+    ensures { result ≡ first_fault (between reason f.now at (at + k.0) k.1 low high ∷ []) }
 {
     let width = k.1;
-    rules::between(v, f, reason, at as usize, place_of(at, k), width, low, high)
+    rules::between(f, reason, at as usize, place_of(at, k), width, low, high)
 }
 
 // ---- what may stand in it: whether it does
@@ -127,6 +126,7 @@ pub fn lies_within(f: &[u8], at: u32, k: Field, limit: usize) -> bool
 }
 
 // The field is one of four numbers.
+// Stays (2): `Rule::AmongFour` and `::AmongFive`, of which `says` and the theorems of true reasons speak, tell four numbers and five, so that the tests take as many.
 pub fn is_among_four(f: &[u8], at: u32, k: Field, a: usize, b: usize, c: usize, d: usize) -> bool
     ensures { result ≡ test (is_among_four a b c d (num_at (bytes_of k.1) f.now (at + k.0))) }
 {
@@ -169,12 +169,11 @@ pub fn has_name(f: &[u8], at: u32, k: NameField, least: usize) -> bool
 // ---- the same, as a fact
 
 // The verdict so far, then one rule of the field.
-fn ask(v: Judged, ok: bool, at: u32, k: Field, rule: Rule) -> Judged
-    ensures { result ≡ also v ok (field_mark at k.0 (bytes_of k.1) rule) }
+fn ask(ok: bool, at: u32, k: Field, rule: Rule) -> Result<(), Mark>
+    ensures { result ≡ alone ok (field_mark at k.0 (bytes_of k.1) rule) }
 {
     let width = k.1;
-    also_fact(
-        v,
+    fact(
         ok,
         Reason::Field,
         at as usize,
@@ -185,31 +184,30 @@ fn ask(v: Judged, ok: bool, at: u32, k: Field, rule: Rule) -> Judged
 }
 
 // The field is this number.
-pub fn exactly(v: Judged, f: &[u8], at: u32, k: Field, x: usize) -> Judged
-    ensures { result ≡ judge v (value_facts f.now at k.0 (bytes_of k.1) (table.exactly x)) }
+pub fn exactly(f: &[u8], at: u32, k: Field, x: usize) -> Result<(), Mark>
+    ensures { result ≡ first_fault (value_facts f.now at k.0 (bytes_of k.1) (table.exactly x)) }
 {
-    ask(v, equals(f, at, k, x), at, k, Rule::Is(x))
+    ask(equals(f, at, k, x), at, k, Rule::Is(x))
 }
 
 // The field lies between two numbers.
-pub fn between(v: Judged, f: &[u8], at: u32, k: Field, low: usize, high: usize) -> Judged
-    ensures { result ≡ judge v (value_facts f.now at k.0 (bytes_of k.1) (table.between low high)) }
+pub fn between(f: &[u8], at: u32, k: Field, low: usize, high: usize) -> Result<(), Mark>
+    ensures { result ≡ first_fault (value_facts f.now at k.0 (bytes_of k.1) (table.between low high)) }
 {
     let ok = lies_between(f, at, k, low, high);
-    ask(v, ok, at, k, Rule::Between(low, high))
+    ask(ok, at, k, Rule::Between(low, high))
 }
 
 // The signed number of the field is at most so far from 0.
-pub fn within(v: Judged, f: &[u8], at: u32, k: Field, limit: usize) -> Judged
-    ensures { result ≡ judge v (value_facts f.now at k.0 (bytes_of k.1) (table.within limit)) }
+pub fn within(f: &[u8], at: u32, k: Field, limit: usize) -> Result<(), Mark>
+    ensures { result ≡ first_fault (value_facts f.now at k.0 (bytes_of k.1) (table.within limit)) }
 {
     let ok = lies_within(f, at, k, limit);
-    ask(v, ok, at, k, Rule::Within(limit))
+    ask(ok, at, k, Rule::Within(limit))
 }
 
 // The field is one of four numbers.
 pub fn among_four(
-    v: Judged,
     f: &[u8],
     at: u32,
     k: Field,
@@ -217,16 +215,15 @@ pub fn among_four(
     b: usize,
     c: usize,
     d: usize,
-) -> Judged
-    ensures { result ≡ judge v (value_facts f.now at k.0 (bytes_of k.1) (table.among_four a b c d)) }
+) -> Result<(), Mark>
+    ensures { result ≡ first_fault (value_facts f.now at k.0 (bytes_of k.1) (table.among_four a b c d)) }
 {
     let ok = is_among_four(f, at, k, a, b, c, d);
-    ask(v, ok, at, k, Rule::AmongFour(a, b, c, d))
+    ask(ok, at, k, Rule::AmongFour(a, b, c, d))
 }
 
 // The field is one of five numbers.
 pub fn among_five(
-    v: Judged,
     f: &[u8],
     at: u32,
     k: Field,
@@ -235,24 +232,24 @@ pub fn among_five(
     c: usize,
     d: usize,
     e: usize,
-) -> Judged
-    ensures { result ≡ judge v (value_facts f.now at k.0 (bytes_of k.1) (table.among_five a b c d e)) }
+) -> Result<(), Mark>
+    ensures { result ≡ first_fault (value_facts f.now at k.0 (bytes_of k.1) (table.among_five a b c d e)) }
 {
     let ok = is_among_five(f, at, k, a, b, c, d, e);
-    ask(v, ok, at, k, Rule::AmongFive(a, b, c, d, e))
+    ask(ok, at, k, Rule::AmongFive(a, b, c, d, e))
 }
 
 // Some bits of the field, as a number, lie between two numbers.
-pub fn part(v: Judged, f: &[u8], at: u32, k: Field, b: Bits, low: usize, high: usize) -> Judged
-    ensures { result ≡ judge v (value_facts f.now at k.0 (bytes_of k.1) (table.parts (table.bits b.0 b.1 low high ∷ []))) }
+pub fn part(f: &[u8], at: u32, k: Field, b: Bits, low: usize, high: usize) -> Result<(), Mark>
+    ensures { result ≡ first_fault (value_facts f.now at k.0 (bytes_of k.1) (table.parts (table.bits b.0 b.1 low high ∷ []))) }
 {
     let ok = has_part(f, at, k, b, low, high);
-    ask(v, ok, at, k, Rule::Part(b.0, b.1, low, high))
+    ask(ok, at, k, Rule::Part(b.0, b.1, low, high))
 }
 
 // The field is an object's name of at least so many bytes.
-pub fn named(v: Judged, f: &[u8], at: u32, k: NameField, least: usize) -> Judged
-    ensures { result ≡ judge v (value_facts f.now at k.0 object_bytes (table.named least)) }
+pub fn named(f: &[u8], at: u32, k: NameField, least: usize) -> Result<(), Mark>
+    ensures { result ≡ first_fault (value_facts f.now at k.0 object_bytes (table.named least)) }
 {
-    object_name(v, f, at as usize, name_place(at, k), least)
+    object_name(f, at as usize, name_place(at, k), least)
 }

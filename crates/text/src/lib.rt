@@ -2,14 +2,14 @@
 // A write that fails is passed over.
 #![tactic(auto)]
 
-ghost use Rattle.std.specs.Prelude.{◌≡◌, ◌<◌};
+ghost use Rattle.std.specs.Prelude.{◌≡◌};
 
 use names::Name;
-use octets::{byte_after, byte_at, distance};
 use std::io::Stdout;
+use std::iter;
 
 // What parts the names of several lines.
-const SPACE: usize = 0x20;
+const SPACE: u8 = b' ';
 
 // Some text.
 pub fn write(out: Stdout, text: &[u8])
@@ -25,21 +25,12 @@ pub fn write_number(out: Stdout, n: usize)
     let _ = print!(out; "{n}");
 }
 
-// The last number of a line.
-fn end_line(out: Stdout, n: usize) {
-    write(out, b" ");
-    write_number(out, n);
-    write(out, b"\n");
-}
-
 // A name, a number and a place.
 pub fn head(out: Stdout, name: &[u8], number: usize, place: usize)
     ensures { result ≡ tt }
 {
     write(out, name);
-    write(out, b" ");
-    write_number(out, number);
-    end_line(out, place);
+    let _ = println!(out; " {number} {place}");
 }
 
 // A name and a text.
@@ -57,41 +48,15 @@ pub fn line(out: Stdout, name: &[u8], n: usize)
     ensures { result ≡ tt }
 {
     write(out, name);
-    end_line(out, n);
-}
-
-// Where the name that begins at a place ends: before a space, or with the text.
-fn name_end(names: &[u8], at: usize) -> usize {
-    for k in at..names.len() {
-        if byte_at(names, k) == SPACE {
-            return k;
-        }
-    }
-    names.len()
-}
-
-// What stands between two places of a text.
-fn write_part(out: Stdout, text: &[u8], from: usize, to: usize) {
-    if from <= to && to <= text.len() {
-        write(out, &text[from..to]);
-    }
-}
-
-// The name that begins at a place, and a number. It answers where the next name begins.
-fn next_line(out: Stdout, names: &[u8], at: usize, n: usize) -> usize {
-    let end = name_end(names, at);
-    write_part(out, names, at, end);
-    end_line(out, n);
-    if end < names.len() { end + 1 } else { end }
+    let _ = println!(out; " {n}");
 }
 
 // Names, with a space between each two, and as many numbers: a line for each.
 pub fn lines(out: Stdout, names: &[u8], values: &[usize])
     ensures { result ≡ tt }
 {
-    let mut at = 0;
-    for k in 0..values.len() {
-        at = next_line(out, names, at, values[k]);
+    for (name, n) in names.split(|c| *c == SPACE).zip(values) {
+        line(out, name, *n);
     }
 }
 
@@ -100,13 +65,7 @@ pub fn signed_line(out: Stdout, name: &[u8], z: i64)
     ensures { result ≡ tt }
 {
     write(out, name);
-    if z < 0 {
-        write(out, b" -");
-    } else {
-        write(out, b" ");
-    }
-    write_number(out, distance(z));
-    write(out, b"\n");
+    let _ = println!(out; " {z}");
 }
 
 // A name and 64 bits, in hexadecimal.
@@ -114,59 +73,35 @@ pub fn bits_line(out: Stdout, name: &[u8], bits: u64)
     ensures { result ≡ tt }
 {
     write(out, name);
-    write(out, b" ");
-    let _ = print!(out; "{bits:016x}");
-    write(out, b"\n");
+    let _ = println!(out; " {bits:016x}");
 }
 
-// A byte as text.
-fn write_byte(out: Stdout, b: usize)
-    requires { b < 256 }
-{
-    let one = [b as u8; 1];
-    write(out, &one);
+// A name and what follows it on its line, which has n bytes: a dash for none.
+fn begin_line(out: Stdout, name: &[u8], n: usize) {
+    write(out, name);
+    write(out, if n == 0 { b" -" } else { b" " });
 }
 
-// The byte k places after another one, as text.
-fn write_at(out: Stdout, f: &[u8], place: usize, k: usize) {
-    let b = byte_after(f, place, k);
-    write_byte(out, b)
-}
-
-// The byte k places after another one, in hexadecimal.
-fn write_hex_at(out: Stdout, f: &[u8], place: usize, k: usize) {
-    let b = byte_after(f, place, k);
-    let _ = print!(out; "{b:02x}");
-}
-
-// An object's name in the file; a dash for one of no bytes.
+// An object's name in the file; a dash for one of no bytes. A byte past the end of the file counts as 0.
 pub fn name_line(out: Stdout, name: &[u8], f: &[u8], shown: Name)
     ensures { result ≡ tt }
 {
-    write(out, name);
-    write(out, b" ");
-    let place = shown.place;
-    let n = shown.bytes;
-    if n == 0 {
-        write(out, b"-");
-    }
-    for k in 0..n {
-        write_at(out, f, place, k);
+    begin_line(out, name, shown.bytes);
+    let rest = f.iter().copied().skip(shown.place);
+    for b in rest.chain(iter::repeat(0)).take(shown.bytes) {
+        write(out, &[b]);
     }
     write(out, b"\n");
 }
 
-// A message of n bytes that stands at a place of the file, in hexadecimal; a dash for none.
+// A message of n bytes that stands at a place of the file, in hexadecimal; a dash for none. A byte past the end of the file counts as 0.
 pub fn message_line(out: Stdout, name: &[u8], f: &[u8], place: usize, n: usize)
     ensures { result ≡ tt }
 {
-    write(out, name);
-    write(out, b" ");
-    if n == 0 {
-        write(out, b"-");
-    }
-    for k in 0..n {
-        write_hex_at(out, f, place, k);
+    begin_line(out, name, n);
+    let rest = f.iter().copied().skip(place);
+    for b in rest.chain(iter::repeat(0)).take(n) {
+        let _ = print!(out; "{b:02x}");
     }
     write(out, b"\n");
 }

@@ -1,7 +1,7 @@
 -- What an accepted call says: it passed every test.
 use Prim.Native.Nat.{ℕ, ◌+◌, ◌-◌, ◌≤◌, ◌<◌}
 use mathlib.Core.Path.{◌≡◌, refl}
-use mathlib.Core.Bool.{Bool, true, false, ◌&&◌, ◌||◌, false≢true}
+use mathlib.Core.Bool.{Bool, true, false, ◌&&◌, ◌||◌}
 use mathlib.Core.List.{List}
 use mathlib.Core.Logic.{◌⊎◌, inl, inr, ⊎_elim}
 use lib.ListN.{length, take, length-drop}
@@ -10,8 +10,8 @@ use native.Mathlib.Omega.{arith}
 use borrow.Author.Tests.{eqb-true, leb-true, ltb-true}
 use Rattle.verdict.specs.declared.Reason.{Reason}
 use Rattle.verdict.specs.declared.Fault.{Fault}
-use Rattle.verdict.specs.declared.Verdict.{Verdict}
-use Rattle.verdict.specs.declared.Verdict.TheVariants.{Accepted, Refused}
+use Rattle.verdict.specs.Verdicts.{Verdict}
+use Rattle.std.specs.Prelude.{Ok, Err}
 use Rattle.verdict.proofs.Orders.{and-true}
 use Rattle.envelope.specs.Seal.{most_length}
 use Rattle.seven_bits.specs.Numbers.{number_limit}
@@ -22,18 +22,18 @@ use Rattle.transfer.specs.declared.State.{State}
 use Rattle.transfer.specs.Calls.{ensure, and_then, least_of, is_askable, open_verdict, same, nth, stated_in, bytes_in, identity_of}
 use Rattle.transfer.specs.Calls.{piece_judged, piece_verdict, ready_verdict, reader_of, finish_verdict}
 
-pub never : (t : Fault) → Refused t ≡ Accepted → ⊥
+pub never : (t : Fault) → ◌≡◌ {A = Verdict} (Err t) (Ok tt) → ⊥
 never t e = let z : ◌≡◌ {A = ℕ} 0 1 = cc in omega arith
 
-pub ensure_holds : (b : Bool) (r : Reason) (v : Verdict) → ensure b r v ≡ Accepted → (b ≡ true) × (v ≡ Accepted)
+pub ensure_holds : (b : Bool) (r : Reason) (v : Verdict) → ensure b r v ≡ Ok tt → (b ≡ true) × (v ≡ Ok tt)
 unfolding ensure
 ensure_holds true r v e = (refl, e)
 ensure_holds false r v e = absurd (never _ e)
 
-then_holds : (a v : Verdict) → and_then a v ≡ Accepted → (a ≡ Accepted) × (v ≡ Accepted)
+then_holds : (a v : Verdict) → and_then a v ≡ Ok tt → (a ≡ Ok tt) × (v ≡ Ok tt)
 unfolding and_then
-then_holds Accepted v e = (refl, e)
-then_holds (Refused t) v e = absurd (never t e)
+then_holds (Ok tt) v e = (refl, e)
+then_holds (Err t) v e = absurd (never t e)
 
 pub same_is : (i j : Identity) → same i j ≡ true → i ≡ j
 unfolding same
@@ -64,7 +64,7 @@ or-true : (a b : Bool) → (a || b) ≡ true → (a ≡ true) ⊎ (b ≡ true)
 or-true true b e = inl refl
 or-true false b e = inr e
 
-pub opens : (i : Identity) (room : ℕ) → open_verdict i room ≡ Accepted → Opens i room
+pub opens : (i : Identity) (room : ℕ) → open_verdict i room ≡ Ok tt → Opens i room
 unfolding open_verdict is_askable
 opens i room e =
     let a = ensure_holds _ _ _ e in
@@ -115,7 +115,7 @@ counted s e =
     let k : (stated_in s).count ≡ length s - (stated_in s).from = eqb-true _ _ (good_says s e).1 in
     (simp length-drop (omega arith), simp length-drop k)
 
-pub passed : (t : State) (s : List ℕ) (room : ℕ) → piece_verdict t s room ≡ Accepted → Passed t s room
+pub passed : (t : State) (s : List ℕ) (room : ℕ) → piece_verdict t s room ≡ Ok tt → Passed t s room
 unfolding piece_judged
 passed t s room e =
     let a = ensure_holds _ _ _ e in
@@ -144,10 +144,10 @@ pub record Ended (t : State) (room : List ℕ) : Type 0 where
   pub opened : t.opened ≡ true
   pub whole : t.due ≡ t.identity.total
   pub roomy : t.identity.total ≤ length room
-  pub accepted : reader_of t.identity.kind (take t.identity.total room) ≡ Accepted
+  pub accepted : reader_of t.identity.kind (take t.identity.total room) ≡ Ok tt
   pub same : identity_of (take t.identity.total room) ≡ t.identity
 
-pub is_ready : (t : State) (room : ℕ) → ready_verdict t room ≡ Accepted → (t.opened ≡ true) × (t.due ≡ t.identity.total) × (t.identity.total ≤ room)
+pub is_ready : (t : State) (room : ℕ) → ready_verdict t room ≡ Ok tt → (t.opened ≡ true) × (t.due ≡ t.identity.total) × (t.identity.total ≤ room)
 unfolding ready_verdict
 is_ready t room e =
     let a = ensure_holds _ _ _ e in
@@ -155,7 +155,7 @@ is_ready t room e =
     let g = and-true t.opened _ a.0 in
     (g.0, eqb-true _ _ g.1, leb-true _ _ b.0)
 
-pub ended : (t : State) (room : List ℕ) → finish_verdict t room ≡ Accepted → Ended t room
+pub ended : (t : State) (room : List ℕ) → finish_verdict t room ≡ Ok tt → Ended t room
 unfolding finish_verdict
 ended t room e =
     let c = then_holds _ _ e in

@@ -1,13 +1,12 @@
 -- The numbers of a piece, laid one behind the other into zeros.
 use Prim.Native.Nat.{ℕ, suc, ◌+◌, ◌-◌, ◌*◌, ◌≤◌}
-use mathlib.Core.Path.{◌≡◌, refl, sym, ap, ◌∙◌}
+use mathlib.Core.Path.{◌≡◌, refl, ap, ◌∙◌}
 use mathlib.Core.List.{List, [], ◌++◌, append_assoc}
 use lib.ListN.{length, replicate, length-append}
 use native.Mathlib.Omega.{arith}
 use Rattle.seven_bits.specs.Numbers.{groups_most, written, put_in, put_next}
 use Rattle.seven_bits.proofs.Forms.{written_few, put_after, next_after}
 use Rattle.transfer.specs.declared.Identity.{Identity}
-use Rattle.transfer.specs.declared.heads.Head.{Head}
 use Rattle.transfer.specs.Pieces.{identity_bytes, head_of}
 use Rattle.transfer.specs.Heads.{head_most, head_in}
 

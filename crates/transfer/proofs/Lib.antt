@@ -1,5 +1,4 @@
 pub mod Answers
-pub mod Laws
 pub mod Taking
 pub mod Laying
 pub mod Finished

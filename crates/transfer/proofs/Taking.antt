@@ -1,21 +1,19 @@
 -- The ways out of the functions that read a piece and take it.
-use Prim.Native.Nat.{ℕ, zero, suc, ◌+◌, ◌-◌, ◌≤◌, ◌<◌}
-use mathlib.Core.Path.{◌≡◌, refl, sym, ap, ap₂, ◌∙◌}
-use mathlib.Core.Bool.{Bool, true, false, ◌&&◌}
+use Prim.Native.Nat.{ℕ, suc, ◌+◌, ◌-◌, ◌≤◌}
+use mathlib.Core.Path.{◌≡◌, sym, ap, ap₂, ◌∙◌}
+use mathlib.Core.Bool.{Bool, ◌&&◌}
 use mathlib.Core.List.{List}
 use lib.ListN.{length, take, drop, length-drop}
 use lib.Seq.{paste, take_all}
 use native.Mathlib.Omega.{arith}
 use Rattle.verdict.specs.declared.Fault.{Fault}
-use Rattle.verdict.specs.declared.Verdict.{Verdict}
-use Rattle.verdict.specs.declared.Verdict.TheVariants.{Accepted, Refused}
+use Rattle.verdict.specs.Verdicts.{Verdict}
+use Rattle.std.specs.Prelude.{Ok, Err}
 use Rattle.seven_bits.specs.declared.Number.{Number}
-use Rattle.transfer.specs.declared.Identity.{Identity}
 use Rattle.transfer.specs.declared.State.{State}
 use Rattle.transfer.specs.declared.pieces.Stated.{Stated}
-use Rattle.transfer.specs.declared.Step.{Step}
 use Rattle.seven_bits.specs.Numbers.{number_at}
-use Rattle.transfer.specs.Calls.{changed, nth, follows, stated_in, bytes_in, piece_judged, piece_step, piece_room, moved}
+use Rattle.transfer.specs.Calls.{changed, nth, follows, stated_in, bytes_in, piece_judged, piece_step, piece_room}
 use Rattle.transfer.proofs.Answers.{Passed, passed}
 
 -- ---- reading
@@ -70,15 +68,15 @@ module _ (t : State) (s room : List ℕ) (p : Stated) (v : Verdict) (read : p �
   verdict_is : v ≡ piece_judged t (stated_in s) (length room)
   verdict_is = judged ∙ ap (λ (q : Stated). piece_judged t q (length room)) read
 
-  pub refused_step : (f : Fault) → v ≡ Refused f → record { verdict = v; state = t } ≡ piece_step t s (length room)
+  pub refused_step : (f : Fault) → v ≡ Err f → record { verdict = v; state = t } ≡ piece_step t s (length room)
   unfolding piece_step changed
   refused_step f e = simp (← verdict_is, e)
 
-  pub refused_room : (f : Fault) → v ≡ Refused f → room ≡ piece_room t s room
+  pub refused_room : (f : Fault) → v ≡ Err f → room ≡ piece_room t s room
   unfolding piece_room changed
   refused_room f e = simp (← verdict_is, e)
 
-  module _ (ok : v ≡ Accepted) where
+  module _ (ok : v ≡ Ok tt) where
     pass : Passed t s (length room)
     pass = passed t s (length room) (sym verdict_is ∙ ok)
 

@@ -4,8 +4,8 @@ use Rattle.std.specs.Prelude.{ℕ, zero, suc, ◌+◌, ◌-◌, Bool, true, fals
 use Rattle.std.proofs.Math.Seq.{paste}
 use Rattle.verdict.specs.declared.Reason.{Reason}
 use Rattle.verdict.specs.declared.Reason.TheVariants as reason
-use Rattle.verdict.specs.declared.Verdict.{Verdict}
-use Rattle.verdict.specs.declared.Verdict.TheVariants.{Accepted, Refused}
+use Rattle.verdict.specs.Verdicts.{Verdict}
+use Rattle.std.specs.Prelude.{Ok, Err}
 use Rattle.verdict.specs.Answers.{refusal}
 use Rattle.octets.specs.Octets.{num_at}
 use Rattle.envelope.specs.Seal.{most_length, end_of, type_at, data_at, station_at}
@@ -24,7 +24,7 @@ use Rattle.transfer.specs.declared.pieces.Stated.{Stated}
 -- a refusal at place 0
 -- 02: Ticket6.11
 abbrev pub refused_for : Reason → Verdict
-refused_for r = Refused (refusal r)
+refused_for r = Err (refusal r)
 
 -- a test, the reason that it refuses for, and what is answered where it is passed
 unfoldable pub ensure : Bool → Reason → Verdict → Verdict
@@ -33,14 +33,14 @@ ensure false r v = refused_for r
 
 -- a verdict, and what is answered where it accepts
 unfoldable pub and_then : Verdict → Verdict → Verdict
-and_then Accepted v = v
-and_then (Refused t) v = Refused t
+and_then (Ok tt) v = v
+and_then (Err t) v = Err t
 
 -- what an accepted call makes of something; a refused one changes nothing
 -- 02: Ticket6.6
 unfoldable pub changed : {A : Type 0} → Verdict → A → A → A
-changed Accepted new old = new
-changed (Refused t) new old = old
+changed (Ok tt) new old = new
+changed (Err t) new old = old
 
 -- ---- the identity
 
@@ -82,7 +82,7 @@ is_askable i =
 unfoldable pub open_verdict : Identity → ℕ → Verdict
 open_verdict i room =
     ensure (is_askable i) reason.Question
-    (ensure (leb (least_of i.kind) i.total && (leb i.total most_length && leb i.total room)) reason.Room Accepted)
+    (ensure (leb (least_of i.kind) i.total && (leb i.total most_length && leb i.total room)) reason.Room (Ok tt))
 
 -- a transfer that has no byte yet
 -- 02: Ticket6.1
@@ -132,7 +132,7 @@ piece_judged t p room =
     (ensure (t.opened && same p.identity t.identity) reason.Identity
     (ensure (eqb p.start t.due) reason.Order
     (ensure (leb (p.start + p.count) t.identity.total) reason.Piece
-    (ensure (leb t.identity.total room) reason.Room Accepted))))
+    (ensure (leb t.identity.total room) reason.Room (Ok tt)))))
 
 abbrev pub piece_verdict : State → List ℕ → ℕ → Verdict
 piece_verdict t s room = piece_judged t (stated_in s) room
@@ -156,7 +156,7 @@ piece_room t s room =
 -- 18 with nothing opened or early; 15 for room under the total
 -- 02: Ticket6.10
 unfoldable pub ready_verdict : State → ℕ → Verdict
-ready_verdict t room = ensure (t.opened && eqb t.due t.identity.total) reason.Order (ensure (leb t.identity.total room) reason.Room Accepted)
+ready_verdict t room = ensure (t.opened && eqb t.due t.identity.total) reason.Order (ensure (leb t.identity.total room) reason.Room (Ok tt))
 
 -- the reader for a file type
 -- 02: Ticket6.5
@@ -169,4 +169,4 @@ unfoldable pub finish_verdict : State → List ℕ → Verdict
 finish_verdict t room =
     and_then (ready_verdict t (length room))
     (and_then (reader_of t.identity.kind (take t.identity.total room))
-    (ensure (same (identity_of (take t.identity.total room)) t.identity) reason.Identity Accepted))
+    (ensure (same (identity_of (take t.identity.total room)) t.identity) reason.Identity (Ok tt)))

@@ -1,5 +1,5 @@
 -- The numbers of a piece as they are laid out to be sent.
-use Rattle.std.specs.Prelude.{ℕ, ◌-◌, List, ◌++◌, length, replicate}
+use Rattle.std.specs.Prelude.{ℕ, ◌-◌, ◌++◌, length, replicate}
 use Rattle.transfer.specs.declared.Identity.{Identity}
 use Rattle.transfer.specs.declared.heads.Head.{Head}
 use Rattle.transfer.specs.Pieces.{head_of}

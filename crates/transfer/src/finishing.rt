@@ -2,11 +2,12 @@
 ghost use Rattle.std.specs.Prelude.{◌≡◌, length};
 ghost use Rattle.transfer.specs.Calls.{ready_verdict, reader_of, finish_verdict};
 
-use crate::{State, identity_of, refused, same_as};
-use verdict::{Reason, Verdict};
+use crate::{State, identity_of, refused};
+use verdict::{Fault, Reason};
 
 // Whether all bytes have come, 18 where not, and the room holds them, 15 where not.
-fn ready(state: State, room: usize) -> Verdict
+#[tactic(auto, unfolding(crate::specs::Calls::ready_verdict, crate::specs::Calls::ensure))]
+fn ready(state: State, room: usize) -> Result<(), Fault>
     ensures { result ≡ ready_verdict state room }
 {
     let identity = state.identity;
@@ -17,11 +18,12 @@ fn ready(state: State, room: usize) -> Verdict
     if room < total {
         return refused(Reason::Room);
     }
-    Verdict::Accepted
+    Ok(())
 }
 
 // The verdict of the reader for a file type.
-fn reader(kind: usize, f: &[u8]) -> Verdict
+#[tactic(auto, unfolding(crate::specs::Calls::reader_of))]
+fn reader(kind: usize, f: &[u8]) -> Result<(), Fault>
     ensures { result ≡ reader_of kind f.now }
 {
     if kind == x1_verdict::verdicts::FILE_TYPE {
@@ -32,22 +34,17 @@ fn reader(kind: usize, f: &[u8]) -> Verdict
 }
 
 // Finishes a transfer: the reader's verdict on the whole, and then whether the file is the identity's. Nothing changes.
-pub fn finish(state: State, room: &[u8]) -> Verdict
+#[tactic(auto, unfolding(crate::specs::Calls::finish_verdict, crate::specs::Calls::and_then, crate::specs::Calls::ensure, crate::specs::Calls::same))]
+pub fn finish(state: State, room: &[u8]) -> Result<(), Fault>
     ensures { result ≡ finish_verdict state room.now }
 {
-    let come = ready(state, room.len());
-    let Verdict::Accepted = come else {
-        return come;
-    };
+    ready(state, room.len())?;
     let identity = state.identity;
     let total = identity.total;
     let f = &room[..total];
-    let read = reader(identity.kind, f);
-    let Verdict::Accepted = read else {
-        return read;
-    };
-    if !same_as(identity_of(f), identity) {
+    reader(identity.kind, f)?;
+    if identity_of(f) != identity {
         return refused(Reason::Identity);
     }
-    Verdict::Accepted
+    Ok(())
 }

@@ -3,12 +3,12 @@
 #![tactic(auto)]
 
 ghost use Rattle.std.specs.Prelude.{◌≡◌};
-ghost use Rattle.transfer.specs.Calls.{refused_for, same, identity_of};
+ghost use Rattle.transfer.specs.Calls.{refused_for, identity_of};
 
 use envelope::{HEADER, Header, TYPE, end_of};
 use octets::u32_at;
 use tables::number_of;
-use verdict::{Reason, Verdict, refusal};
+use verdict::{Fault, Reason, refusal};
 
 pub mod finishing;
 pub mod heads;
@@ -16,7 +16,7 @@ pub mod opening;
 pub mod pieces;
 
 // What a file is known by: five plain numbers. The trailer is the number of its last four bytes.
-#[derive(Clone, Copy)]
+#[derive(Clone, Copy, PartialEq, Eq)]
 pub struct Identity {
     pub station: usize,
     pub kind: usize,
@@ -36,24 +36,15 @@ pub struct State {
 // What a call answers, and the state after it.
 #[derive(Clone, Copy)]
 pub struct Step {
-    pub verdict: Verdict,
+    pub verdict: Result<(), Fault>,
     pub state: State,
 }
 
 // A refusal at place 0.
-fn refused(reason: Reason) -> Verdict
+fn refused(reason: Reason) -> Result<(), Fault>
     ensures { result ≡ refused_for reason }
 {
-    Verdict::Refused(refusal(reason))
-}
-
-// Whether two identities are the same.
-fn same_as(i: Identity, j: Identity) -> bool
-    ensures { result ≡ same i j }
-{
-    (i.station == j.station)
-        & ((i.kind == j.kind)
-            & ((i.version == j.version) & ((i.total == j.total) & (i.trailer == j.trailer))))
+    Err(refusal(reason))
 }
 
 // The identity of a file: its header, its length and its trailer.

@@ -5,7 +5,7 @@ ghost use Rattle.transfer.specs.Calls.{nothing_opened, least_of, is_askable, ope
 use crate::{Identity, State, Step, refused};
 use envelope::MOST_LENGTH;
 use seven_bits::NUMBER_LIMIT;
-use verdict::{Reason, Verdict};
+use verdict::{Fault, Reason};
 
 // The state of a loader that has nothing opened. Its numbers mean nothing.
 pub fn nothing_opened() -> State
@@ -37,6 +37,7 @@ fn least_of(kind: usize) -> usize
 }
 
 // Whether there is a reader for the file type, and station, version and trailer fit 32 bits.
+#[tactic(auto, unfolding(crate::specs::Calls::is_askable))]
 fn is_askable(i: Identity) -> bool
     ensures { result ≡ is_askable i }
 {
@@ -46,7 +47,8 @@ fn is_askable(i: Identity) -> bool
 }
 
 // What an opening answers: 13, then 15.
-fn open_verdict(i: Identity, room: usize) -> Verdict
+#[tactic(auto, unfolding(crate::specs::Calls::open_verdict, crate::specs::Calls::ensure))]
+fn open_verdict(i: Identity, room: usize) -> Result<(), Fault>
     ensures { result ≡ open_verdict i room }
 {
     if !is_askable(i) {
@@ -56,15 +58,16 @@ fn open_verdict(i: Identity, room: usize) -> Verdict
     if !((least_of(i.kind) <= total) & ((total <= MOST_LENGTH) & (total <= room))) {
         return refused(Reason::Room);
     }
-    Verdict::Accepted
+    Ok(())
 }
 
 // Opens a transfer, where so many bytes of room are lent: a granted opening forgets all, a refused one changes nothing.
+#[tactic(auto, unfolding(crate::specs::Calls::open_step, crate::specs::Calls::changed))]
 pub fn opening(state: State, identity: Identity, room: usize) -> Step
     ensures { result ≡ open_step state identity room }
 {
     let verdict = open_verdict(identity, room);
-    let Verdict::Accepted = verdict else {
+    let Ok(()) = verdict else {
         return Step { verdict, state };
     };
     let fresh = State {

@@ -3,9 +3,9 @@ ghost use Rattle.std.specs.Prelude.{◌≡◌, ◌+◌, ◌≤◌, length, leb};
 ghost use Rattle.std.proofs.Math.Seq.{paste};
 ghost use Rattle.transfer.specs.Calls.{follows, stated_in, piece_judged, piece_step, piece_room};
 
-use crate::{Identity, State, Step, refused, same_as};
+use crate::{Identity, State, Step, refused};
 use seven_bits::number_at;
-use verdict::{Reason, Verdict};
+use verdict::{Fault, Reason};
 
 // What a piece states: its identity, its start, its byte count and where its bytes begin. Good: no number is bad, there are bytes, and as many as
 // it says.
@@ -22,10 +22,7 @@ pub struct Stated {
 fn follow(s: &[u8], from: usize, count: usize) -> bool
     ensures { result ≡ follows s.now from count }
 {
-    if s.len() <= from {
-        return false;
-    }
-    count == s.len() - from
+    (from < s.len()) && (count == s.len() - from)
 }
 
 // What a piece states.
@@ -63,14 +60,12 @@ pub fn stated_in(s: &[u8]) -> Stated
 fn within(start: usize, count: usize, total: usize) -> bool
     ensures { result ≡ leb (start + count) total }
 {
-    if total < count {
-        return false;
-    }
-    start <= total - count
+    (count <= total) && (start <= total - count)
 }
 
 // What a piece answers, by what it states: 19, 17, 18, 19 and 15, in this order.
-fn piece_verdict(state: State, p: Stated, room: usize) -> Verdict
+#[tactic(auto, unfolding(crate::specs::Calls::piece_judged, crate::specs::Calls::ensure, crate::specs::Calls::same))]
+fn piece_verdict(state: State, p: Stated, room: usize) -> Result<(), Fault>
     ensures { result ≡ piece_judged state p room }
 {
     let opened = state.identity;
@@ -79,7 +74,7 @@ fn piece_verdict(state: State, p: Stated, room: usize) -> Verdict
     if !p.good {
         return refused(Reason::Piece);
     }
-    if !(state.opened & same_as(stated, opened)) {
+    if !(state.opened & (stated == opened)) {
         return refused(Reason::Identity);
     }
     if !(p.start == state.due) {
@@ -91,7 +86,7 @@ fn piece_verdict(state: State, p: Stated, room: usize) -> Verdict
     if room < total {
         return refused(Reason::Room);
     }
-    Verdict::Accepted
+    Ok(())
 }
 
 // Copies bytes into the room from a place on.
@@ -99,11 +94,7 @@ fn copy(bytes: &[u8], room: &mut [u8], at: usize)
     requires { at + length bytes.now ≤ length room.old }
     ensures { room.new ≡ paste room.old at bytes.now (length bytes.now) }
 {
-    let mut i = 0;
-    while i < bytes.len() {
-        room[at + i] = bytes[i];
-        i += 1;
-    }
+    room[at..at + bytes.len()].copy_from_slice(bytes);
 }
 
 // Takes a piece: where it is accepted, its bytes stand in the room from its start on; where it is refused, nothing changes.
@@ -113,7 +104,7 @@ pub fn piece(state: State, s: &[u8], room: &mut [u8]) -> Step
 {
     let p = stated_in(s);
     let verdict = piece_verdict(state, p, room.len());
-    let Verdict::Accepted = verdict else {
+    let Ok(()) = verdict else {
         return Step { verdict, state };
     };
     let from = p.from;

@@ -11,8 +11,8 @@ use lib.Seq.{paste, take-take, drop-drop}
 use native.Mathlib.Omega.{arith}
 use native.Mathlib.Nat.{add-zero}
 use Rattle.verdict.specs.declared.Fault.{Fault}
-use Rattle.verdict.specs.declared.Verdict.{Verdict}
-use Rattle.verdict.specs.declared.Verdict.TheVariants.{Accepted, Refused}
+use Rattle.verdict.specs.Verdicts.{Verdict}
+use Rattle.std.specs.Prelude.{Ok, Err}
 use Rattle.octets.specs.Octets.{num_at}
 use Rattle.envelope.specs.Seal.{data_at}
 use Rattle.transfer.specs.declared.Identity.{Identity}
@@ -62,8 +62,8 @@ nothing_yet w i = record {
 opening_keeps : (v : Verdict) (w : World) (l : Taken) (i : Identity) → Gathered l w
     → Gathered (changed v (fresh i w.room) l) (record { state = changed v (opened i) w.state; room = w.room })
 unfolding changed
-opening_keeps Accepted w l i g = nothing_yet w i
-opening_keeps (Refused t) w l i g = g
+opening_keeps (Ok tt) w l i g = nothing_yet w i
+opening_keeps (Err t) w l i g = g
 
 -- what an accepted piece adds
 piece_adds : (w : World) (l : Taken) (n : ℕ) (s : List ℕ) → Passed w.state s (length (lent n w)) → Gathered l w
@@ -107,8 +107,8 @@ piece_keeps : (w : World) (l : Taken) (n : ℕ) (s : List ℕ) (v : Verdict) →
       room = changed v (paste (lent n w) (stated_in s).start (bytes_in s) (length (bytes_in s))) (lent n w) ++ drop n w.room;
     })
 unfolding changed
-piece_keeps w l n s Accepted e g = piece_adds w l n s (passed w.state s (length (lent n w)) e) g
-piece_keeps w l n s (Refused t) e g = subst (λ (r : List ℕ). Gathered l (record { state = w.state; room = r })) (sym (take-append-drop n w.room)) g
+piece_keeps w l n s (Ok tt) e g = piece_adds w l n s (passed w.state s (length (lent n w)) e) g
+piece_keeps w l n s (Err t) e g = subst (λ (r : List ℕ). Gathered l (record { state = w.state; room = r })) (sym (take-append-drop n w.room)) g
 
 keeps : (w : World) (c : Call) (l : Taken) → Gathered l w → Gathered (note w c l) (after w c)
 unfolding note after open_step piece_step piece_room
@@ -124,14 +124,14 @@ gathers [] w l g = g
 gathers (c ∷ cs) w l g = gathers cs (after w c) (note w c l) (keeps w c l g)
 
 -- A granted opening forgets all, and writes no byte.
-pub granted : (w : World) (n : ℕ) (i : Identity) → answer w (opening n i) ≡ Accepted
+pub granted : (w : World) (n : ℕ) (i : Identity) → answer w (opening n i) ≡ Ok tt
     → after w (opening n i) ≡ record { state = opened i; room = w.room }
 unfolding answer after open_step changed
 granted w n i e = rw e
 
 -- After any run of calls since a granted opening, whatever the state was before: the room's first bytes up to the next byte due are those of the pieces
 -- accepted since, joined in order without gap; every one of them stated the identity that was opened; and what lies behind is as it was.
-pub since_opening : (w : World) (n : ℕ) (i : Identity) → answer w (opening n i) ≡ Accepted → (cs : List Call)
+pub since_opening : (w : World) (n : ℕ) (i : Identity) → answer w (opening n i) ≡ Ok tt → (cs : List Call)
     → Gathered (taken_since w n i cs) (run_since w n i cs)
 unfolding taken_since run_since
 since_opening w n i e cs =
@@ -141,7 +141,7 @@ since_opening w n i e cs =
 -- ---- what changes nothing
 
 -- A refused call changes neither state nor room.
-pub refused_keeps : (w : World) (c : Call) (t : Fault) → answer w c ≡ Refused t → after w c ≡ w
+pub refused_keeps : (w : World) (c : Call) (t : Fault) → answer w c ≡ Err t → after w c ≡ w
 unfolding answer after open_step piece_step piece_room changed
 refused_keeps w (opening n i) t e = rw e
 refused_keeps w (piece n s) t e = rw e (ap (λ (r : List ℕ). record { state = w.state; room = r }) (take-append-drop n w.room))
@@ -155,8 +155,8 @@ resumes w (c ∷ cs) = by_answer (answer w c) refl (resumes (after w c) cs)
   where
     by_answer : (v : Verdict) → answer w c ≡ v → run (after w c) cs ≡ run (after w c) (accepted_in (after w c) cs)
         → run (after w c) cs ≡ run w (changed v (c ∷ accepted_in (after w c) cs) (accepted_in (after w c) cs))
-    by_answer Accepted e rest = rest
-    by_answer (Refused t) e rest = rest ∙ ap (λ (u : World). run u (accepted_in (after w c) cs)) (refused_keeps w c t e)
+    by_answer (Ok tt) e rest = rest
+    by_answer (Err t) e rest = rest ∙ ap (λ (u : World). run u (accepted_in (after w c) cs)) (refused_keeps w c t e)
 
 -- Finishing changes nothing.
 pub finishing_keeps : (w : World) (n : ℕ) → after w (finishing n) ≡ w
@@ -170,7 +170,7 @@ openings_write_nothing w n i = refl
 
 -- ---- an accepted finishing
 
-finished_as : (f : List ℕ) (i : Identity) → reader_of i.kind f ≡ Accepted → identity_of f ≡ i → Finished f i
+finished_as : (f : List ℕ) (i : Identity) → reader_of i.kind f ≡ Ok tt → identity_of f ≡ i → Finished f i
 unfolding identity_of
 finished_as f i v e = record {
   accepted = v;
@@ -188,7 +188,7 @@ file_is l w n g e =
     let m : w.state.identity.total ≤ n = omega (arith, e.roomy, length-take n w.room) in
     take-take w.state.identity.total n w.room m ∙ ap (λ (k : ℕ). take k w.room) (sym e.whole) ∙ g.held
 
-finished : (l : Taken) (w : World) (n : ℕ) → Gathered l w → answer w (finishing n) ≡ Accepted → OneVersion l w.room
+finished : (l : Taken) (w : World) (n : ℕ) → Gathered l w → answer w (finishing n) ≡ Ok tt → OneVersion l w.room
 unfolding answer
 finished l w n g e =
     let d = ended w.state (lent n w) e in
@@ -204,14 +204,14 @@ finished l w n g e =
 
 -- A finishing that is accepted, after any run of calls since a granted opening, means: the reader accepts exactly the bytes of the pieces accepted
 -- since the last granted opening, and their header, length and trailer are the identity's, which every one of these pieces stated.
-pub one_version : (w : World) (n : ℕ) (i : Identity) → answer w (opening n i) ≡ Accepted → (cs : List Call) (m : ℕ)
-    → answer (run_since w n i cs) (finishing m) ≡ Accepted → OneVersion (taken_since w n i cs) (run_since w n i cs).room
+pub one_version : (w : World) (n : ℕ) (i : Identity) → answer w (opening n i) ≡ Ok tt → (cs : List Call) (m : ℕ)
+    → answer (run_since w n i cs) (finishing m) ≡ Ok tt → OneVersion (taken_since w n i cs) (run_since w n i cs).room
 one_version w n i o cs m e = finished (taken_since w n i cs) (run_since w n i cs) m (since_opening w n i o cs) e
 
 -- The incident: the head of one data version and the tail of the next. No accepted file holds bytes of pieces with two identities, and each of its
 -- pieces stated the data version that stands in its header.
-pub never_joined : (w : World) (n : ℕ) (i : Identity) → answer w (opening n i) ≡ Accepted → (cs : List Call) (m : ℕ)
-    → answer (run_since w n i cs) (finishing m) ≡ Accepted
+pub never_joined : (w : World) (n : ℕ) (i : Identity) → answer w (opening n i) ≡ Ok tt → (cs : List Call) (m : ℕ)
+    → answer (run_since w n i cs) (finishing m) ≡ Ok tt
     → (head tail : List ℕ) → Memᴰ head (taken_since w n i cs).pieces → Memᴰ tail (taken_since w n i cs).pieces
     → ((stated_in head).identity ≡ (stated_in tail).identity) × ((stated_in tail).identity.version ≡ num_at 2 (take (taken_since w n i cs).identity.total (run_since w n i cs).room) data_at)
 never_joined w n i o cs m e head tail p q =

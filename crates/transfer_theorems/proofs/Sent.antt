@@ -10,8 +10,8 @@ use lib.Dec.{eqb, leb}
 use native.Mathlib.Omega.{arith}
 use native.Mathlib.Nat.{pow-suc}
 use borrow.Author.Tests.{eqb-true, eqb-false, le-leb, eq-eqb}
-use Rattle.verdict.specs.declared.Verdict.{Verdict}
-use Rattle.verdict.specs.declared.Verdict.TheVariants.{Accepted}
+use Rattle.verdict.specs.Verdicts.{Verdict}
+use Rattle.std.specs.Prelude.{Ok, Err}
 use Rattle.verdict.proofs.Questions.{shown_accepted}
 use Rattle.octets.specs.Octets.{num_at}
 use Rattle.envelope.specs.Seal.{most_length}
@@ -49,11 +49,11 @@ record Right (f : List ℕ) : Type 0 where
   pub second : (identity_of f).kind ≡ 2 → 69 ≤ length f
   pub most : length f ≤ 65535
 
-right : (f : List ℕ) → reader_of (identity_of f).kind f ≡ Accepted → Right f
+right : (f : List ℕ) → reader_of (identity_of f).kind f ≡ Ok tt → Right f
 unfolding reader_of identity_of
 right f e = by_type (eqb (num_at 1 f 0) 1) refl e
   where
-    by_type : (t : Bool) → eqb (num_at 1 f 0) 1 ≡ t → cond t (geography.verdict_of f) (application.verdict_of f) ≡ Accepted → Right f
+    by_type : (t : Bool) → eqb (num_at 1 f 0) 1 ≡ t → cond t (geography.verdict_of f) (application.verdict_of f) ≡ Ok tt → Right f
     by_type true k v =
         let o = (geography-obeys.accepted_obeys f).0 ((shown_accepted _).0 v) in
         let is = eqb-true _ _ k in
@@ -94,7 +94,7 @@ module _ (i : Identity) (due n : ℕ) (b : List ℕ) (room : List ℕ) (p : IsPi
   unfolding bytes_in
   bytes_are = ap (λ (q : Stated). drop q.from s) told.is ∙ told.behind
 
-  accepted : piece_verdict (loading i due) s (length (take n room)) ≡ Accepted
+  accepted : piece_verdict (loading i due) s (length (take n room)) ≡ Ok tt
   unfolding piece_judged ensure
   accepted =
       rw (told.is, same_self i, eq-eqb due due refl, le-leb (due + length b) i.total inside, le-leb i.total (length (take n room)) roomy)
@@ -118,7 +118,7 @@ record Went (i : Identity) (w : World) (cs : List Call) (file : List ℕ) : Type
   pub held : take i.total (run w cs).room ≡ file
   pub whole : length (run w cs).room ≡ length w.room
 
-one_more : (i : Identity) (w u : World) (c : Call) (cs : List Call) (file : List ℕ) → answer w c ≡ Accepted → after w c ≡ u → length u.room ≡ length w.room
+one_more : (i : Identity) (w u : World) (c : Call) (cs : List Call) (file : List ℕ) → answer w c ≡ Ok tt → after w c ≡ u → length u.room ≡ length w.room
     → Went i u cs file → Went i w (c ∷ cs) file
 unfolding run
 one_more i w u c cs file a e l g = record {
@@ -158,7 +158,7 @@ module _ (i : Identity) (n : ℕ) (small : Fits i) where
 
 -- ---- the whole
 
-opening_accepted : (f : List ℕ) (room : ℕ) → Right f → Fits (identity_of f) → length f ≤ room → open_verdict (identity_of f) room ≡ Accepted
+opening_accepted : (f : List ℕ) (room : ℕ) → Right f → Fits (identity_of f) → length f ≤ room → open_verdict (identity_of f) room ≡ Ok tt
 unfolding open_verdict ensure
 opening_accepted f room r small h =
     let i = identity_of f in
@@ -173,13 +173,13 @@ opening_accepted f room r small h =
     rw (askable_back i room asked, lengthy_back i room asked long)
 
 finishing_accepted : (t : State) (room f : List ℕ) → t.opened ≡ true → t.due ≡ t.identity.total → t.identity.total ≤ length room
-    → take t.identity.total room ≡ f → reader_of t.identity.kind f ≡ Accepted → identity_of f ≡ t.identity → finish_verdict t room ≡ Accepted
+    → take t.identity.total room ≡ f → reader_of t.identity.kind f ≡ Ok tt → identity_of f ≡ t.identity → finish_verdict t room ≡ Ok tt
 unfolding finish_verdict ready_verdict and_then ensure
 finishing_accepted t room f o come roomy held v e =
     rw (o, eq-eqb t.due t.identity.total come, le-leb t.identity.total (length room) roomy, held, v, same_so (identity_of f) t.identity e)
 
 -- A file that the reader accepts, opened with its own identity in a room that holds it, and sent in pieces of any sizes, arrives.
-pub arrives : (f : List ℕ) → ((k : ℕ) → get_or f k 0 < 256) → reader_of (identity_of f).kind f ≡ Accepted
+pub arrives : (f : List ℕ) → ((k : ℕ) → get_or f k 0 < 256) → reader_of (identity_of f).kind f ≡ Ok tt
     → (parts : List (List ℕ)) → EachSome parts → together parts ≡ f
     → (w : World) (n : ℕ) → length f ≤ length (lent n w) → Arrives w n f parts
 unfolding run_since answer
@@ -204,17 +204,17 @@ arrives f bytes v parts some all w n roomy =
       granted = opens;
       each = subst (λ (u : World). EachAccepted u cs) (sym here) went.each;
       finished =
-          subst (λ (t : State). finish_verdict t (take n end.room) ≡ Accepted) (sym state)
+          subst (λ (t : State). finish_verdict t (take n end.room) ≡ Ok tt) (sym state)
           (finishing_accepted (loading i i.total) (take n end.room) f refl refl inside (take-take i.total n end.room n_more ∙ held) v refl);
       stands = ap (λ (k : ℕ). take k end.room) (sym total) ∙ held;
     }
 
 -- Broken off and resumed, it arrives too: whatever other calls are made between, if these are refused.
-pub arrives_resumed : (f : List ℕ) → ((k : ℕ) → get_or f k 0 < 256) → reader_of (identity_of f).kind f ≡ Accepted
+pub arrives_resumed : (f : List ℕ) → ((k : ℕ) → get_or f k 0 < 256) → reader_of (identity_of f).kind f ≡ Ok tt
     → (parts : List (List ℕ)) → EachSome parts → together parts ≡ f
     → (w : World) (n : ℕ) → length f ≤ length (lent n w)
     → (cs : List Call) → accepted_in (after w (opening n (identity_of f))) cs ≡ sending.sending n f parts
-    → (answer (run_since w n (identity_of f) cs) (finishing n) ≡ Accepted) × (take (length f) (run_since w n (identity_of f) cs).room ≡ f)
+    → (answer (run_since w n (identity_of f) cs) (finishing n) ≡ Ok tt) × (take (length f) (run_since w n (identity_of f) cs).room ≡ f)
 unfolding run_since
 arrives_resumed f bytes v parts some all w n roomy cs e =
     let a = arrives f bytes v parts some all w n roomy in

@@ -11,8 +11,8 @@ use borrow.Author.Tests.{eqb-true, leb-true, ltb-true, eq-eqb, ne_eqb, le-leb, l
 use Rattle.verdict.specs.declared.Reason.{Reason}
 use Rattle.verdict.specs.declared.Reason.TheVariants as reason
 use Rattle.verdict.specs.declared.Fault.{Fault}
-use Rattle.verdict.specs.declared.Verdict.{Verdict}
-use Rattle.verdict.specs.declared.Verdict.TheVariants.{Accepted, Refused}
+use Rattle.verdict.specs.Verdicts.{Verdict}
+use Rattle.std.specs.Prelude.{Ok, Err}
 use Rattle.verdict.specs.Reasons.{number_of, number_in, place_in}
 use Rattle.verdict.specs.Order.{Check, check, Reported}
 use Rattle.verdict.proofs.Orders.{and-true}
@@ -43,7 +43,7 @@ Says v n p = (number_in v ≡ n) × (place_in v ≡ p)
 record Answers (v : Verdict) (cs : List Check) : Type 0 where
   pub exactly : (n p : ℕ) → Says v n p ↔ Reported cs n p
 
-all_passed : Answers Accepted []
+all_passed : Answers (Ok tt) []
 all_passed = record { exactly = λ n p. (λ h. (sym h.0, sym h.1), λ h. (sym h.0, sym h.1)) }
 
 -- a test that says whether A holds, and then the checks after it
@@ -147,7 +147,7 @@ module _ (t : State) (s : List ℕ) (room : ℕ) (bytes : (i : ℕ) → get_or s
       λ a. one_check (t.opened && same (stated_in s).identity t.identity) (PieceOfIt t s) reason.Identity _ _ (ours_there (good_back a)) (ours_back (good_back a))
       λ q. one_check (eqb (stated_in s).start t.due) (PieceDue t s) reason.Order _ _ (due_there q) (due_back q)
       λ d. one_check (leb ((stated_in s).start + (stated_in s).count) t.identity.total) (PieceInside t s) reason.Piece _ _ (inside_there d) inside_back
-      λ w. one_check (leb t.identity.total room) (t.identity.total ≤ room) reason.Room Accepted [] (leb-true _ _) (le-leb _ _)
+      λ w. one_check (leb t.identity.total room) (t.identity.total ≤ room) reason.Room (Ok tt) [] (leb-true _ _) (le-leb _ _)
       λ r. all_passed).exactly
 
 -- ---- opening
@@ -215,7 +215,7 @@ module _ (i : Identity) (room : ℕ) where
   unfolding open_verdict
   which_opening =
       (one_check (is_askable i) (Askable i) reason.Question _ _ askable_there askable_back
-      λ a. one_check lengths (Lengthy i room) reason.Room Accepted [] lengthy_there (lengthy_back a)
+      λ a. one_check lengths (Lengthy i room) reason.Room (Ok tt) [] lengthy_there (lengthy_back a)
       λ h. all_passed).exactly
 
 -- ---- finishing
@@ -227,7 +227,7 @@ module _ (t : State) (room : ℕ) where
       one_check (t.opened && eqb t.due t.identity.total) _ reason.Order _ _
       (λ h. let a = and-true t.opened _ h in (a.0, eqb-true _ _ a.1))
       (λ h. both_true t.opened _ h.0 (eq-eqb _ _ h.1))
-      λ w. one_check (leb t.identity.total room) (t.identity.total ≤ room) reason.Room Accepted [] (leb-true _ _) (le-leb _ _)
+      λ w. one_check (leb t.identity.total room) (t.identity.total ≤ room) reason.Room (Ok tt) [] (leb-true _ _) (le-leb _ _)
       λ r. all_passed
 
 module _ (t : State) (room : List ℕ) where
@@ -235,27 +235,27 @@ module _ (t : State) (room : List ℕ) where
   f = file_in t room
 
   abbrev compare : Verdict
-  compare = ensure (same (identity_of f) t.identity) reason.Identity Accepted
+  compare = ensure (same (identity_of f) t.identity) reason.Identity (Ok tt)
 
   compare_answers : Answers compare (check 17 (identity_of f ≡ t.identity) (λ p. p ≡ 0) ∷ [])
   compare_answers =
-      one_check (same (identity_of f) t.identity) (identity_of f ≡ t.identity) reason.Identity Accepted [] (same_is _ _) (same_so _ _)
+      one_check (same (identity_of f) t.identity) (identity_of f ≡ t.identity) reason.Identity (Ok tt) [] (same_is _ _) (same_so _ _)
       λ e. all_passed
 
   by_reader : (w : Verdict) → reader_of t.identity.kind f ≡ w → Reported (ready_checks t (length room)) 0 0
       → ((n p : ℕ) → (n ≡ 0 → ⊥) → Reported (ready_checks t (length room)) n p → ⊥)
       → (n p : ℕ) → Says (and_then w compare) n p ↔ FinishAnswered t room n p
   unfolding and_then
-  by_reader Accepted e ready only n p = (λ h. checks.compared ready e ((compare_answers.exactly n p).0 h), back)
+  by_reader (Ok tt) e ready only n p = (λ h. checks.compared ready e ((compare_answers.exactly n p).0 h), back)
     where
       back : FinishAnswered t room n p → Says compare n p
       back (checks.not_ready z r) = absurd (only n p z r)
       back (checks.refused r z a b) = absurd (z (a ∙ ap number_in e))
       back (checks.compared r v c) = (compare_answers.exactly n p).1 c
-  by_reader (Refused g) e ready only n p =
+  by_reader (Err g) e ready only n p =
       (λ h. checks.refused ready (λ z. some_number g.reason (h.0 ∙ z)) (sym h.0 ∙ sym (ap number_in e)) (sym h.1 ∙ sym (ap place_in e)), back)
     where
-      back : FinishAnswered t room n p → Says (Refused g) n p
+      back : FinishAnswered t room n p → Says (Err g) n p
       back (checks.not_ready z r) = absurd (only n p z r)
       back (checks.refused r z a b) = (sym (a ∙ ap number_in e), sym (b ∙ ap place_in e))
       back (checks.compared r v c) = absurd (never g (sym e ∙ v))
@@ -263,17 +263,17 @@ module _ (t : State) (room : List ℕ) where
   by_ready : (v : Verdict) → ready_verdict t (length room) ≡ v
       → (n p : ℕ) → Says (and_then v (and_then (reader_of t.identity.kind f) compare)) n p ↔ FinishAnswered t room n p
   unfolding and_then
-  by_ready Accepted e n p =
+  by_ready (Ok tt) e n p =
       let is = (ready_answers t (length room)).exactly in
       by_reader (reader_of t.identity.kind f) refl ((is 0 0).0 (ap number_in e, ap place_in e))
       (λ m q z r. z (sym ((is m q).1 r).0 ∙ ap number_in e)) n p
-  by_ready (Refused g) e n p =
+  by_ready (Err g) e n p =
       (λ h. checks.not_ready (λ z. some_number g.reason (h.0 ∙ z)) (((ready_answers t (length room)).exactly n p).0 (ap number_in e ∙ h.0, ap place_in e ∙ h.1)), back)
     where
       none : Reported (ready_checks t (length room)) 0 0 → ⊥
       none r = some_number g.reason (sym (ap number_in e) ∙ (((ready_answers t (length room)).exactly 0 0).1 r).0)
 
-      back : FinishAnswered t room n p → Says (Refused g) n p
+      back : FinishAnswered t room n p → Says (Err g) n p
       back (checks.not_ready z r) = let h = ((ready_answers t (length room)).exactly n p).1 r in (sym (ap number_in e) ∙ h.0, sym (ap place_in e) ∙ h.1)
       back (checks.refused r z a b) = absurd (none r)
       back (checks.compared r v c) = absurd (none r)

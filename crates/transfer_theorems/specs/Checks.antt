@@ -1,8 +1,8 @@
 -- Which number is answered (02, ticket 6): the checks of each call, in the ticket's order, by what a piece is and with no word on how it is read.
 -- Every refusal but the reader's own is at place 0.
 use Rattle.std.specs.Prelude.{ℕ, ◌+◌, ◌≤◌, ◌<◌, ◌≡◌, true, ◌⊎◌, List, [], ◌∷◌, length, take}
-use Rattle.verdict.specs.declared.Verdict.{Verdict}
-use Rattle.verdict.specs.declared.Verdict.TheVariants.{Accepted}
+use Rattle.verdict.specs.Verdicts.{Verdict}
+use Rattle.std.specs.Prelude.{Ok, Err}
 use Rattle.verdict.specs.Reasons.{number_in, place_in}
 use Rattle.verdict.specs.Order.{Check, check, Reported}
 use Rattle.seven_bits.specs.Numbers.{number_limit}
@@ -90,5 +90,5 @@ pub data FinishAnswered (t : State) (room : List ℕ) (n p : ℕ) : Type 0 where
   not_ready : (n ≡ 0 → ⊥) → Reported (ready_checks t (length room)) n p → FinishAnswered t room n p
   refused : Reported (ready_checks t (length room)) 0 0 → (n ≡ 0 → ⊥) → n ≡ number_in (reader_of t.identity.kind (file_in t room))
       → p ≡ place_in (reader_of t.identity.kind (file_in t room)) → FinishAnswered t room n p
-  compared : Reported (ready_checks t (length room)) 0 0 → reader_of t.identity.kind (file_in t room) ≡ Accepted
+  compared : Reported (ready_checks t (length room)) 0 0 → reader_of t.identity.kind (file_in t room) ≡ Ok tt
       → Reported (check 17 (identity_of (file_in t room) ≡ t.identity) at_0 ∷ []) n p → FinishAnswered t room n p

@@ -2,8 +2,8 @@
 -- same throughout, and how much of it is lent may differ from call to call.
 use Rattle.std.specs.Prelude.{ℕ, ◌+◌, ◌≡◌, true, length, take, drop}
 use mathlib.Core.List.{List, [], ◌∷◌, ◌++◌, Memᴰ}
-use Rattle.verdict.specs.declared.Verdict.{Verdict}
-use Rattle.verdict.specs.declared.Verdict.TheVariants.{Accepted}
+use Rattle.verdict.specs.Verdicts.{Verdict}
+use Rattle.std.specs.Prelude.{Ok, Err}
 use Rattle.octets.specs.Octets.{num_at}
 use Rattle.envelope.specs.Seal.{end_of, type_at, data_at, station_at}
 use Rattle.transfer.specs.declared.Identity.{Identity}
@@ -127,7 +127,7 @@ pub record Gathered (l : Taken) (w : World) : Type 0 where
 -- the reader accepts these bytes, and header, length and trailer are the identity's
 -- 02: Ticket6.5
 pub record Finished (f : List ℕ) (i : Identity) : Type 0 where
-  pub accepted : reader_of i.kind f ≡ Accepted
+  pub accepted : reader_of i.kind f ≡ Ok tt
   pub station : num_at 2 f station_at ≡ i.station
   pub kind : num_at 1 f type_at ≡ i.kind
   pub version : num_at 2 f data_at ≡ i.version

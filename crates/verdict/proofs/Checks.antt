@@ -1,37 +1,44 @@
 -- The loops over records that stand without gaps: what one turn does, and the end, for each kind of check.
 use Prim.Native.Nat.{ℕ, ◌+◌, ◌<◌, ◌≤◌}
 use mathlib.Core.Path.{◌≡◌, sym, ap, ◌∙◌}
-use mathlib.Core.Bool.{Bool, true, false, not, ◌&&◌, ◌||◌, or_assoc, or-false, and_assoc, and-true}
+use Rattle.std.specs.Prelude.{Ok, Err}
+use Rattle.verdict.specs.declared.Mark.{Mark}
+use mathlib.Core.Bool.{Bool, true, false, ◌&&◌, ◌||◌, or_assoc, or-false, and_assoc, and-true}
 use mathlib.Core.List.{List, flat_map}
-use borrow.Author.Tests.{not-true, not-false}
-use Rattle.verdict.specs.declared.Judged.{Judged}
-use Rattle.verdict.specs.Facts.{any_of, all_of, Fact, all_tests, judge}
+use Rattle.verdict.specs.Verdicts.{Judged}
+use Rattle.verdict.specs.Facts.{any_of, all_of, Fact, all_tests, first_fault}
 use Rattle.verdict.specs.Walk.{starts_from}
-use Rattle.verdict.proofs.Facts.{judge_append, tests_hold, tests_fail, tests_append}
+use Rattle.verdict.proofs.Facts.{accepted_first, refused_first, tests_hold, tests_fail, tests_append}
 use Rattle.verdict.proofs.Walk.{starts_step, starts_stop}
 
--- One turn of a loop that judges each record: the record's own facts, then those of the records that follow.
+-- One turn of a loop that tests each record: a record whose tests pass is passed over, and at the first whose tests do not, its own facts are
+-- the answer.
 module _ (size : ℕ → ℕ) (end : ℕ) (facts : ℕ → List Fact) where
-  pub judge_step :
-      ((x : ℕ) → 0 < size x) → (v w : Judged) (at next : ℕ) → at < end → w ≡ judge v (facts at) → next ≡ at + size at
-      → judge w (flat_map facts (starts_from size end next)) ≡ judge v (flat_map facts (starts_from size end at))
-  unfolding flat_map
-  judge_step pos v w at next h e q =
-      rw (e, q, starts_step size end pos at h) (sym (judge_append v (facts at) (flat_map facts (starts_from size end (at + size at)))))
+  pub first_stop : (at : ℕ) → end ≤ at → first_fault (flat_map facts (starts_from size end at)) ≡ Ok tt
+  unfolding flat_map first_fault
+  first_stop at h = rw (starts_stop size end at h)
 
-  pub judge_stop : (v : Judged) (at : ℕ) → end ≤ at → judge v (flat_map facts (starts_from size end at)) ≡ v
-  unfolding flat_map
-  judge_stop v at h = rw (starts_stop size end at h)
+  module _ (pos : (x : ℕ) → 0 < size x) (at : ℕ) (t : Bool) (h : at < end) (e : t ≡ all_tests (facts at)) where
+    pub passes_over : (next : ℕ) → t ≡ true → next ≡ at + size at → first_fault (flat_map facts (starts_from size end next)) ≡ first_fault (flat_map facts (starts_from size end at))
+    unfolding flat_map
+    passes_over next n q =
+        rw (q, starts_step size end pos at h) (sym (accepted_first (facts at) (flat_map facts (starts_from size end (at + size at))) (tests_hold (facts at) (sym e ∙ n))))
 
-  -- a loop that only tests: a record whose tests pass is passed over, and at the first whose tests do not, its verdict is the answer
-  module _ (pos : (x : ℕ) → 0 < size x) (v : Judged) (at : ℕ) (t : Bool) (h : at < end) (e : t ≡ all_tests (facts at)) where
-    pub passes_over : (next : ℕ) → not t ≡ false → next ≡ at + size at → judge v (flat_map facts (starts_from size end next)) ≡ judge v (flat_map facts (starts_from size end at))
-    passes_over next n q = judge_step pos v v at next h (sym (tests_hold v (facts at) (sym e ∙ not-false t n))) q
-
-    pub fails_here : (r : Judged) → not t ≡ true → r ≡ judge v (facts at) → r ≡ judge v (flat_map facts (starts_from size end at))
+    pub fails_here : (r : Judged) → t ≡ false → r ≡ first_fault (facts at) → r ≡ first_fault (flat_map facts (starts_from size end at))
     unfolding flat_map
     fails_here r n p =
-        rw (starts_step size end pos at h) (p ∙ sym (tests_fail v (facts at) (flat_map facts (starts_from size end (at + size at))) (sym e ∙ not-true t n)))
+        rw (starts_step size end pos at h) (p ∙ sym (tests_fail (facts at) (flat_map facts (starts_from size end (at + size at))) (sym e ∙ n)))
+
+-- One turn of a loop that checks each record and stops at the first that is refused. v is the check of the record at a place: where it accepts, the
+-- record is passed over, and where it refuses, its refusal is the answer.
+module _ (size : ℕ → ℕ) (end : ℕ) (facts : ℕ → List Fact) (pos : (x : ℕ) → 0 < size x) (at : ℕ) (v : Judged) (h : at < end) (e : v ≡ first_fault (facts at)) where
+  pub checked_over : (next : ℕ) → v ≡ Ok tt → next ≡ at + size at → first_fault (flat_map facts (starts_from size end next)) ≡ first_fault (flat_map facts (starts_from size end at))
+  unfolding flat_map
+  checked_over next n q = rw (q, starts_step size end pos at h) (sym (accepted_first (facts at) (flat_map facts (starts_from size end (at + size at))) (sym e ∙ n)))
+
+  pub refused_here : {m : Mark} → v ≡ Err m → Err m ≡ first_fault (flat_map facts (starts_from size end at))
+  unfolding flat_map
+  refused_here {m} n = rw (starts_step size end pos at h) (sym (refused_first m (facts at) (flat_map facts (starts_from size end (at + size at))) (sym e ∙ n)))
 
 -- One turn of a loop that looks for a record: what was found, or is at this record, or is at one that follows.
 module _ (size : ℕ → ℕ) (end : ℕ) (t : ℕ → Bool) where

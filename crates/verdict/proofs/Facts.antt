@@ -11,26 +11,13 @@ use native.Mathlib.Nat.{not-le_of_lt}
 use native.Mathlib.Omega.{arith}
 use borrow.Author.Tests.{eqb-true, eqb-false, leb-true, leb-false}
 use Rattle.verdict.specs.declared.Mark.{Mark}
-use Rattle.verdict.specs.declared.Judged.{Judged}
-use Rattle.verdict.specs.declared.Judged.TheVariants.{Accepted, Refused}
-use Rattle.verdict.specs.inner.Accepted.{is_accepted}
-use Rattle.verdict.specs.Facts.{Claim, always, same, at_most, both, either, denied, some, every, any_of, all_of, test, Holds, Fact, fact, first_fault, AllHold, all_tests, also, judge, Marked, TrueReason}
+use Rattle.verdict.specs.Verdicts.{Judged}
+use Rattle.std.specs.Prelude.{Ok, Err, is_ok}
+use Rattle.verdict.specs.Facts.{Claim, always, same, at_most, both, either, denied, some, every, any_of, all_of, test, Holds, Fact, fact, first_fault, AllHold, all_tests, alone, Marked, TrueReason}
 
 -- ---- one fact
 
-pub also_stays : (v : Judged) (ok : Bool) (m n : Mark) → v ≡ Refused n → v ≡ also v ok m
-unfolding also
-also_stays v ok m n e = rw e
-
-pub also_holds : (v : Judged) (ok : Bool) (m : Mark) → v ≡ Accepted → ok ≡ true → Accepted ≡ also v ok m
-unfolding also
-also_holds v ok m e h = rw (e, h)
-
-pub also_fails : (v : Judged) (ok : Bool) (m : Mark) → v ≡ Accepted → ok ≡ false → Refused m ≡ also v ok m
-unfolding also
-also_fails v ok m e h = rw (e, h)
-
-pub never : (m : Mark) → Refused m ≡ Accepted → ⊥
+pub never : (m : Mark) → ◌≡◌ {A = Judged} (Err m) (Ok tt) → ⊥
 never m e = let z : ◌≡◌ {A = ℕ} 0 1 = cc in omega arith
 
 -- ---- a claim's test says whether it holds
@@ -96,51 +83,59 @@ tested c = by_test (test c) (agrees c)
     by_test true a = (λ e. a, λ h. refl)
     by_test false a = (λ e. absurd (true≢false (sym e)), λ h. absurd (a h))
 
--- ---- judging a list part by part
+-- ---- one fact alone, as a list
 
-pub judge_append : (v : Judged) (a b : List Fact) → judge v (a ++ b) ≡ judge (judge v a) b
-judge_append v [] b = refl
-judge_append v (fact c m ∷ fs) b = judge_append (also v (test c) m) fs b
+pub one_fact : (c : Claim) (m : Mark) → alone (test c) m ≡ first_fault (fact c m ∷ [])
+unfolding first_fault
+one_fact c m = refl
 
--- the facts of one list, then those of another
-pub judge_then : (v x r : Judged) (a b : List Fact) → x ≡ judge v a → r ≡ judge x b → r ≡ judge v (a ++ b)
-judge_then v x r a b p q = q ∙ ap (λ (y : Judged). judge y b) p ∙ sym (judge_append v a b)
+-- ---- a list part by part: a refusal is answered at once, and after an acceptance the next part counts
 
-pub judge_refused : (n : Mark) (fs : List Fact) → judge (Refused n) fs ≡ Refused n
-unfolding also
-judge_refused n [] = refl
-judge_refused n (fact c m ∷ fs) = judge_refused n fs
-
-pub judge_first : (fs : List Fact) → judge Accepted fs ≡ first_fault fs
-unfolding first_fault also
-judge_first [] = refl
-judge_first (fact c m ∷ fs) = go (test c) (judge_first fs)
+pub refused_first : (m : Mark) (a b : List Fact) → first_fault a ≡ Err m → first_fault (a ++ b) ≡ Err m
+unfolding first_fault
+refused_first m [] b e = absurd (never m (sym e))
+refused_first m (fact c n ∷ fs) b e = go (test c) e (refused_first m fs b)
   where
-    go : (t : Bool) → judge Accepted fs ≡ first_fault fs → judge (also Accepted t m) fs ≡ cond t (first_fault fs) (Refused m)
-    go true ih = ih
-    go false ih = judge_refused m fs
+    go : (t : Bool) → cond t (first_fault fs) (Err n) ≡ Err m → (first_fault fs ≡ Err m → first_fault (fs ++ b) ≡ Err m) → cond t (first_fault (fs ++ b)) (Err n) ≡ Err m
+    go true e ih = ih e
+    go false e ih = e
 
--- ---- tests alone, without marks: where all pass, the verdict stays; where one fails, what follows does not count
-
-pub tests_hold : (v : Judged) (fs : List Fact) → all_tests fs ≡ true → judge v fs ≡ v
-unfolding also
-tests_hold (Refused n) fs h = judge_refused n fs
-tests_hold Accepted [] h = refl
-tests_hold Accepted (fact c m ∷ fs) h = go (test c) h (tests_hold Accepted fs)
+pub accepted_first : (a b : List Fact) → first_fault a ≡ Ok tt → first_fault (a ++ b) ≡ first_fault b
+unfolding first_fault
+accepted_first [] b e = refl
+accepted_first (fact c n ∷ fs) b e = go (test c) e (accepted_first fs b)
   where
-    go : (t : Bool) → (t && all_tests fs) ≡ true → (all_tests fs ≡ true → judge Accepted fs ≡ Accepted) → judge (also Accepted t m) fs ≡ Accepted
+    go : (t : Bool) → cond t (first_fault fs) (Err n) ≡ Ok tt → (first_fault fs ≡ Ok tt → first_fault (fs ++ b) ≡ first_fault b) → cond t (first_fault (fs ++ b)) (Err n) ≡ first_fault b
+    go true e ih = ih e
+    go false e ih = absurd (never n e)
+
+-- a check that refuses, before others
+pub stops : (v : Judged) (m : Mark) (a b : List Fact) → v ≡ first_fault a → v ≡ Err m → Err m ≡ first_fault (a ++ b)
+stops v m a b p e = sym (refused_first m a b (sym p ∙ e))
+
+-- a check that accepts, before others
+pub goes_on : (v r : Judged) (a b : List Fact) → v ≡ first_fault a → v ≡ Ok tt → r ≡ first_fault b → r ≡ first_fault (a ++ b)
+goes_on v r a b p e q = q ∙ sym (accepted_first a b (sym p ∙ e))
+
+-- ---- tests alone, without marks: where all pass, none refuses; where one fails, what follows does not count
+
+pub tests_hold : (fs : List Fact) → all_tests fs ≡ true → first_fault fs ≡ Ok tt
+unfolding first_fault
+tests_hold [] h = refl
+tests_hold (fact c m ∷ fs) h = go (test c) h (tests_hold fs)
+  where
+    go : (t : Bool) → (t && all_tests fs) ≡ true → (all_tests fs ≡ true → first_fault fs ≡ Ok tt) → cond t (first_fault fs) (Err m) ≡ Ok tt
     go true e ih = ih e
     go false e ih = absurd (true≢false (sym e))
 
-pub tests_fail : (v : Judged) (a b : List Fact) → all_tests a ≡ false → judge v (a ++ b) ≡ judge v a
-unfolding also
-tests_fail (Refused n) a b h = judge_refused n (a ++ b) ∙ sym (judge_refused n a)
-tests_fail Accepted [] b h = absurd (true≢false h)
-tests_fail Accepted (fact c m ∷ fs) b h = go (test c) h (tests_fail Accepted fs b)
+pub tests_fail : (a b : List Fact) → all_tests a ≡ false → first_fault (a ++ b) ≡ first_fault a
+unfolding first_fault
+tests_fail [] b h = absurd (true≢false h)
+tests_fail (fact c m ∷ fs) b h = go (test c) h (tests_fail fs b)
   where
-    go : (t : Bool) → (t && all_tests fs) ≡ false → (all_tests fs ≡ false → judge Accepted (fs ++ b) ≡ judge Accepted fs) → judge (also Accepted t m) (fs ++ b) ≡ judge (also Accepted t m) fs
+    go : (t : Bool) → (t && all_tests fs) ≡ false → (all_tests fs ≡ false → first_fault (fs ++ b) ≡ first_fault fs) → cond t (first_fault (fs ++ b)) (Err m) ≡ cond t (first_fault fs) (Err m)
     go true e ih = ih e
-    go false e ih = judge_refused m (fs ++ b) ∙ sym (judge_refused m fs)
+    go false e ih = refl
 
 pub tests_append : (a b : List Fact) → all_tests (a ++ b) ≡ (all_tests a && all_tests b)
 tests_append [] b = refl
@@ -150,45 +145,32 @@ pub tests_then : (x y : Bool) (a b : List Fact) → x ≡ all_tests a → y ≡ 
 tests_then x y a b p q = ap₂ ◌&&◌ p q ∙ sym (tests_append a b)
 
 -- the same of a test that a check makes first
-pub tests_passed : (v : Judged) (t : Bool) (fs : List Fact) → t ≡ all_tests fs → t ≡ true → v ≡ judge v fs
-tests_passed v t fs e h = sym (tests_hold v fs (sym e ∙ h))
+pub tests_passed : (t : Bool) (fs : List Fact) → t ≡ all_tests fs → t ≡ true → Ok tt ≡ first_fault fs
+tests_passed t fs e h = sym (tests_hold fs (sym e ∙ h))
 
 -- the facts are accepted exactly where all tests pass
-accepted_tests : (fs : List Fact) → is_accepted (judge Accepted fs) ≡ all_tests fs
-unfolding also
+accepted_tests : (fs : List Fact) → is_ok (first_fault fs) ≡ all_tests fs
+unfolding first_fault
 accepted_tests [] = refl
 accepted_tests (fact c m ∷ fs) = go (test c) (accepted_tests fs)
   where
-    go : (t : Bool) → is_accepted (judge Accepted fs) ≡ all_tests fs → is_accepted (judge (also Accepted t m) fs) ≡ (t && all_tests fs)
+    go : (t : Bool) → is_ok (first_fault fs) ≡ all_tests fs → is_ok (cond t (first_fault fs) (Err m)) ≡ (t && all_tests fs)
     go true ih = ih
-    go false ih = ap is_accepted (judge_refused m fs)
+    go false ih = refl
 
-pub tests_judged : (v : Judged) (r : Bool) (fs : List Fact) → v ≡ judge Accepted fs → r ≡ is_accepted v → r ≡ all_tests fs
-tests_judged v r fs p q = q ∙ ap is_accepted p ∙ accepted_tests fs
-
--- ---- one check after the other: a refusal is answered at once, and after an acceptance the next check counts
-
-pub stops : (v : Judged) (m : Mark) (a b : List Fact) → v ≡ judge Accepted a → v ≡ Refused m → v ≡ first_fault (a ++ b)
-stops v m a b p e =
-    e ∙ sym (judge_refused m b) ∙ ap (λ (y : Judged). judge y b) (sym e ∙ p) ∙ sym (judge_append Accepted a b) ∙ judge_first (a ++ b)
-
-pub goes_on : (v r : Judged) (a b : List Fact) → v ≡ judge Accepted a → v ≡ Accepted → r ≡ first_fault b → r ≡ first_fault (a ++ b)
-goes_on v r a b p e q =
-    q ∙ sym (judge_first b) ∙ ap (λ (y : Judged). judge y b) (sym e ∙ p) ∙ sym (judge_append Accepted a b) ∙ judge_first (a ++ b)
+pub tests_judged : (v : Judged) (r : Bool) (fs : List Fact) → v ≡ first_fault fs → r ≡ is_ok v → r ≡ all_tests fs
+tests_judged v r fs p q = q ∙ ap is_ok p ∙ accepted_tests fs
 
 -- ---- accepted is 'every fact holds'
 
-pub accepted_iff : (fs : List Fact) → (first_fault fs ≡ Accepted) ↔ AllHold fs
+pub accepted_iff : (fs : List Fact) → (first_fault fs ≡ Ok tt) ↔ AllHold fs
 unfolding first_fault AllHold
 accepted_iff [] = (λ e. tt, λ h. refl)
 accepted_iff (fact c m ∷ fs) = go (test c) (agrees c) (accepted_iff fs)
   where
-    go : (t : Bool) → Agrees t (Holds c) → (first_fault fs ≡ Accepted) ↔ AllHold fs → (cond t (first_fault fs) (Refused m) ≡ Accepted) ↔ (Holds c × AllHold fs)
+    go : (t : Bool) → Agrees t (Holds c) → (first_fault fs ≡ Ok tt) ↔ AllHold fs → (cond t (first_fault fs) (Err m) ≡ Ok tt) ↔ (Holds c × AllHold fs)
     go true a ih = (λ e. (a, ih.0 e), λ h. ih.1 h.1)
     go false a ih = (λ e. absurd (never m e), λ h. absurd (a h.0))
-
-pub judged_iff : (fs : List Fact) → (judge Accepted fs ≡ Accepted) ↔ AllHold fs
-judged_iff fs = (λ e. (accepted_iff fs).0 (sym (judge_first fs) ∙ e), λ h. judge_first fs ∙ (accepted_iff fs).1 h)
 
 pub all_append : (a b : List Fact) → AllHold (a ++ b) ↔ (AllHold a × AllHold b)
 unfolding AllHold
@@ -215,12 +197,12 @@ pub record FirstFails (fs : List Fact) (m : Mark) : Type 0 where
   pub held : AllHold before
   pub fails : Holds claim → ⊥
 
-pub first_fails : (fs : List Fact) (m : Mark) → first_fault fs ≡ Refused m → FirstFails fs m
+pub first_fails : (fs : List Fact) (m : Mark) → first_fault fs ≡ Err m → FirstFails fs m
 unfolding first_fault AllHold
 first_fails [] m e = absurd (never m (sym e))
 first_fails (fact c n ∷ fs) m e = go (test c) (agrees c) e (first_fails fs m)
   where
-    go : (t : Bool) → Agrees t (Holds c) → cond t (first_fault fs) (Refused n) ≡ Refused m → (first_fault fs ≡ Refused m → FirstFails fs m) → FirstFails (fact c n ∷ fs) m
+    go : (t : Bool) → Agrees t (Holds c) → cond t (first_fault fs) (Err n) ≡ Err m → (first_fault fs ≡ Err m → FirstFails fs m) → FirstFails (fact c n ∷ fs) m
     go true a e ih =
         let r = ih e in
         record { before = fact c n ∷ r.before; claim = r.claim; after = r.after; there = ap (λ (l : List Fact). fact c n ∷ l) r.there; held = (a, r.held); fails = r.fails }
@@ -241,7 +223,7 @@ marked_there : (says : Mark → Claim) (a b : List Fact) (c : Claim) (m : Mark) 
 marked_there says [] b c m h = h.0
 marked_there says (fact d n ∷ fs) b c m h = marked_there says fs b c m h.1
 
-pub true_reason : (says : Mark → Claim) (fs : List Fact) (m : Mark) → Marked says fs → first_fault fs ≡ Refused m → TrueReason says fs m
+pub true_reason : (says : Mark → Claim) (fs : List Fact) (m : Mark) → Marked says fs → first_fault fs ≡ Err m → TrueReason says fs m
 true_reason says fs m k e =
     let r = first_fails fs m e in
     let is : r.claim ≡ says m = marked_there says r.before r.after r.claim m (subst (Marked says) r.there k) in

@@ -14,56 +14,65 @@ use native.Mathlib.Omega.{arith}
 use Rattle.verdict.specs.declared.Reason.{Reason}
 use Rattle.verdict.specs.declared.Reason.TheVariants as why
 use Rattle.verdict.specs.declared.Fault.{Fault}
-use Rattle.verdict.specs.declared.Judged.{Judged}
-use Rattle.verdict.specs.declared.Judged.TheVariants as judged
-use Rattle.verdict.specs.declared.Verdict.{Verdict}
-use Rattle.verdict.specs.declared.Verdict.TheVariants.{Accepted, Refused}
-use Rattle.verdict.specs.Reasons.{number_of, shown_of}
-use Rattle.verdict.specs.Answers.{Answer, answered, refused, answer_number, answer_place, answer_values, refusal, after_verdict, fault_in}
+use Rattle.verdict.specs.Verdicts.{Judged}
+use Rattle.std.specs.Prelude.{Ok, Err}
+use Rattle.std.specs.Result.{result_err}
+use Rattle.verdict.specs.Verdicts.{Verdict}
+use Rattle.verdict.specs.Reasons.{number_of, shown_of, number_in, place_in, number_by, place_by}
+use Rattle.verdict.specs.Answers.{Answer, answered, refused, answer_number, answer_place, answer_values, refusal, after_verdict}
 use Rattle.verdict.specs.Order.{Check, check, Answered, Asked}
 
-pub shown_accepted : (v : Judged) → (shown_of v ≡ Accepted) ↔ (v ≡ judged.Accepted)
-shown_accepted judged.Accepted = (λ e. refl, λ e. refl)
-shown_accepted (judged.Refused m) = (λ e. let z : ◌≡◌ {A = ℕ} 0 1 = cc in absurd (omega arith), λ e. let z : ◌≡◌ {A = ℕ} 0 1 = cc in absurd (omega arith))
+pub shown_accepted : (v : Judged) → (shown_of v ≡ Ok tt) ↔ (v ≡ Ok tt)
+shown_accepted (Ok tt) = (λ e. refl, λ e. refl)
+shown_accepted (Err m) = (λ e. let z : ◌≡◌ {A = ℕ} 0 1 = cc in absurd (omega arith), λ e. let z : ◌≡◌ {A = ℕ} 0 1 = cc in absurd (omega arith))
 
 module _ {A : Type 0} (say : Fault → A) (w : Verdict) where
-  pub fault_is : (t : Fault) (a : A) → w ≡ Refused t → after_verdict say w a ≡ say t
+  pub fault_is : (t : Fault) (a : A) → w ≡ Err t → after_verdict say w a ≡ say t
   fault_is t a g = ap (λ (x : Verdict). after_verdict say x a) g
 
-  pub no_fault : (a : A) → w ≡ Accepted → after_verdict say w a ≡ a
+  pub no_fault : (a : A) → w ≡ Ok tt → after_verdict say w a ≡ a
   no_fault a g = ap (λ (x : Verdict). after_verdict say x a) g
 
-  -- the verdict v as it was found refuses, so the answer is its fault u, whatever else would be answered
-  pub own_fault : (v : Verdict) (t : Fault) → v ≡ w → v ≡ Refused t → {u : Fault} → u ≡ fault_in v → (a : A) → say u ≡ after_verdict say w a
-  own_fault v t e g q a = ap say (q ∙ ap fault_in g) ∙ sym (fault_is t a (sym e ∙ g))
+  -- the verdict v as it was found refuses, so the answer is its fault t, whatever else would be answered
+  pub own_fault : (v : Verdict) (t : Fault) → v ≡ w → v ≡ Err t → (a : A) → say t ≡ after_verdict say w a
+  own_fault v t e g a = sym (fault_is t a (sym e ∙ g))
 
   -- an answer b that is no fault is given in an accepted file alone
-  pub accepted_by : (a b : A) → ((t : Fault) → say t ≡ b → ⊥) → after_verdict say w a ≡ b → (w ≡ Accepted) × (a ≡ b)
+  pub accepted_by : (a b : A) → ((t : Fault) → say t ≡ b → ⊥) → after_verdict say w a ≡ b → (w ≡ Ok tt) × (a ≡ b)
   accepted_by a b never = go w
     where
-      go : (v : Verdict) → after_verdict say v a ≡ b → (v ≡ Accepted) × (a ≡ b)
-      go Accepted e = (refl, e)
-      go (Refused t) e = absurd (never t e)
+      go : (v : Verdict) → after_verdict say v a ≡ b → (v ≡ Ok tt) × (a ≡ b)
+      go (Ok tt) e = (refl, e)
+      go (Err t) e = absurd (never t e)
 
 -- ---- the number and the place of an answer
 
-verdict_refused : (t : Fault) → Refused t ≡ Accepted → ⊥
+-- by its fault, and by the whole of it
+pub number_shown : (v : Verdict) → number_by (result_err v) ≡ number_in v
+number_shown (Ok tt) = refl
+number_shown (Err t) = refl
+
+pub place_shown : (v : Verdict) → place_by (result_err v) ≡ place_in v
+place_shown (Ok tt) = refl
+place_shown (Err t) = refl
+
+verdict_refused : (t : Fault) → ◌≡◌ {A = Verdict} (Err t) (Ok tt) → ⊥
 verdict_refused t e = let z : ◌≡◌ {A = ℕ} 0 1 = cc in omega arith
 
 -- LAW: what is answered after a file's verdict is the file's own fault, or what the question's own checks say. `say` makes an answer of a
 -- fault and `shape` shows an answer.
 pub asked_is : {A : Type 0} (say : Fault → A) (shape : A → Answer) (v : Verdict) (a : A) (cs : List Check)
     → ((t : Fault) → (answer_number (shape (say t)) ≡ number_of t.reason) × (answer_place (shape (say t)) ≡ t.place))
-    → (v ≡ Accepted → (n p : ℕ) → ((answer_number (shape a) ≡ n) × (answer_place (shape a) ≡ p)) ↔ Answered cs n p)
+    → (v ≡ Ok tt → (n p : ℕ) → ((answer_number (shape a) ≡ n) × (answer_place (shape a) ≡ p)) ↔ Answered cs n p)
     → (n p : ℕ) → ((answer_number (shape (after_verdict say v a)) ≡ n) × (answer_place (shape (after_verdict say v a)) ≡ p)) ↔ Asked v cs n p
-asked_is say shape Accepted a cs own mine n p = (
+asked_is say shape (Ok tt) a cs own mine n p = (
   λ h. inl (refl, (mine refl n p).0 h),
-  λ h. ⊎_elim (λ (x : (Accepted ≡ Accepted) × Answered cs n p). (mine refl n p).1 x.1) (λ (x : (Accepted ≡ Accepted → ⊥) × ((n ≡ 0) × (p ≡ 0))). absurd (x.0 refl)) h,
+  λ h. ⊎_elim (λ (x : (◌≡◌ {A = Verdict} (Ok tt) (Ok tt)) × Answered cs n p). (mine refl n p).1 x.1) (λ (x : (◌≡◌ {A = Verdict} (Ok tt) (Ok tt) → ⊥) × ((n ≡ 0) × (p ≡ 0))). absurd (x.0 refl)) h,
 )
-asked_is say shape (Refused t) a cs own mine n p =
+asked_is say shape (Err t) a cs own mine n p =
     let o = own t in (
       λ h. inr (verdict_refused t, (sym h.0 ∙ o.0, sym h.1 ∙ o.1)),
-      λ h. ⊎_elim (λ (x : (Refused t ≡ Accepted) × Answered cs n p). absurd (verdict_refused t x.0)) (λ (x : (Refused t ≡ Accepted → ⊥) × ((n ≡ number_of t.reason) × (p ≡ t.place))). (o.0 ∙ sym x.1.0, o.1 ∙ sym x.1.1)) h,
+      λ h. ⊎_elim (λ (x : (◌≡◌ {A = Verdict} (Err t) (Ok tt)) × Answered cs n p). absurd (verdict_refused t x.0)) (λ (x : (◌≡◌ {A = Verdict} (Err t) (Ok tt) → ⊥) × ((n ≡ number_of t.reason) × (p ≡ t.place))). (o.0 ∙ sym x.1.0, o.1 ∙ sym x.1.1)) h,
     )
 
 -- ---- a question's own checks, each with place 0

@@ -5,8 +5,8 @@ use Rattle.std.specs.Prelude.{ℕ, List, ℤ, pos, replicate}
 use Rattle.verdict.specs.declared.Reason.{Reason}
 use Rattle.verdict.specs.declared.Reason.TheVariants.{Question}
 use Rattle.verdict.specs.declared.Fault.{Fault}
-use Rattle.verdict.specs.declared.Verdict.{Verdict}
-use Rattle.verdict.specs.declared.Verdict.TheVariants.{Accepted, Refused}
+use Rattle.verdict.specs.Verdicts.{Verdict}
+use Rattle.std.specs.Prelude.{Ok, Err}
 use Rattle.verdict.specs.Reasons.{number_of}
 
 -- ---- the answer
@@ -43,10 +43,5 @@ refusal r = record { reason = r; place = 0 }
 -- the file's own fault first, and only then an answer; `say` makes an answer of a fault
 -- 01: Form.5
 abbrev pub after_verdict : {A : Type 0} → (Fault → A) → Verdict → A → A
-after_verdict say Accepted a = a
-after_verdict say (Refused t) a = say t
-
--- the fault of a verdict that refuses; an accepted file has none, and what stands here for it is never asked for
-abbrev pub fault_in : Verdict → Fault
-fault_in Accepted = refusal Question
-fault_in (Refused t) = t
+after_verdict say (Ok tt) a = a
+after_verdict say (Err t) a = say t

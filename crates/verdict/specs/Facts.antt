@@ -6,8 +6,8 @@ use mathlib.Core.List.{List, [], ◌∷◌, ◌++◌, Memᴰ}
 use Rattle.verdict.specs.declared.Reason.{Reason}
 use Rattle.verdict.specs.declared.Rule.{Rule}
 use Rattle.verdict.specs.declared.Mark.{Mark}
-use Rattle.verdict.specs.declared.Judged.{Judged}
-use Rattle.verdict.specs.declared.Judged.TheVariants.{Accepted, Refused}
+use Rattle.verdict.specs.Verdicts.{Judged}
+use Rattle.std.specs.Prelude.{Ok, Err}
 
 -- what a rule says of some numbers
 pub data Claim : Type 0 where
@@ -62,8 +62,8 @@ pub data Fact : Type 0 where
 
 -- the verdict on a list of facts: the first that fails
 unfoldable pub first_fault : List Fact → Judged
-first_fault [] = Accepted
-first_fault (fact c m ∷ fs) = cond (test c) (first_fault fs) (Refused m)
+first_fault [] = Ok tt
+first_fault (fact c m ∷ fs) = cond (test c) (first_fault fs) (Err m)
 
 -- every fact of a list holds
 unfoldable pub AllHold : List Fact → Type 0
@@ -75,16 +75,9 @@ abbrev pub all_tests : List Fact → Bool
 all_tests [] = true
 all_tests (fact c m ∷ fs) = test c && all_tests fs
 
--- the verdict so far, then one fact more
-unfoldable pub also : Judged → Bool → Mark → Judged
-also Accepted true m = Accepted
-also Accepted false m = Refused m
-also (Refused n) ok m = Refused n
-
--- the verdict so far, then the facts of a list
-abbrev pub judge : Judged → List Fact → Judged
-judge v [] = v
-judge v (fact c m ∷ fs) = judge (also v (test c) m) fs
+-- one fact alone, by whether it holds
+abbrev pub alone : Bool → Mark → Judged
+alone holds m = cond holds (Ok tt) (Err m)
 
 -- each fact is the claim that its mark names
 abbrev pub Marked : (Mark → Claim) → List Fact → Type 0

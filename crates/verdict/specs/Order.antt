@@ -1,8 +1,8 @@
 -- The fixed order of checks (01, 'Verdicts and their order'), as statements: which number is answered, and at which place. A check is a
 -- row of 01's table. Nothing here speaks of facts, nor of how a check is carried out.
 use Rattle.std.specs.Prelude.{ℕ, ◌≤◌, ◌<◌, ◌≡◌, Bool, cond, not, ◌&&◌, List, [], ◌∷◌, ◌⊎◌, eqb}
-use Rattle.verdict.specs.declared.Verdict.{Verdict}
-use Rattle.verdict.specs.declared.Verdict.TheVariants.{Accepted}
+use Rattle.verdict.specs.Verdicts.{Verdict}
+use Rattle.std.specs.Prelude.{Ok, Err}
 use Rattle.verdict.specs.Reasons.{number_in, place_in}
 
 -- A row of 01's table: the number, what holds of what passes the check, and what a place is that a refusal reports.
@@ -59,4 +59,4 @@ pub record InFirst (n : ℕ) (P : ℕ → ℕ → Type 0) (p : ℕ) : Type 0 whe
 -- question's own checks say
 -- 01: No.0, Ask.1
 abbrev pub Asked : Verdict → List Check → ℕ → ℕ → Type 0
-Asked v cs n p = ((v ≡ Accepted) × Answered cs n p) ⊎ ((v ≡ Accepted → ⊥) × ((n ≡ number_in v) × (p ≡ place_in v)))
+Asked v cs n p = ((v ≡ Ok tt) × Answered cs n p) ⊎ ((v ≡ Ok tt → ⊥) × ((n ≡ number_in v) × (p ≡ place_in v)))

@@ -1,6 +1,6 @@
 -- The table of 01, 'Verdicts and their order': the paper's number of each reason, and the numbers of an answer.
 -- A refused answer has the reason's number and its place (and, for the pair, the file); an accepted one has 0 in each.
-use Rattle.std.specs.Prelude.{ℕ}
+use Rattle.std.specs.Prelude.{ℕ, Ok, Err, Option, Some, None}
 use Rattle.verdict.specs.declared.Reason.{Reason}
 use Rattle.verdict.specs.declared.Reason.TheVariants.{Length, Checksum, FileType, Structure, Layout, Field, Agreement, Target}
 use Rattle.verdict.specs.declared.Reason.TheVariants.{Return, Station, Track, Position, Question, Steps, Room, Kinds, Identity}
@@ -8,13 +8,9 @@ use Rattle.verdict.specs.declared.Reason.TheVariants.{Order, Piece}
 use Rattle.verdict.specs.declared.Fault.{Fault}
 use Rattle.verdict.specs.declared.File.{File}
 use Rattle.verdict.specs.declared.File.TheVariants.{First, Second}
-use Rattle.verdict.specs.declared.Verdict.{Verdict}
-use Rattle.verdict.specs.declared.Verdict.TheVariants as verdict
-use Rattle.verdict.specs.declared.PairVerdict.{PairVerdict}
-use Rattle.verdict.specs.declared.PairVerdict.TheVariants as pair
 use Rattle.verdict.specs.declared.Mark.{Mark}
-use Rattle.verdict.specs.declared.Judged.{Judged}
-use Rattle.verdict.specs.declared.Judged.TheVariants as judged
+use Rattle.verdict.specs.declared.PairFault.{PairFault}
+use Rattle.verdict.specs.Verdicts.{Verdict, PairVerdict, Judged}
 
 -- the paper's number of a reason: 01's up to 15, then 02's, of which 16 waits for its ticket
 -- 01: Form.10
@@ -49,34 +45,50 @@ file_of Second = 2
 abbrev pub fault_of : Mark → Fault
 fault_of m = record { reason = m.reason; place = m.place }
 
+-- the same of a mark of the pair itself, whose faults are of file 2
+-- 01: Pair.5
+abbrev pub own_fault : Mark → PairFault
+own_fault m = record { file = Second; fault = fault_of m }
+
 -- the verdict that is answered
 abbrev pub shown_of : Judged → Verdict
-shown_of judged.Accepted = verdict.Accepted
-shown_of (judged.Refused m) = verdict.Refused (fault_of m)
+shown_of (Ok tt) = Ok tt
+shown_of (Err m) = Err (fault_of m)
 
 -- the answer's number and place, for a file
 -- 01: No.0, Form.10
 abbrev pub number_in : Verdict → ℕ
-number_in verdict.Accepted = 0
-number_in (verdict.Refused t) = number_of t.reason
+number_in (Ok tt) = 0
+number_in (Err t) = number_of t.reason
 
 -- 01: Form.10
 abbrev pub place_in : Verdict → ℕ
-place_in verdict.Accepted = 0
-place_in (verdict.Refused t) = t.place
+place_in (Ok tt) = 0
+place_in (Err t) = t.place
+
+-- the same of any answer, by its fault, if it has one
+-- 01: No.0, Form.10
+abbrev pub number_by : Option Fault → ℕ
+number_by None = 0
+number_by (Some t) = number_of t.reason
+
+-- 01: Form.10
+abbrev pub place_by : Option Fault → ℕ
+place_by None = 0
+place_by (Some t) = t.place
 
 -- the answer's number, place and file, for a pair
 -- 01: Ask.4, Form.10
 abbrev pub pair_number_in : PairVerdict → ℕ
-pair_number_in pair.Accepted = 0
-pair_number_in (pair.Refused d t) = number_of t.reason
+pair_number_in (Ok tt) = 0
+pair_number_in (Err p) = number_of p.fault.reason
 
 -- 01: Ask.4, Form.10
 abbrev pub pair_place_in : PairVerdict → ℕ
-pair_place_in pair.Accepted = 0
-pair_place_in (pair.Refused d t) = t.place
+pair_place_in (Ok tt) = 0
+pair_place_in (Err p) = p.fault.place
 
 -- 01: Pair.5, Ask.4, Form.10
 abbrev pub pair_file_in : PairVerdict → ℕ
-pair_file_in pair.Accepted = 0
-pair_file_in (pair.Refused d t) = file_of d
+pair_file_in (Ok tt) = 0
+pair_file_in (Err p) = file_of p.file

@@ -2,34 +2,33 @@
 #![tactic(auto)]
 
 ghost use Rattle.std.specs.Prelude.{◌≡◌};
-ghost use Rattle.verdict.specs.Reasons.{number_of, file_of, shown_of, number_in, place_in, pair_number_in, pair_place_in, pair_file_in};
-ghost use Rattle.verdict.specs.Answers.{refusal, fault_in};
-ghost use Rattle.verdict.specs.Facts.{mark, also};
-ghost use Rattle.verdict.specs.inner.Accepted.{is_accepted};
+ghost use Rattle.verdict.specs.Reasons.{number_of, file_of, fault_of, own_fault, number_by, place_by};
+ghost use Rattle.verdict.specs.Answers.{refusal};
+ghost use Rattle.verdict.specs.Facts.{mark, alone};
 
 // Why an answer is refused, in the order of 01's table: 6 comes before 5. Those after 15 are 02's: a bad list of kinds is ticket 4's, which is to
 // come, and the last three are a loader's, ticket 6.
 #[derive(Clone, Copy)]
 pub enum Reason {
-    Length,
-    Checksum,
-    FileType,
-    Structure,
-    Layout,
-    Field,
-    Agreement,
-    Target,
-    Return,
-    Station,
-    Track,
-    Position,
-    Question,
-    Steps,
-    Room,
-    Kinds,
-    Identity,
-    Order,
-    Piece,
+    Length = 1,
+    Checksum = 2,
+    FileType = 3,
+    Structure = 4,
+    Layout = 6,
+    Field = 5,
+    Agreement = 7,
+    Target = 8,
+    Return = 9,
+    Station = 10,
+    Track = 11,
+    Position = 12,
+    Question = 13,
+    Steps = 14,
+    Room = 15,
+    Kinds = 16,
+    Identity = 17,
+    Order = 18,
+    Piece = 19,
 }
 
 // A reason, with the byte place that it is reported at.
@@ -39,25 +38,18 @@ pub struct Fault {
     pub place: usize,
 }
 
-// The verdict of a file.
-#[derive(Clone, Copy)]
-pub enum Verdict {
-    Accepted,
-    Refused(Fault),
-}
-
 // The file of a pair that is at fault.
 #[derive(Clone, Copy)]
 pub enum File {
-    First,
-    Second,
+    First = 1,
+    Second = 2,
 }
 
-// The verdict of a pair.
+// A fault of a pair: the file that is at fault, and its fault.
 #[derive(Clone, Copy)]
-pub enum PairVerdict {
-    Accepted,
-    Refused(File, Fault),
+pub struct PairFault {
+    pub file: File,
+    pub fault: Fault,
 }
 
 // The shape of a rule, with its numbers. Where nothing else is said, it speaks of the number at the mark's place.
@@ -133,39 +125,12 @@ pub struct Mark {
     pub rule: Rule,
 }
 
-// The verdict of the checks so far, with the mark of the first fact that failed.
-#[derive(Clone, Copy)]
-pub enum Judged {
-    Accepted,
-    Refused(Mark),
-}
-
 impl Reason {
     // The paper's number.
     pub fn number(self) -> usize
         ensures { result ≡ number_of self }
     {
-        match self {
-            Reason::Length => 1,
-            Reason::Checksum => 2,
-            Reason::FileType => 3,
-            Reason::Structure => 4,
-            Reason::Layout => 6,
-            Reason::Field => 5,
-            Reason::Agreement => 7,
-            Reason::Target => 8,
-            Reason::Return => 9,
-            Reason::Station => 10,
-            Reason::Track => 11,
-            Reason::Position => 12,
-            Reason::Question => 13,
-            Reason::Steps => 14,
-            Reason::Room => 15,
-            Reason::Kinds => 16,
-            Reason::Identity => 17,
-            Reason::Order => 18,
-            Reason::Piece => 19,
-        }
+        self as usize
     }
 }
 
@@ -174,109 +139,61 @@ impl File {
     pub fn number(self) -> usize
         ensures { result ≡ file_of self }
     {
-        match self {
-            File::First => 1,
-            File::Second => 2,
+        self as usize
+    }
+}
+
+impl From<Mark> for Fault {
+    ghost from_gives = { λ m t. t ≡ fault_of m };
+
+    // What is reported of a mark: its reason and its place.
+    fn from(mark: Mark) -> Self {
+        Fault {
+            reason: mark.reason,
+            place: mark.place,
         }
     }
 }
 
-impl Verdict {
-    // The number of the answer: 0 where the file is accepted.
+impl From<Mark> for PairFault {
+    ghost from_gives = { λ m p. p ≡ own_fault m };
+
+    // What is reported of a mark of the pair: its own faults are of file 2.
+    fn from(mark: Mark) -> Self {
+        PairFault {
+            file: File::Second,
+            fault: Fault::from(mark),
+        }
+    }
+}
+
+impl Fault {
+    // The paper's number of the fault's reason.
     pub fn number(self) -> usize
-        ensures { result ≡ number_in self }
+        ensures { result ≡ number_of self.reason }
     {
-        match self {
-            Verdict::Accepted => 0,
-            Verdict::Refused(fault) => {
-                let reason = fault.reason;
-                reason.number()
-            }
-        }
-    }
-
-    // The place of the answer: 0 where the file is accepted.
-    pub fn place(self) -> usize
-        ensures { result ≡ place_in self }
-    {
-        match self {
-            Verdict::Accepted => 0,
-            Verdict::Refused(fault) => fault.place,
-        }
-    }
-
-    // The fault of a file that is refused, which each question on it answers. An accepted file has none: that arm is never reached, and
-    // stands because an `else` cannot bind the fault.
-    pub fn fault(self) -> Fault
-        ensures { result ≡ fault_in self }
-    {
-        match self {
-            Verdict::Accepted => refusal(Reason::Question),
-            Verdict::Refused(fault) => fault,
-        }
+        let reason = self.reason;
+        reason.number()
     }
 }
 
-impl PairVerdict {
-    // The number of the answer: 0 where the pair is accepted.
-    pub fn number(self) -> usize
-        ensures { result ≡ pair_number_in self }
-    {
-        match self {
-            PairVerdict::Accepted => 0,
-            PairVerdict::Refused(_, fault) => {
-                let reason = fault.reason;
-                reason.number()
-            }
-        }
-    }
-
-    // The place of the answer: 0 where the pair is accepted.
-    pub fn place(self) -> usize
-        ensures { result ≡ pair_place_in self }
-    {
-        match self {
-            PairVerdict::Accepted => 0,
-            PairVerdict::Refused(_, fault) => fault.place,
-        }
-    }
-
-    // The file at fault: 0 where the pair is accepted.
-    pub fn file(self) -> usize
-        ensures { result ≡ pair_file_in self }
-    {
-        match self {
-            PairVerdict::Accepted => 0,
-            PairVerdict::Refused(file, _) => file.number(),
-        }
+// The number of an answer, by its fault: 0 where there is none.
+pub fn answer_number(fault: Option<Fault>) -> usize
+    ensures { result ≡ number_by fault }
+{
+    match fault {
+        None => 0,
+        Some(fault) => fault.number(),
     }
 }
 
-impl Judged {
-    // Whether no fact failed.
-    pub fn is_accepted(self) -> bool
-        ensures { result ≡ is_accepted self }
-    {
-        match self {
-            Judged::Accepted => true,
-            Judged::Refused(_) => false,
-        }
-    }
-
-    // The verdict that is answered: the mark's reason and place.
-    pub fn shown(self) -> Verdict
-        ensures { result ≡ shown_of self }
-    {
-        match self {
-            Judged::Accepted => Verdict::Accepted,
-            Judged::Refused(mark) => {
-                let reason = mark.reason;
-                Verdict::Refused(Fault {
-                    reason,
-                    place: mark.place,
-                })
-            }
-        }
+// The place of an answer, by its fault: 0 where there is none.
+pub fn answer_place(fault: Option<Fault>) -> usize
+    ensures { result ≡ place_by fault }
+{
+    match fault {
+        None => 0,
+        Some(fault) => fault.place,
     }
 }
 
@@ -287,33 +204,26 @@ pub fn refusal(reason: Reason) -> Fault
     Fault { reason, place: 0 }
 }
 
-// The verdict so far, then one fact more, with its mark.
-pub fn also_fact(
-    v: Judged,
-    ok: bool,
+// A fact: nothing where it holds, and else its mark.
+pub fn fact(
+    holds: bool,
     reason: Reason,
     start: usize,
     place: usize,
     width: usize,
     rule: Rule,
-) -> Judged
-    ensures { result ≡ also v ok (mark reason start place width rule) }
+) -> Result<(), Mark>
+    ensures { result ≡ alone holds (mark reason start place width rule) }
 {
-    match v {
-        Judged::Refused(_) => v,
-        Judged::Accepted => {
-            if ok {
-                Judged::Accepted
-            } else {
-                let mark = Mark {
-                    reason,
-                    start,
-                    place,
-                    width,
-                    rule,
-                };
-                Judged::Refused(mark)
-            }
-        }
+    if holds {
+        return Ok(());
     }
+    let mark = Mark {
+        reason,
+        start,
+        place,
+        width,
+        rule,
+    };
+    Err(mark)
 }

@@ -7,8 +7,8 @@ use Rattle.verdict.specs.Answers.{Answer, answered, refused}
 use Rattle.degrees.specs.declared.Degrees.{Degrees}
 use Rattle.x1_questions.specs.declared.answers.Coordinate.{Coordinate}
 use Rattle.x1_degrees.specs.declared.Surveyed.{Surveyed}
-use Rattle.x1_degrees.specs.declared.DegreesAnswer.{DegreesAnswer}
-use Rattle.x1_degrees.specs.declared.DegreesAnswer.TheVariants as answer
+use Rattle.x1_degrees.specs.Results.{DegreesAnswer}
+use Rattle.std.specs.Prelude.{Ok, Err}
 
 -- +0.0
 abbrev pub zero : Float
@@ -16,13 +16,13 @@ zero = fin false 0 (pos 0)
 
 -- 02: Ticket14.4
 abbrev pub coordinate_in : DegreesAnswer → Coordinate
-coordinate_in (answer.Surveyed s) = s.coordinate
-coordinate_in (answer.Refused t) = record { latitude = pos 0; longitude = pos 0 }
+coordinate_in (Ok s) = s.coordinate
+coordinate_in (Err t) = record { latitude = pos 0; longitude = pos 0 }
 
 -- 02: Ticket14.4
 abbrev pub degrees_in : DegreesAnswer → Degrees
-degrees_in (answer.Surveyed s) = s.degrees
-degrees_in (answer.Refused t) = record { latitude = zero; longitude = zero }
+degrees_in (Ok s) = s.degrees
+degrees_in (Err t) = record { latitude = zero; longitude = zero }
 
 -- latitude and longitude in milliarcseconds, and then the bits of both in degrees
 -- 02: Ticket14.3
@@ -36,5 +36,5 @@ degrees_values s =
 
 -- 01: Form.10
 abbrev pub degrees_answer : DegreesAnswer → Answer
-degrees_answer (answer.Surveyed s) = answered (degrees_values s)
-degrees_answer (answer.Refused t) = refused 4 t
+degrees_answer (Ok s) = answered (degrees_values s)
+degrees_answer (Err t) = refused 4 t

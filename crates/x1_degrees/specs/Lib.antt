@@ -1,3 +1,4 @@
+pub mod Results
 pub mod Questions
 pub mod Answers
 pub mod inner

@@ -2,12 +2,11 @@
 use Rattle.std.specs.Prelude.{ℕ, List}
 use Rattle.degrees.specs.Degrees.{in_degrees}
 use Rattle.x1_questions.specs.declared.answers.Coordinate.{Coordinate}
-use Rattle.x1_questions.specs.declared.answers.CoordinateAnswer.{CoordinateAnswer}
-use Rattle.x1_questions.specs.declared.answers.CoordinateAnswer.TheVariants as coordinate
+use Rattle.x1_questions.specs.Results.{CoordinateAnswer}
+use Rattle.std.specs.Prelude.{Ok, Err}
 use Rattle.x1_questions.specs.Questions.{point_coordinate_of, coordinate_asked}
 use Rattle.x1_degrees.specs.declared.Surveyed.{Surveyed}
-use Rattle.x1_degrees.specs.declared.DegreesAnswer.{DegreesAnswer}
-use Rattle.x1_degrees.specs.declared.DegreesAnswer.TheVariants as answer
+use Rattle.x1_degrees.specs.Results.{DegreesAnswer}
 
 -- the milliarcseconds, and the degrees beside them
 -- 01: Form.6
@@ -17,8 +16,8 @@ surveyed_at c = record { coordinate = c; degrees = in_degrees c.latitude c.longi
 
 -- 02: Ticket14.4
 abbrev pub with_degrees : CoordinateAnswer → DegreesAnswer
-with_degrees (coordinate.Coordinate c) = answer.Surveyed (surveyed_at c)
-with_degrees (coordinate.Refused t) = answer.Refused t
+with_degrees (Ok c) = Ok (surveyed_at c)
+with_degrees (Err t) = Err t
 
 -- the coordinate at position x of the track with a number
 -- 02: Ticket14.2

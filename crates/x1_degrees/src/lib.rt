@@ -10,7 +10,7 @@ ghost use Rattle.x1_degrees.specs.inner.Ranged.{Ranged};
 
 use degrees::{Degrees, in_degrees};
 use verdict::Fault;
-use x1_questions::{Coordinate, CoordinateAnswer};
+use x1_questions::Coordinate;
 
 // A coordinate in milliarcseconds, and beside it in degrees.
 #[derive(Clone, Copy)]
@@ -19,38 +19,29 @@ pub struct Surveyed {
     pub degrees: Degrees,
 }
 
-// A coordinate, or why there is none.
-#[derive(Clone, Copy)]
-pub enum DegreesAnswer {
-    Surveyed(Surveyed),
-    Refused(Fault),
+// The milliarcseconds of an answer; of a refusal 0.
+pub fn coordinate_in(answer: Result<Surveyed, Fault>) -> Coordinate
+    ensures { result ≡ coordinate_in answer }
+{
+    match answer {
+        Ok(s) => s.coordinate,
+        Err(_) => Coordinate {
+            latitude: 0,
+            longitude: 0,
+        },
+    }
 }
 
-impl DegreesAnswer {
-    // The milliarcseconds; of a refusal 0.
-    pub fn coordinate(self) -> Coordinate
-        ensures { result ≡ coordinate_in self }
-    {
-        match self {
-            DegreesAnswer::Surveyed(s) => s.coordinate,
-            DegreesAnswer::Refused(_) => Coordinate {
-                latitude: 0,
-                longitude: 0,
-            },
-        }
-    }
-
-    // The degrees; of a refusal 0.0.
-    pub fn degrees(self) -> Degrees
-        ensures { result ≡ degrees_in self }
-    {
-        match self {
-            DegreesAnswer::Surveyed(s) => s.degrees,
-            DegreesAnswer::Refused(_) => Degrees {
-                latitude: 0.0,
-                longitude: 0.0,
-            },
-        }
+// The degrees of an answer; of a refusal 0.0.
+pub fn degrees_in(answer: Result<Surveyed, Fault>) -> Degrees
+    ensures { result ≡ degrees_in answer }
+{
+    match answer {
+        Ok(s) => s.degrees,
+        Err(_) => Degrees {
+            latitude: 0.0,
+            longitude: 0.0,
+        },
     }
 }
 
@@ -67,25 +58,22 @@ fn beside(coordinate: Coordinate) -> Surveyed
 }
 
 // Sets them beside the coordinate of an answer.
-fn with_degrees(a: CoordinateAnswer) -> DegreesAnswer
+fn with_degrees(a: Result<Coordinate, Fault>) -> Result<Surveyed, Fault>
     requires { Ranged a }
     ensures { result ≡ with_degrees a }
 {
-    match a {
-        CoordinateAnswer::Coordinate(c) => DegreesAnswer::Surveyed(beside(c)),
-        CoordinateAnswer::Refused(fault) => DegreesAnswer::Refused(fault),
-    }
+    Ok(beside(a?))
 }
 
 // The coordinate at a position of the track with a number.
-pub fn degrees_at(f: &[u8], number: usize, position: usize) -> DegreesAnswer
+pub fn degrees_at(f: &[u8], number: usize, position: usize) -> Result<Surveyed, Fault>
     ensures { result ≡ degrees_asked f.now number position }
 {
     with_degrees(x1_questions::coordinate(f, number, position))
 }
 
 // The coordinate of the point of an index in the track of an index.
-pub fn point_degrees(f: &[u8], track: usize, index: usize) -> DegreesAnswer
+pub fn point_degrees(f: &[u8], track: usize, index: usize) -> Result<Surveyed, Fault>
     ensures { result ≡ point_degrees_of f.now track index }
 {
     with_degrees(x1_questions::point_coordinate(f, track, index))

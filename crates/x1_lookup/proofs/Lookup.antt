@@ -6,21 +6,21 @@ use mathlib.Core.Logic.{◌↔◌}
 use mathlib.Core.List.{List}
 use native.Mathlib.Omega.{arith}
 use borrow.Author.Tests.{eq-eqb, ne_eqb, eqb-true, eqb-false}
-use Rattle.verdict.specs.declared.Verdict.TheVariants as verdict
+use Rattle.std.specs.Prelude.{Ok}
 use Rattle.x1_records.specs.Places as place
 use Rattle.x1_layout.specs.Layout.{count_of, points_at, entries}
 use Rattle.x1_verdict.specs.Facts.{judged_of, verdict_of}
 use Rattle.x1_obeys.specs.Obeys.{entry_place, Obeys}
 use Rattle.x1_obeys.proofs.Obeys.{accepted_obeys}
 use Rattle.x1_lookup.specs.Lookup.{number_at, has_number, find_track}
-use Rattle.x1_lookup.specs.declared.Found.TheVariants.{At, Absent}
+use Rattle.std.specs.Prelude.{Some, None}
 use Rattle.verdict.proofs.Questions.{shown_accepted}
 use Rattle.x1_lookup.proofs.Search.{first_iff, no_start_iff}
 use Rattle.x1_lookup.proofs.Rising.{rise, rise_one}
 
 -- ---- the verdict that is answered is 0 exactly where the file obeys
 
-pub verdict_obeys : (f : List ℕ) → (verdict_of f ≡ verdict.Accepted) ↔ Obeys f
+pub verdict_obeys : (f : List ℕ) → (verdict_of f ≡ Ok tt) ↔ Obeys f
 verdict_obeys f =
     let shown = shown_accepted (judged_of f) in
     let obeys = accepted_obeys f in
@@ -40,7 +40,7 @@ module _ (f : List ℕ) (number : ℕ) where
   start_in i h = omega arith
 
   -- THEOREM: no track is found exactly where none has the number.
-  pub absent_iff : (find_track f number ≡ Absent) ↔ ((i : ℕ) → i < count_of f → number_at f (entry_place i) ≡ number → ⊥)
+  pub absent_iff : (find_track f number ≡ None) ↔ ((i : ℕ) → i < count_of f → number_at f (entry_place i) ≡ number → ⊥)
   unfolding find_track entries
   absent_iff =
       let none = no_start_iff (has_number f number) place.entry_size (points_at f) (omega arith) place.entries_at in (
@@ -49,7 +49,7 @@ module _ (f : List ℕ) (number : ℕ) where
       )
 
   -- what is found has the number, in every file
-  pub found_number : (e : ℕ) → find_track f number ≡ At e → HasNumber f number e
+  pub found_number : (e : ℕ) → find_track f number ≡ Some e → HasNumber f number e
   unfolding find_track entries
   found_number e q =
       let w = (first_iff (has_number f number) place.entry_size (points_at f) (omega arith) place.entries_at e).0 q in
@@ -69,7 +69,7 @@ module _ (f : List ℕ) (o : Obeys f) where
   one_track = rise_one (λ k. number_at f (entry_place k)) (count_of f) o.agreement.numbers
 
   -- THEOREM: in a file that obeys, a track's entry is found exactly where the track has the number.
-  pub found_iff : (number e : ℕ) → (find_track f number ≡ At e) ↔ HasNumber f number e
+  pub found_iff : (number e : ℕ) → (find_track f number ≡ Some e) ↔ HasNumber f number e
   unfolding find_track entries
   found_iff number e = (
     found_number f number e,

@@ -14,7 +14,7 @@ use lib.Dec.{eqb}
 use lib.Bits.{bit_or}
 use lib.Count.{ones}
 use lib.Pow.{pow_pos}
-use Rattle.verdict.specs.declared.Verdict.TheVariants as verdict
+use Rattle.std.specs.Prelude.{Ok}
 use Rattle.verdict.specs.Walk.{starts_from}
 use Rattle.verdict.proofs.Walk.{starts_step, starts_stop}
 use Rattle.verdict.proofs.Steps.{fixed_iff}
@@ -25,7 +25,7 @@ use Rattle.x1_verdict.specs.Facts.{verdict_of}
 use Rattle.x1_obeys.specs.Obeys.{entry_place, Obeys}
 use Rattle.x1_lookup.specs.Lookup.{number_at, find_track}
 use Rattle.x1_lookup.specs.Presence.{nowhere, word_at, bit_of, has, marked, with, with_all, presence_of, below, entry_by, Means}
-use Rattle.x1_lookup.specs.declared.Found.TheVariants.{At, Absent}
+use Rattle.std.specs.Prelude.{Some, None}
 use Rattle.x1_lookup.specs.declared.presence.Presence.{Presence}
 use Rattle.x1_lookup.proofs.Ones.{bit_either, bit_set, bit_kept, no_ones, ones_further}
 use Rattle.x1_lookup.proofs.Lookup.{verdict_obeys, absent_iff, found_iff, numbers_rise}
@@ -208,17 +208,17 @@ module _ (f : List ℕ) (o : Obeys f) where
   unfolding entry_by
   entry_found n = by_bit (has (presence_of f) n) refl
     where
-      by_bit : (b : Bool) → has (presence_of f) n ≡ b → cond b (At (entry_place (below (presence_of f) n))) Absent ≡ find_track f n
+      by_bit : (b : Bool) → has (presence_of f) n ≡ b → cond b (Some (entry_place (below (presence_of f) n))) None ≡ find_track f n
       by_bit true e =
           let i = ((means f n).0 e).1 in
           let at : below (presence_of f) n ≡ i.track = ap (below (presence_of f)) (sym i.same) ∙ index_is i.track i.in_file in
-          ap (λ (j : ℕ). At (entry_place j)) at
+          ap (λ (j : ℕ). Some (entry_place j)) at
           ∙ sym ((found_iff f o n (entry_place i.track)).1 (record { track = i.track; in_file = i.in_file; there = refl; same = i.same }))
       by_bit false e =
           sym ((absent_iff f n).1 (λ i h q. true≢false (sym ((means f n).1 (let l = number_small i h in omega arith, record { track = i; in_file = h; same = q })) ∙ e)))
 
 -- THEOREM: so it is in every accepted file.
-pub words_answer : (f : List ℕ) → verdict_of f ≡ verdict.Accepted → (n : ℕ) → entry_by (presence_of f) n ≡ find_track f n
+pub words_answer : (f : List ℕ) → verdict_of f ≡ Ok tt → (n : ℕ) → entry_by (presence_of f) n ≡ find_track f n
 words_answer f e = entry_found f ((verdict_obeys f).0 e)
 
 -- ---- the count, word by word
@@ -277,9 +277,9 @@ module _ (w : Presence) where
   -- ---- the two ways out of the lookup
 
   module _ (n word : ℕ) (is : word ≡ word_at w (n / 64)) where
-    pub not_there : word / 2 ^ (n % 64) % 2 ≡ 0 → Absent ≡ entry_by w n
+    pub not_there : word / 2 ^ (n % 64) % 2 ≡ 0 → None ≡ entry_by w n
     unfolding entry_by has
-    not_there e = ap (λ (b : Bool). cond b (At (entry_place (below w n))) Absent) (sym (ap (λ (x : ℕ). eqb (bit_of x (n % 64)) 1) (sym is) ∙ ne_eqb (bit_of word (n % 64)) 1 (λ z. omega arith)))
+    not_there e = ap (λ (b : Bool). cond b (Some (entry_place (below w n))) None) (sym (ap (λ (x : ℕ). eqb (bit_of x (n % 64)) 1) (sym is) ∙ ne_eqb (bit_of word (n % 64)) 1 (λ z. omega arith)))
 
     present : (word / 2 ^ (n % 64) % 2 ≡ 0 → ⊥) → has w n ≡ true
     unfolding has
@@ -288,9 +288,9 @@ module _ (w : Presence) where
     pub in_words : (word / 2 ^ (n % 64) % 2 ≡ 0 → ⊥) → n < 256
     in_words o = ⊎_elim (λ (l : 256 ≤ n). absurd (true≢false (sym (present o) ∙ none_above w n l))) (λ (l : n < 256). l) (le-or-lt 256 n)
 
-    pub there : (word / 2 ^ (n % 64) % 2 ≡ 0 → ⊥) → (x y : ℕ) → x ≡ below w (64 * (n / 64)) → y ≡ ones (word % 2 ^ (n % 64)) → At (entry_place (x + y)) ≡ entry_by w n
+    pub there : (word / 2 ^ (n % 64) % 2 ≡ 0 → ⊥) → (x y : ℕ) → x ≡ below w (64 * (n / 64)) → y ≡ ones (word % 2 ^ (n % 64)) → Some (entry_place (x + y)) ≡ entry_by w n
     unfolding entry_by
     there o x y p q =
         let at : 64 * (n / 64) + n % 64 ≡ n = omega arith in
         let count : x + y ≡ below w n = ap₂ (λ (x y : ℕ). x + y) p (q ∙ ap (λ (v : ℕ). ones (v % 2 ^ (n % 64))) is) ∙ sym (within_word (n / 64) (n % 64) (omega arith)) ∙ ap (below w) at in
-        ap (λ (k : ℕ). At (entry_place k)) count ∙ sym (ap (λ (b : Bool). cond b (At (entry_place (below w n))) Absent) (present o))
+        ap (λ (k : ℕ). Some (entry_place k)) count ∙ sym (ap (λ (b : Bool). cond b (Some (entry_place (below w n))) None) (present o))

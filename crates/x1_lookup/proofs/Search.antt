@@ -14,19 +14,18 @@ use Rattle.verdict.specs.Walk.{walk, starts_from}
 use Rattle.verdict.proofs.Walk.{starts_step, starts_stop}
 use Rattle.verdict.proofs.Steps.{fixed_iff}
 use Rattle.x1_lookup.specs.Lookup.{first_where}
-use Rattle.x1_lookup.specs.declared.Found.{Found}
-use Rattle.x1_lookup.specs.declared.Found.TheVariants.{At, Absent}
+use Rattle.std.specs.Prelude.{Option, Some, None}
 
 -- ---- the two answers
 
-pub never_both : (o : Found) (x : ℕ) → o ≡ At x → o ≡ Absent → ⊥
+pub never_both : (o : Option ℕ) (x : ℕ) → o ≡ Some x → o ≡ None → ⊥
 never_both o x p q = let z : ◌≡◌ {A = ℕ} 0 1 = cc in omega arith
 
 -- ---- one turn of a loop, and its end
 
 module _ (size : ℕ → ℕ) (end : ℕ) (t : ℕ → Bool) where
   module _ (positive : (x : ℕ) → 0 < size x) (at : ℕ) (h : at < end) where
-    pub where_here : t at ≡ true → first_where t (starts_from size end at) ≡ At at
+    pub where_here : t at ≡ true → first_where t (starts_from size end at) ≡ Some at
     unfolding first_where
     where_here e = rw (starts_step size end positive at h, e)
 
@@ -34,19 +33,19 @@ module _ (size : ℕ → ℕ) (end : ℕ) (t : ℕ → Bool) where
     unfolding first_where
     where_next e = rw (starts_step size end positive at h, e)
 
-  pub where_stop : (at : ℕ) → end ≤ at → first_where t (starts_from size end at) ≡ Absent
+  pub where_stop : (at : ℕ) → end ≤ at → first_where t (starts_from size end at) ≡ None
   unfolding first_where
   where_stop at h = rw (starts_stop size end at h)
 
 -- ---- absent: none passes
 
-pub none_iff : (t : ℕ → Bool) (xs : List ℕ) → (first_where t xs ≡ Absent) ↔ ((x : ℕ) → Memᴰ x xs → t x ≡ false)
+pub none_iff : (t : ℕ → Bool) (xs : List ℕ) → (first_where t xs ≡ None) ↔ ((x : ℕ) → Memᴰ x xs → t x ≡ false)
 unfolding first_where
 none_iff t [] = (λ e x m. absurd (Memᴰ.not-nil m), λ h. refl)
 none_iff t (y ∷ ys) = let ih = none_iff t ys in (λ e. there (t y) refl ih.0 e, λ h. rw (h y (Memᴰ.head refl)) (ih.1 (λ x m. h x (Memᴰ.tail m))))
   where
-    there : (b : Bool) → t y ≡ b → (first_where t ys ≡ Absent → (x : ℕ) → Memᴰ x ys → t x ≡ false) → cond b (At y) (first_where t ys) ≡ Absent → (x : ℕ) → Memᴰ x (y ∷ ys) → t x ≡ false
-    there true q ih e x m = absurd (never_both (At y) y refl e)
+    there : (b : Bool) → t y ≡ b → (first_where t ys ≡ None → (x : ℕ) → Memᴰ x ys → t x ≡ false) → cond b (Some y) (first_where t ys) ≡ None → (x : ℕ) → Memᴰ x (y ∷ ys) → t x ≡ false
+    there true q ih e x m = absurd (never_both (Some y) y refl e)
     there false q ih e x m = ⊎_elim (λ (p : x ≡ y). ap t p ∙ q) (λ (n : Memᴰ x ys). ih e x n) (Memᴰ.cases_cons m)
 
 -- ---- records of one size
@@ -59,9 +58,9 @@ pub record FirstStart (t : ℕ → Bool) (s end a x : ℕ) : Type 0 where
   pub passes : t x ≡ true
   pub failed : (i : ℕ) → i < steps → t (a + s * i) ≡ false
 
-first_walk : (t : ℕ → Bool) (s end k a x : ℕ) → first_where t (walk (λ _. s) end k a) ≡ At x → FirstStart t s end a x
+first_walk : (t : ℕ → Bool) (s end k a x : ℕ) → first_where t (walk (λ _. s) end k a) ≡ Some x → FirstStart t s end a x
 unfolding walk first_where
-first_walk t s end zero a x e = absurd (never_both Absent x e refl)
+first_walk t s end zero a x e = absurd (never_both None x e refl)
 first_walk t s end (suc k) a x e = by_end (ltb a end) refl e (first_walk t s end k (a + s) x)
   where
     further : t a ≡ false → FirstStart t s end (a + s) x → FirstStart t s end a x
@@ -77,22 +76,22 @@ first_walk t s end (suc k) a x e = by_end (ltb a end) refl e (first_walk t s end
         before zero h = let z = mul-zero s in let p : a + s * 0 ≡ a = omega arith in ap t p ∙ q
         before (suc i) h = let z = mul-suc s i in let p : a + s * suc i ≡ a + s + s * i = omega arith in ap t p ∙ w.failed i (omega arith)
 
-    by_test : (b : Bool) → t a ≡ b → a < end → cond b (At a) (first_where t (walk (λ _. s) end k (a + s))) ≡ At x → (first_where t (walk (λ _. s) end k (a + s)) ≡ At x → FirstStart t s end (a + s) x) → FirstStart t s end a x
+    by_test : (b : Bool) → t a ≡ b → a < end → cond b (Some a) (first_where t (walk (λ _. s) end k (a + s))) ≡ Some x → (first_where t (walk (λ _. s) end k (a + s)) ≡ Some x → FirstStart t s end (a + s) x) → FirstStart t s end a x
     by_test true q h e ih =
         let p : a ≡ x = cc in
         record { steps = 0; there = omega (arith, mul-zero s); inside = omega arith; passes = ap t (sym p) ∙ q; failed = λ i l. absurd (omega arith) }
     by_test false q h e ih = further q (ih e)
 
-    by_end : (b : Bool) → ltb a end ≡ b → first_where t (cond b (a ∷ walk (λ _. s) end k (a + s)) []) ≡ At x → (first_where t (walk (λ _. s) end k (a + s)) ≡ At x → FirstStart t s end (a + s) x) → FirstStart t s end a x
+    by_end : (b : Bool) → ltb a end ≡ b → first_where t (cond b (a ∷ walk (λ _. s) end k (a + s)) []) ≡ Some x → (first_where t (walk (λ _. s) end k (a + s)) ≡ Some x → FirstStart t s end (a + s) x) → FirstStart t s end a x
     by_end true q e ih = by_test (t a) refl (ltb-true a end q) e ih
-    by_end false q e ih = absurd (never_both Absent x e refl)
+    by_end false q e ih = absurd (never_both None x e refl)
 
 module _ (t : ℕ → Bool) (s end : ℕ) (positive : 0 < s) where
-  first-at : (j a x : ℕ) → x ≡ a + s * j → x < end → t x ≡ true → ((i : ℕ) → i < j → t (a + s * i) ≡ false) → first_where t (starts_from (λ _. s) end a) ≡ At x
+  first-at : (j a x : ℕ) → x ≡ a + s * j → x < end → t x ≡ true → ((i : ℕ) → i < j → t (a + s * i) ≡ false) → first_where t (starts_from (λ _. s) end a) ≡ Some x
   first-at zero a x e h p f =
       let z = mul-zero s in
       let q : a ≡ x = omega arith in
-      where_here (λ _. s) end t (λ _. positive) a (omega arith) (ap t q ∙ p) ∙ ap At q
+      where_here (λ _. s) end t (λ _. positive) a (omega arith) (ap t q ∙ p) ∙ ap Some q
   first-at (suc j) a x e h p f =
       let z = mul-suc s j in
       sym (where_next (λ _. s) end t (λ _. positive) a (omega arith) (ap t (start a) ∙ f 0 (omega arith)))
@@ -104,11 +103,11 @@ module _ (t : ℕ → Bool) (s end : ℕ) (positive : 0 < s) where
       next : (i : ℕ) → a + s + s * i ≡ a + s * suc i
       next i = let z = mul-suc s i in omega arith
 
-  pub first_iff : (a x : ℕ) → (first_where t (starts_from (λ _. s) end a) ≡ At x) ↔ FirstStart t s end a x
+  pub first_iff : (a x : ℕ) → (first_where t (starts_from (λ _. s) end a) ≡ Some x) ↔ FirstStart t s end a x
   unfolding starts_from
   first_iff a x = (first_walk t s end end a x, λ w. first-at w.steps a x w.there w.inside w.passes w.failed)
 
-  pub no_start_iff : (a : ℕ) → (first_where t (starts_from (λ _. s) end a) ≡ Absent) ↔ ((j : ℕ) → a + s * j < end → t (a + s * j) ≡ false)
+  pub no_start_iff : (a : ℕ) → (first_where t (starts_from (λ _. s) end a) ≡ None) ↔ ((j : ℕ) → a + s * j < end → t (a + s * j) ≡ false)
   no_start_iff a =
       let none = none_iff t (starts_from (λ _. s) end a) in (
         λ e j h. none.0 e (a + s * j) ((fixed_iff s end positive a (a + s * j)).1 (j, refl, h)),

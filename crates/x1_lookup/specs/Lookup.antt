@@ -5,13 +5,12 @@ use Rattle.tables.specs.Table.{value_of}
 use Rattle.x1_records.specs.Rows as rows
 use Rattle.x1_layout.specs.Layout.{count_of, entries}
 use Rattle.x1_obeys.specs.Obeys.{entry_place}
-use Rattle.x1_lookup.specs.declared.Found.{Found}
-use Rattle.x1_lookup.specs.declared.Found.TheVariants.{At, Absent}
+use Rattle.std.specs.Prelude.{Option, Some, None}
 
 -- the first of the places that passes the test
-unfoldable pub first_where : (ℕ → Bool) → List ℕ → Found
-first_where t [] = Absent
-first_where t (x ∷ xs) = cond (t x) (At x) (first_where t xs)
+unfoldable pub first_where : (ℕ → Bool) → List ℕ → Option ℕ
+first_where t [] = None
+first_where t (x ∷ xs) = cond (t x) (Some x) (first_where t xs)
 
 -- the number of the track whose entry is at e
 abbrev pub number_at : List ℕ → ℕ → ℕ
@@ -23,7 +22,7 @@ has_number f number e = eqb (number_at f e) number
 
 -- the entry of the track with a number: the first in stored order
 -- 02: Ticket7.1, Ticket7.4
-unfoldable pub find_track : List ℕ → ℕ → Found
+unfoldable pub find_track : List ℕ → ℕ → Option ℕ
 find_track f number = first_where (has_number f number) (entries f)
 
 -- a track of the file has the number

@@ -5,8 +5,7 @@ use Rattle.std.specs.Int.Bits.{bit_or}
 use Rattle.x1_layout.specs.Layout.{entries}
 use Rattle.x1_obeys.specs.Obeys.{entry_place}
 use Rattle.x1_lookup.specs.Lookup.{number_at, TrackNumbered}
-use Rattle.x1_lookup.specs.declared.Found.{Found}
-use Rattle.x1_lookup.specs.declared.Found.TheVariants.{At, Absent}
+use Rattle.std.specs.Prelude.{Option, Some, None}
 use Rattle.x1_lookup.specs.declared.presence.Presence.{Presence}
 
 -- ---- the words
@@ -61,8 +60,8 @@ below w (suc n) = cond (has w n) (suc (below w n)) (below w n)
 -- the entry of the track with a number, where the number is present: that with so many entries before it
 -- 01: Form.3
 -- 02: Ticket7.3, Ticket7.4
-unfoldable pub entry_by : Presence → ℕ → Found
-entry_by w n = cond (has w n) (At (entry_place (below w n))) Absent
+unfoldable pub entry_by : Presence → ℕ → Option ℕ
+entry_by w n = cond (has w n) (Some (entry_place (below w n))) None
 
 -- ---- what the words mean
 

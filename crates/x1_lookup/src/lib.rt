@@ -13,24 +13,15 @@ mod presence;
 
 pub use presence::Presence;
 
-// Where what was looked for starts, or that it is nowhere.
-#[derive(Clone, Copy)]
-pub enum Found {
-    At(u32),
-    Absent,
-}
-
 // The entry of the track with a number: the first in stored order. In an accepted file there is no second.
-pub fn find_track(f: &[u8], number: usize) -> Found
+pub fn find_track(f: &[u8], number: usize) -> Option<u32>
     ensures { result ≡ find_track f.now number }
 {
     let stop = points_at(f);
-    let mut e = ENTRIES;
-    while e < stop {
+    for e in (ENTRIES..stop).step_by(Track::SIZE as usize) {
         if number_of(f, e, Track::NUMBER) == number {
-            return Found::At(e);
+            return Some(e);
         }
-        e = e + Track::SIZE as u32;
     }
-    Found::Absent
+    None
 }

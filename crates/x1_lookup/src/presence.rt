@@ -5,7 +5,6 @@ ghost use Rattle.std.specs.Int.Count.{ones};
 ghost use Rattle.x1_lookup.specs.Presence.{nowhere, word_at, marked, with, presence_of, below, entry_by};
 ghost use Rattle.x1_lookup.specs.inner.Ones.{Counted};
 
-use crate::Found;
 use tables::number_of;
 use x1_layout::points_at;
 use x1_records::{ENTRIES, Track};
@@ -80,10 +79,8 @@ impl Presence {
     {
         let stop = points_at(f);
         let mut words = Presence::none();
-        let mut e = ENTRIES;
-        while e < stop {
+        for e in (ENTRIES..stop).step_by(Track::SIZE as usize) {
             words = words.with(number_of(f, e, Track::NUMBER));
-            e = e + Track::SIZE as u32;
         }
         words
     }
@@ -125,15 +122,15 @@ impl Presence {
     }
 
     // The entry of the track with a number, by the count of present numbers below it.
-    pub fn entry(self, number: usize) -> Found
+    pub fn entry(self, number: usize) -> Option<u32>
         ensures { result ≡ entry_by self number }
     {
         let k = (number % WORD) as u32;
         let word = self.word_of(number);
         if (word >> k) % 2 == 0 {
-            return Found::Absent;
+            return None;
         }
         let before = self.ones_before(number) + ones_below(word, k);
-        Found::At(ENTRIES + Track::SIZE as u32 * before)
+        Some(ENTRIES + Track::SIZE as u32 * before)
     }
 }

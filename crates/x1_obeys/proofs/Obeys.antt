@@ -15,7 +15,7 @@ use native.Mathlib.Decide.{ℕ_discrete}
 use Rattle.octets.specs.Octets.{num_at}
 use Rattle.envelope.specs.Seal.{most_length, seal_facts}
 use Rattle.verdict.specs.Facts.{Fact, AllHold}
-use Rattle.verdict.specs.declared.Judged.TheVariants.{Accepted}
+use Rattle.std.specs.Prelude.{Ok}
 use Rattle.verdict.proofs.Facts.{accepted_iff, all_append, all_each}
 use Rattle.verdict.proofs.Steps.{fixed_iff}
 use Rattle.rules.specs.Rules.{length_between}
@@ -376,7 +376,7 @@ least_iff f b = go (ltb (structure_of f) place.heights_from) refl
     go false e = (λ h k. h.0, λ h. (h (ltb-false (structure_of f) place.heights_from e), b.1))
 
 -- THEOREM (demand 2): an X.1 file is accepted exactly where it obeys, by a reader that knows the structure versions up to the newest.
-pub accepted_obeys_by : (newest : ℕ) (f : List ℕ) → (judged_by newest f ≡ Accepted) ↔ ObeysBy newest f
+pub accepted_obeys_by : (newest : ℕ) (f : List ℕ) → (judged_by newest f ≡ Ok tt) ↔ ObeysBy newest f
 unfolding facts_by sized_facts AllHold
 accepted_obeys_by newest f =
     let size = size_of f in
@@ -417,5 +417,5 @@ accepted_obeys_by newest f =
     )
 
 -- THEOREM (demand 2): an X.1 file is accepted exactly where it obeys.
-pub accepted_obeys : (f : List ℕ) → (judged_of f ≡ Accepted) ↔ Obeys f
+pub accepted_obeys : (f : List ℕ) → (judged_of f ≡ Ok tt) ↔ Obeys f
 accepted_obeys = accepted_obeys_by 2

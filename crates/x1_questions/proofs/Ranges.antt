@@ -10,8 +10,8 @@ use native.Mathlib.Omega.{arith}
 use borrow.Author.Tests.{ltb-true, lt-ltb}
 use Rattle.verdict.specs.declared.Reason.TheVariants as reason
 use Rattle.verdict.specs.declared.Fault.{Fault}
-use Rattle.verdict.specs.declared.Verdict.{Verdict}
-use Rattle.verdict.specs.declared.Verdict.TheVariants as verdict
+use Rattle.verdict.specs.Verdicts.{Verdict}
+use Rattle.std.specs.Prelude.{Ok, Err}
 use Rattle.verdict.specs.Answers.{refusal, answer_number}
 use Rattle.verdict.proofs.Questions.{accepted_by, some_number}
 use Rattle.x1_records.specs.Tracks.{points_in}
@@ -23,11 +23,9 @@ use Rattle.rounding.specs.Nearest.{coordinate_of}
 use Rattle.rounding.specs.Way.{Limits}
 use Rattle.rounding.proofs.Ends.{coordinate_size}
 use Rattle.x1_lookup.specs.Lookup.{find_track}
-use Rattle.x1_lookup.specs.declared.Found.{Found}
-use Rattle.x1_lookup.specs.declared.Found.TheVariants.{At, Absent}
+use Rattle.std.specs.Prelude.{Option, Some, None}
 use Rattle.x1_lookup.proofs.Lookup.{verdict_obeys}
 use Rattle.x1_questions.specs.declared.answers.Coordinate.{Coordinate}
-use Rattle.x1_questions.specs.declared.answers.CoordinateAnswer.TheVariants as coordinate
 use Rattle.x1_questions.specs.Answers.{coordinate_answer}
 use Rattle.x1_questions.specs.Stretch.{end_position_of, latitude_of, longitude_of, point_coordinate, stretch_of, past_of, length_of, coordinate_on}
 use Rattle.x1_questions.specs.Coordinate.{Neighbours, CoordinateRange}
@@ -43,7 +41,7 @@ chosen true a b c n e = (refl, e)
 chosen false a b c n e = absurd (n e)
 
 -- a coordinate is no refusal
-never : (c : Coordinate) (u : Fault) → ¬ (coordinate.Refused u ≡ coordinate.Coordinate c)
+never : (c : Coordinate) (u : Fault) → ¬ (Err u ≡ Ok c)
 never c u q = some_number u.reason (ap answer_number (ap coordinate_answer q))
 
 -- ---- on the way between two points
@@ -68,28 +66,28 @@ module _ (f : List ℕ) (size e x : ℕ) (positive : 0 < size) (o : TrackObeys f
         let s = on_stretch_lem f size e positive o x j n in
         record { latitude = on_way (latitude_of f e) 324000000 o.agrees.latitudes s.latitude; longitude = on_way (longitude_of f e) 648000000 o.agrees.longitudes s.longitude }
 
-  track_range : (c : Coordinate) → on_track f size e x ≡ coordinate.Coordinate c → CoordinateRange c
+  track_range : (c : Coordinate) → on_track f size e x ≡ Ok c → CoordinateRange c
   unfolding on_track
-  track_range c q = by_stretch (stretch_of f size e x) refl (chosen (leb x (end_position_of f e)) _ (coordinate.Refused (refusal reason.Position)) (coordinate.Coordinate c) (never c (refusal reason.Position)) q).1
+  track_range c q = by_stretch (stretch_of f size e x) refl (chosen (leb x (end_position_of f e)) _ (Err (refusal reason.Position)) (Ok c) (never c (refusal reason.Position)) q).1
     where
-      by_stretch : (s : Found) → stretch_of f size e x ≡ s → on_stretch f size e x s ≡ coordinate.Coordinate c → CoordinateRange c
-      by_stretch Absent w r = absurd (never c (refusal reason.Position) r)
-      by_stretch (At p) w r =
+      by_stretch : (s : Option ℕ) → stretch_of f size e x ≡ s → on_stretch f size e x s ≡ Ok c → CoordinateRange c
+      by_stretch None w r = absurd (never c (refusal reason.Position) r)
+      by_stretch (Some p) w r =
           let s = found_stretch f size e positive o x p w in
           let same : coordinate_on f size e x p ≡ c = cc in
           subst CoordinateRange (ap (coordinate_on f size e x) (sym s.1) ∙ same) (stretch_range s.0 s.2)
 
 -- ---- at a position
 
-pub coordinate_range : (f : List ℕ) (number x : ℕ) (c : Coordinate) → coordinate_asked f number x ≡ coordinate.Coordinate c → CoordinateRange c
+pub coordinate_range : (f : List ℕ) (number x : ℕ) (c : Coordinate) → coordinate_asked f number x ≡ Ok c → CoordinateRange c
 unfolding coordinate_asked
 coordinate_range f number x c q =
-    let a = accepted_by coordinate.Refused (verdict_of f) (on_found f (size_of f) x (find_track f number)) (coordinate.Coordinate c) (never c) q in
+    let a = accepted_by Err (verdict_of f) (on_found f (size_of f) x (find_track f number)) (Ok c) (never c) q in
     by_found ((verdict_obeys f).0 a.0) (find_track f number) refl a.1
   where
-    by_found : Obeys f → (s : Found) → find_track f number ≡ s → on_found f (size_of f) x s ≡ coordinate.Coordinate c → CoordinateRange c
-    by_found o Absent w r = absurd (never c (refusal reason.Track) r)
-    by_found o (At e) w r = track_range f (size_of f) e x (size_positive (structure_of f)) (found_obeys f o number e w) c r
+    by_found : Obeys f → (s : Option ℕ) → find_track f number ≡ s → on_found f (size_of f) x s ≡ Ok c → CoordinateRange c
+    by_found o None w r = absurd (never c (refusal reason.Track) r)
+    by_found o (Some e) w r = track_range f (size_of f) e x (size_positive (structure_of f)) (found_obeys f o number e w) c r
 
 -- ---- of a point
 
@@ -104,7 +102,7 @@ module _ (f : List ℕ) (i j : ℕ) where
   its = point_coordinate f its_entry (point_place f (size_of f) its_entry j)
 
   -- where there is such a point, it is answered
-  pub coordinate_named : verdict_of f ≡ verdict.Accepted → i < count_of f → j < points → point_coordinate_of f i j ≡ coordinate.Coordinate its
+  pub coordinate_named : verdict_of f ≡ Ok tt → i < count_of f → j < points → point_coordinate_of f i j ≡ Ok its
   unfolding sought_point
   coordinate_named g h k = coordinate_sought f refl g i j ∙ rw (lt-ltb i (count_of f) h, lt-ltb j points k) refl
 
@@ -114,15 +112,15 @@ module _ (f : List ℕ) (i j : ℕ) where
       let l = (named_iff f (size_of f) its_entry (size_positive (structure_of f)) t j).0 k in
       record { latitude = t.agrees.latitudes j l; longitude = t.agrees.longitudes j l }
 
-  by_tests : Obeys f → (c : Coordinate) (a b : Bool) → ltb i (count_of f) ≡ a → ltb j points ≡ b → coordinate_from f (sought f i j a b) ≡ coordinate.Coordinate c → CoordinateRange c
+  by_tests : Obeys f → (c : Coordinate) (a b : Bool) → ltb i (count_of f) ≡ a → ltb j points ≡ b → coordinate_from f (sought f i j a b) ≡ Ok c → CoordinateRange c
   by_tests o c false b g h r = absurd (never c (refusal reason.Question) r)
   by_tests o c true false g h r = absurd (never c (refusal reason.Question) r)
   by_tests o c true true g h r = let same : its ≡ c = cc in subst CoordinateRange same (in_file o (ltb-true i (count_of f) g) (ltb-true j points h))
 
-  pub point_coordinate_range : (c : Coordinate) → point_coordinate_of f i j ≡ coordinate.Coordinate c → CoordinateRange c
+  pub point_coordinate_range : (c : Coordinate) → point_coordinate_of f i j ≡ Ok c → CoordinateRange c
   unfolding sought_point
   point_coordinate_range c q = by_verdict (verdict_of f) refl
     where
       by_verdict : (v : Verdict) → verdict_of f ≡ v → CoordinateRange c
-      by_verdict (verdict.Refused t) g = absurd (never c t (sym ((file_fault f t g).3 i j) ∙ q))
-      by_verdict verdict.Accepted g = by_tests ((verdict_obeys f).0 g) c (ltb i (count_of f)) (ltb j points) refl refl (sym (coordinate_sought f refl g i j) ∙ q)
+      by_verdict (Err t) g = absurd (never c t (sym ((file_fault f t g).3 i j) ∙ q))
+      by_verdict (Ok tt) g = by_tests ((verdict_obeys f).0 g) c (ltb i (count_of f)) (ltb j points) refl refl (sym (coordinate_sought f refl g i j) ∙ q)

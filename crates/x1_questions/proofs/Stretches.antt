@@ -13,7 +13,7 @@ use Rattle.x1_records.specs.Tracks.{points_in}
 use Rattle.x1_layout.specs.Layout.{count_of, first_of, last_of}
 use Rattle.x1_obeys.specs.Obeys.{size_of, entry_place, point_place, Obeys}
 use Rattle.rounding.specs.Way.{farthest, Limits}
-use Rattle.x1_lookup.specs.declared.Found.TheVariants.{At, Absent}
+use Rattle.std.specs.Prelude.{Some, None}
 use Rattle.x1_lookup.specs.Lookup.{find_track}
 use Rattle.x1_lookup.proofs.Lookup.{found_number}
 use Rattle.x1_lookup.proofs.Search.{FirstStart, first_iff, no_start_iff}
@@ -35,7 +35,7 @@ track_obeys f o i h =
     }
 
 -- and so the one that was found by its number
-pub found_obeys : (f : List ℕ) → Obeys f → (number e : ℕ) → find_track f number ≡ At e → TrackObeys f (size_of f) e
+pub found_obeys : (f : List ℕ) → Obeys f → (number e : ℕ) → find_track f number ≡ Some e → TrackObeys f (size_of f) e
 found_obeys f o number e q =
     let w = found_number f number e q in
     subst (TrackObeys f (size_of f)) (sym w.there) (track_obeys f o w.track w.in_file)
@@ -98,7 +98,7 @@ module _ (f : List ℕ) (size e : ℕ) (positive : 0 < size) (o : TrackObeys f s
 
   -- ---- the stretch that a position lies on
 
-  pub some_stretch : (x : ℕ) → x ≤ end_position_of f e → stretch_of f size e x ≡ Absent → ⊥
+  pub some_stretch : (x : ℕ) → x ≤ end_position_of f e → stretch_of f size e x ≡ None → ⊥
   unfolding stretch_of
   some_stretch x h q =
       let k = o.two_points.0 in
@@ -139,7 +139,7 @@ module _ (f : List ℕ) (size e : ℕ) (positive : 0 < size) (o : TrackObeys f s
           let s = ap (position_of f) (next_point j) in
           omega arith
 
-  pub found_stretch : (x p : ℕ) → stretch_of f size e x ≡ At p → Stretched x p
+  pub found_stretch : (x p : ℕ) → stretch_of f size e x ≡ Some p → Stretched x p
   unfolding stretch_of
   found_stretch x p q = reached x p ((first_iff (reaches f size x) size (last_of f e) positive (first_of f e) p).0 q)
 
@@ -179,5 +179,5 @@ module _ (f : List ℕ) (size e : ℕ) (positive : 0 < size) (o : TrackObeys f s
         }
 
   -- the stretch that was found
-  pub on_found_lem : (x p : ℕ) → stretch_of f size e x ≡ At p → OnStretch f size e x p
+  pub on_found_lem : (x p : ℕ) → stretch_of f size e x ≡ Some p → OnStretch f size e x p
   on_found_lem x p q = let w = found_stretch x p q in subst (OnStretch f size e x) (sym w.1) (on_stretch_lem x w.0 w.2)

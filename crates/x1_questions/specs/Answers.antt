@@ -5,21 +5,18 @@ use Rattle.envelope.specs.Header.{header_values}
 use Rattle.x1_records.specs.Tracks.{points_in, height_values}
 use Rattle.x1_records.specs.declared.Track.{Track}
 use Rattle.x1_records.specs.declared.Point.{Point}
-use Rattle.x1_questions.specs.declared.answers.HeaderAnswer.{HeaderAnswer}
-use Rattle.x1_questions.specs.declared.answers.HeaderAnswer.TheVariants as header
-use Rattle.x1_questions.specs.declared.answers.TrackAnswer.{TrackAnswer}
-use Rattle.x1_questions.specs.declared.answers.TrackAnswer.TheVariants as track
-use Rattle.x1_questions.specs.declared.answers.PointAnswer.{PointAnswer}
-use Rattle.x1_questions.specs.declared.answers.PointAnswer.TheVariants as point
+use Rattle.x1_questions.specs.Results.{HeaderAnswer}
+use Rattle.std.specs.Prelude.{Ok, Err}
+use Rattle.x1_questions.specs.Results.{TrackAnswer}
+use Rattle.x1_questions.specs.Results.{PointAnswer}
 use Rattle.x1_questions.specs.declared.answers.Coordinate.{Coordinate}
-use Rattle.x1_questions.specs.declared.answers.CoordinateAnswer.{CoordinateAnswer}
-use Rattle.x1_questions.specs.declared.answers.CoordinateAnswer.TheVariants as coordinate
+use Rattle.x1_questions.specs.Results.{CoordinateAnswer}
 
 -- structure version, data version, station
 -- 01: Form.10
 abbrev pub header_answer : HeaderAnswer → Answer
-header_answer (header.Header h) = answered (header_values h)
-header_answer (header.Refused t) = refused 3 t
+header_answer (Ok h) = answered (header_values h)
+header_answer (Err t) = refused 3 t
 
 -- the ten fields of the entry in the order of its table, and how many points the track has
 abbrev pub track_values : Track → List ℤ
@@ -39,8 +36,8 @@ track_values t =
 
 -- 01: Form.10
 abbrev pub track_answer : TrackAnswer → Answer
-track_answer (track.Track t) = answered (track_values t)
-track_answer (track.Refused t) = refused 11 t
+track_answer (Ok t) = answered (track_values t)
+track_answer (Err t) = refused 11 t
 
 -- position, both increments, heading, near flag; whether there is a height, and the height
 abbrev pub point_values : Point → List ℤ
@@ -49,8 +46,8 @@ point_values p =
 
 -- 01: Form.10
 abbrev pub point_answer : PointAnswer → Answer
-point_answer (point.Point p) = answered (point_values p)
-point_answer (point.Refused t) = refused 7 t
+point_answer (Ok p) = answered (point_values p)
+point_answer (Err t) = refused 7 t
 
 -- latitude, longitude
 abbrev pub coordinate_values : Coordinate → List ℤ
@@ -58,5 +55,5 @@ coordinate_values c = c.latitude ∷ c.longitude ∷ []
 
 -- 01: Form.10
 abbrev pub coordinate_answer : CoordinateAnswer → Answer
-coordinate_answer (coordinate.Coordinate c) = answered (coordinate_values c)
-coordinate_answer (coordinate.Refused t) = refused 2 t
+coordinate_answer (Ok c) = answered (coordinate_values c)
+coordinate_answer (Err t) = refused 2 t

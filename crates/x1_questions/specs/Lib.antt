@@ -1,3 +1,4 @@
+pub mod Results
 pub mod Stretch
 pub mod Questions
 pub mod Answers

@@ -9,7 +9,7 @@ use Rattle.x1_layout.specs.Layout.{first_of, last_of}
 use Rattle.x1_verdict.specs.Agreement.{sum_of}
 use Rattle.rounding.specs.Nearest.{coordinate_of}
 use Rattle.x1_lookup.specs.Lookup.{first_where}
-use Rattle.x1_lookup.specs.declared.Found.{Found}
+use Rattle.std.specs.Prelude.{Option}
 use Rattle.x1_questions.specs.declared.answers.Coordinate.{Coordinate}
 
 -- the track's end position
@@ -35,7 +35,7 @@ abbrev pub reaches : List ℕ → ℕ → ℕ → ℕ → Bool
 reaches f size x p = leb x (position_of f (p + size))
 
 -- the stretch that x lies on: it starts at the first point, the last one left out, whose next point's position is x or more
-unfoldable pub stretch_of : List ℕ → ℕ → ℕ → ℕ → Found
+unfoldable pub stretch_of : List ℕ → ℕ → ℕ → ℕ → Option ℕ
 stretch_of f size e x = first_where (reaches f size x) (starts_from (λ _. size) (last_of f e) (first_of f e))
 
 -- how far x is past the point at p, and how long the stretch is

@@ -2,7 +2,7 @@
 // coordinate at a position. Each takes the verdict apart and returns the file's own fault at once.
 #![tactic(auto)]
 
-ghost use Rattle.std.specs.Prelude.{◌≡◌, ◌+◌, ◌*◌, ◌≤◌, ◌<◌};
+ghost use Rattle.std.specs.Prelude.{Ok, ◌≡◌, ◌+◌, ◌*◌, ◌≤◌, ◌<◌};
 ghost use Rattle.envelope.specs.Seal.{most_length};
 ghost use Rattle.x1_verdict.specs.Facts.{verdict_of};
 ghost use Rattle.x1_obeys.specs.Obeys.{entry_place};
@@ -13,13 +13,13 @@ ghost use Rattle.x1_questions.specs.inner.Sought.{sought_point};
 mod answers;
 mod stretch;
 
-pub use answers::{Coordinate, CoordinateAnswer, HeaderAnswer, PointAnswer, TrackAnswer};
+pub use answers::Coordinate;
 use envelope::{HEADER, Header};
 use stretch::{coordinate_on, find_stretch};
 use tables::number_of;
-use verdict::{Reason, Verdict, refusal};
+use verdict::{Fault, Reason, refusal};
 use x1_layout::size_of;
-use x1_lookup::{Found, find_track};
+use x1_lookup::find_track;
 use x1_records::{COUNT, ENTRIES, LATITUDE, LONGITUDE, Point, Track};
 use x1_verdict::sum_of;
 use x1_verdict::verdicts::verdict_of;
@@ -40,29 +40,31 @@ fn point_place(first: u16, size: u8, j: usize) -> u16
 }
 
 // The header.
-pub fn header(f: &[u8]) -> HeaderAnswer
+pub fn header(f: &[u8]) -> Result<Header, Fault>
     ensures { result ≡ header_of f.now }
 {
+    // Stays (1): a question takes the verdict apart by `let .. else` (Form.5 in docs/PROMISES.md).
     let v = verdict_of(f);
-    let Verdict::Accepted = v else {
-        return HeaderAnswer::Refused(v.fault());
+    let Ok(()) = v else {
+        return Err(v.unwrap_err());
     };
-    HeaderAnswer::Header(Header::read(f))
+    Ok(Header::read(f))
 }
 
 // The track of an index.
-pub fn track(f: &[u8], index: usize) -> TrackAnswer
+pub fn track(f: &[u8], index: usize) -> Result<Track, Fault>
     ensures { result ≡ track_of f.now index }
 {
+    // Stays (1): a question takes the verdict apart by `let .. else` (Form.5 in docs/PROMISES.md).
     let v = verdict_of(f);
-    let Verdict::Accepted = v else {
-        return TrackAnswer::Refused(v.fault());
+    let Ok(()) = v else {
+        return Err(v.unwrap_err());
     };
     if number_of(f, HEADER, COUNT) <= index {
-        return TrackAnswer::Refused(refusal(Reason::Question));
+        return Err(refusal(Reason::Question));
     }
     let at = entry_place(index as u8);
-    TrackAnswer::Track(Track::read(f, size_of(f), at))
+    Ok(Track::read(f, size_of(f), at))
 }
 
 // Where a point stands, and the entry of its track.
@@ -72,92 +74,89 @@ struct Standing {
     place: u16,
 }
 
-#[derive(Clone, Copy)]
-enum Sought {
-    There(Standing),
-    Nowhere,
-}
-
 // Where the point of an index in the track of an index stands.
-fn find_point(f: &[u8], track: usize, index: usize) -> Sought
-    requires { verdict_of f.now ≡ Verdict.Accepted }
+fn find_point(f: &[u8], track: usize, index: usize) -> Option<Standing>
+    requires { verdict_of f.now ≡ Ok tt }
     ensures { result ≡ sought_point f.now track index }
 {
     if number_of(f, HEADER, COUNT) <= track {
-        return Sought::Nowhere;
+        return None;
     }
     let size = size_of(f);
     let entry = entry_place(track as u8);
     let its = Track::read(f, size, entry);
     if its.points() <= index {
-        return Sought::Nowhere;
+        return None;
     }
     let place = point_place(its.first, size, index);
-    Sought::There(Standing { entry, place })
+    Some(Standing { entry, place })
 }
 
 // The point of an index in the track of an index.
-pub fn point(f: &[u8], track: usize, index: usize) -> PointAnswer
+pub fn point(f: &[u8], track: usize, index: usize) -> Result<Point, Fault>
     ensures { result ≡ point_of f.now track index }
 {
-    let v = verdict_of(f);
-    let Verdict::Accepted = v else {
-        return PointAnswer::Refused(v.fault());
+    // Stays (1): a question takes the verdict apart by `let .. else` (Form.5 in docs/PROMISES.md).
+    let verdict = verdict_of(f);
+    let Ok(()) = verdict else {
+        return Err(verdict.unwrap_err());
     };
     let sought = find_point(f, track, index);
-    let Sought::There(at) = sought else {
-        return PointAnswer::Refused(refusal(Reason::Question));
+    let Some(at) = sought else {
+        return Err(refusal(Reason::Question));
     };
-    PointAnswer::Point(Point::read(f, size_of(f), at.place))
+    Ok(Point::read(f, size_of(f), at.place))
 }
 
 // Its coordinate: the track's start plus its own increments.
-pub fn point_coordinate(f: &[u8], track: usize, index: usize) -> CoordinateAnswer
+pub fn point_coordinate(f: &[u8], track: usize, index: usize) -> Result<Coordinate, Fault>
     ensures { result ≡ point_coordinate_of f.now track index }
 {
+    // Stays (1): a question takes the verdict apart by `let .. else` (Form.5 in docs/PROMISES.md).
     let v = verdict_of(f);
-    let Verdict::Accepted = v else {
-        return CoordinateAnswer::Refused(v.fault());
+    let Ok(()) = v else {
+        return Err(v.unwrap_err());
     };
     let sought = find_point(f, track, index);
-    let Sought::There(at) = sought else {
-        return CoordinateAnswer::Refused(refusal(Reason::Question));
+    let Some(at) = sought else {
+        return Err(refusal(Reason::Question));
     };
     let e = at.entry as u32;
     let p = at.place as u32;
-    CoordinateAnswer::Coordinate(Coordinate {
+    Ok(Coordinate {
         latitude: sum_of(f, LATITUDE, e, p),
         longitude: sum_of(f, LONGITUDE, e, p),
     })
 }
 
 // The coordinate at a position of the track with a number.
-pub fn coordinate(f: &[u8], number: usize, position: usize) -> CoordinateAnswer
+pub fn coordinate(f: &[u8], number: usize, position: usize) -> Result<Coordinate, Fault>
     ensures { result ≡ coordinate_asked f.now number position }
 {
+    // Stays (1): a question takes the verdict apart by `let .. else` (Form.5 in docs/PROMISES.md).
     let v = verdict_of(f);
-    let Verdict::Accepted = v else {
-        return CoordinateAnswer::Refused(v.fault());
+    let Ok(()) = v else {
+        return Err(v.unwrap_err());
     };
     let found = find_track(f, number);
-    let Found::At(e) = found else {
-        return CoordinateAnswer::Refused(refusal(Reason::Track));
+    let Some(e) = found else {
+        return Err(refusal(Reason::Track));
     };
     coordinate_at(f, size_of(f), e, position)
 }
 
 // The coordinate at a position of the track whose entry is at e.
-fn coordinate_at(f: &[u8], size: u8, e: u32, x: usize) -> CoordinateAnswer
+fn coordinate_at(f: &[u8], size: u8, e: u32, x: usize) -> Result<Coordinate, Fault>
     requires { (0 < size) × TrackObeys f.now size e }
     ensures { result ≡ on_track f.now size e x }
 {
     if number_of(f, e, Track::END_POSITION) < x {
-        return CoordinateAnswer::Refused(refusal(Reason::Position));
+        return Err(refusal(Reason::Position));
     }
     // Some stretch reaches every position up to the end, so the `else` is never reached; the language has it stand.
     let stretch = find_stretch(f, size, e, x);
-    let Found::At(p) = stretch else {
-        return CoordinateAnswer::Refused(refusal(Reason::Position));
+    let Some(p) = stretch else {
+        return Err(refusal(Reason::Position));
     };
-    CoordinateAnswer::Coordinate(coordinate_on(f, size, e, x, p))
+    Ok(coordinate_on(f, size, e, x, p))
 }

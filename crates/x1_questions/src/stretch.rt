@@ -8,27 +8,23 @@ ghost use Rattle.x1_questions.specs.Stretch.{stretch_of, coordinate_on};
 ghost use Rattle.x1_questions.specs.inner.Requires.{OnStretch};
 
 use crate::answers::Coordinate;
-use rounding::Way;
 use tables::number_of;
-use x1_lookup::Found;
 use x1_records::{Axis, LATITUDE, LONGITUDE, Point, Track};
 use x1_verdict::sum_of;
 
 // The place of the point where the stretch starts that position x lies on.
-pub fn find_stretch(f: &[u8], size: u8, e: u32, x: usize) -> Found
+pub fn find_stretch(f: &[u8], size: u8, e: u32, x: usize) -> Option<u32>
     requires { 0 < size }
     ensures { result ≡ stretch_of f.now size e x }
 {
-    let step = size as u32;
+    let first = number_of(f, e, Track::FIRST) as u32;
     let last = number_of(f, e, Track::LAST) as u32;
-    let mut p = number_of(f, e, Track::FIRST) as u32;
-    while p < last {
-        if x <= number_of(f, p + step, Point::POSITION) {
-            return Found::At(p);
+    for p in (first..last).step_by(size as usize) {
+        if x <= number_of(f, p + size as u32, Point::POSITION) {
+            return Some(p);
         }
-        p = p + step;
     }
-    Found::Absent
+    None
 }
 
 // One coordinate, t of the den centimetres on the way from the point at p to the one at `next`.
@@ -39,8 +35,7 @@ fn along(f: &[u8], axis: Axis, e: u32, p: u32, next: u32, t: usize, den: usize) 
     let y0 = sum_of(f, axis, e, p);
     let y1 = sum_of(f, axis, e, next);
     // The numbers are inside rounding's limits, so the `else` is never reached; the language has it stand.
-    let way = rounding::coordinate(y0, y1, t, den);
-    let Way::At(y) = way else {
+    let Some(y) = rounding::coordinate(y0, y1, t, den) else {
         return 0;
     };
     y

@@ -11,13 +11,13 @@ use Rattle.x1_records.specs.Rows as rows
 use Rattle.x1_records.specs.Tracks.{track_at, height_at, point_at}
 use Rattle.x1_records.specs.declared.Track.{Track}
 use Rattle.x1_records.specs.declared.Point.{Point}
-use Rattle.x1_records.specs.declared.Height.{Height}
+use Rattle.std.specs.Prelude.{Option}
 
 pub held : (n : ℕ) (s : List ℕ) (i : ℕ) (r : ℤ) → half_of n ≤ 2 ^ 63 → IsSigned n s i r → read r ≡ signed_at n s i
 held n s i r h p = let q = p.small in kept r (omega arith) ∙ p.is
 
 module _ (f : List ℕ) (size at : ℕ) where
-  pub point_made : (p : ℕ) (la lo h : ℤ) (n : ℕ) (t : Height)
+  pub point_made : (p : ℕ) (la lo h : ℤ) (n : ℕ) (t : Option ℤ)
       → p ≡ value_of f at rows.position
       → la ≡ signed_of f at rows.latitude_increment
       → lo ≡ signed_of f at rows.longitude_increment

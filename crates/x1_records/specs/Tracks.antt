@@ -5,8 +5,7 @@ use Rattle.tables.specs.Table.{value_of, signed_of}
 use Rattle.x1_records.specs.Rows as rows
 use Rattle.x1_records.specs.declared.Track.{Track}
 use Rattle.x1_records.specs.declared.Point.{Point}
-use Rattle.x1_records.specs.declared.Height.{Height}
-use Rattle.x1_records.specs.declared.Height.TheVariants.{Decimetres, NoHeight}
+use Rattle.std.specs.Prelude.{Option, Some, None}
 
 -- 01: Bytes.2, X1.header.2
 -- 02: Ticket11.3
@@ -27,14 +26,14 @@ track_at f size at = record {
 
 -- the height of the point at a place, and none where a point of its size has none
 -- 02: Ticket11.2
-unfoldable pub height_at : List ℕ → ℕ → ℕ → Height
-height_at f size at = cond (rows.has_height size) (Decimetres (signed_of f at rows.height)) NoHeight
+unfoldable pub height_at : List ℕ → ℕ → ℕ → Option ℤ
+height_at f size at = cond (rows.has_height size) (Some (signed_of f at rows.height)) None
 
 -- 1 and the height, or 0 and 0 where there is none
 -- 01: Form.10
-abbrev pub height_values : Height → List ℤ
-height_values (Decimetres z) = pos 1 ∷ z ∷ []
-height_values NoHeight = pos 0 ∷ pos 0 ∷ []
+abbrev pub height_values : Option ℤ → List ℤ
+height_values (Some z) = pos 1 ∷ z ∷ []
+height_values None = pos 0 ∷ pos 0 ∷ []
 
 -- 01: Bytes.2, X1.header.3
 -- 02: Ticket11.3

@@ -27,13 +27,6 @@ pub struct Track {
     pub point_size: u8,
 }
 
-// A point's height, or that its file has none.
-#[derive(Clone, Copy)]
-pub enum Height {
-    Decimetres(i64),
-    NoHeight,
-}
-
 // A point, table 3. The two increments are what is added to the track's start to give the point's latitude and longitude.
 #[derive(Clone, Copy)]
 pub struct Point {
@@ -42,7 +35,7 @@ pub struct Point {
     pub longitude_increment: i64,
     pub heading: i64,
     pub near: usize,
-    pub height: Height,
+    pub height: Option<i64>,
 }
 
 // The fields of the entry, and the entry's size.
@@ -121,13 +114,13 @@ impl Point {
     pub const SIZE_WITH_HEIGHT: u8 = 15;
 
     // The height of the point at a place, where points of the size have one.
-    fn height(s: &[u8], size: u8, at: u16) -> Height
+    fn height(s: &[u8], size: u8, at: u16) -> Option<i64>
         ensures { result ≡ height_at s.now size at }
     {
         if size < Self::SIZE_WITH_HEIGHT {
-            return Height::NoHeight;
+            return None;
         }
-        Height::Decimetres(signed_of(s, at as u32, Self::HEIGHT))
+        Some(signed_of(s, at as u32, Self::HEIGHT))
     }
 
     // The point of a size that starts at a place.

@@ -19,20 +19,16 @@ use Rattle.x1_layout.specs.Layout.{count_of, first_of, last_of}
 use Rattle.x1_verdict.specs.Facts.{verdict_of}
 use Rattle.x1_obeys.specs.Obeys.{structure_of, size_of, entry_place, point_place, Obeys}
 use Rattle.x1_lookup.specs.Lookup.{TrackNumbered, number_at, find_track}
-use Rattle.x1_lookup.specs.declared.Found.{Found}
-use Rattle.x1_lookup.specs.declared.Found.TheVariants.{At, Absent}
+use Rattle.std.specs.Prelude.{Option, Some, None}
 use Rattle.x1_lookup.proofs.Lookup.{verdict_obeys, absent_iff, found_number, found_iff}
 use Rattle.x1_questions.specs.Answers.{header_answer, track_values, track_answer, point_values, point_answer, coordinate_values, coordinate_answer}
 use Rattle.x1_theorems.specs.Asked.{PointNamed, PositionOn, header_checks, track_checks, point_checks, coordinate_checks}
 use Rattle.x1_questions.specs.Questions.{header_of, track_in, track_of, point_of, on_found, coordinate_asked}
 use Rattle.x1_questions.specs.Stretch.{end_position_of}
-use Rattle.x1_questions.specs.declared.answers.HeaderAnswer.TheVariants as header
-use Rattle.x1_questions.specs.declared.answers.TrackAnswer.{TrackAnswer}
-use Rattle.x1_questions.specs.declared.answers.TrackAnswer.TheVariants as track
-use Rattle.x1_questions.specs.declared.answers.PointAnswer.{PointAnswer}
-use Rattle.x1_questions.specs.declared.answers.PointAnswer.TheVariants as point
-use Rattle.x1_questions.specs.declared.answers.CoordinateAnswer.{CoordinateAnswer}
-use Rattle.x1_questions.specs.declared.answers.CoordinateAnswer.TheVariants as coordinate
+use Rattle.std.specs.Prelude.{Ok, Err}
+use Rattle.x1_questions.specs.Results.{TrackAnswer}
+use Rattle.x1_questions.specs.Results.{PointAnswer}
+use Rattle.x1_questions.specs.Results.{CoordinateAnswer}
 use Rattle.x1_questions.proofs.Stretches.{track_obeys, named_iff}
 use Rattle.x1_theorems.proofs.Coordinates.{coordinate_nearest, position_refused, track_refused}
 
@@ -43,14 +39,14 @@ module _ (f : List ℕ) where
   pub header_asked : (n p : ℕ) → ((answer_number (header_answer (header_of f)) ≡ n) × (answer_place (header_answer (header_of f)) ≡ p)) ↔ Asked (verdict_of f) header_checks n p
   unfolding header_of
   header_asked n p =
-      asked_is header.Refused header_answer (verdict_of f) (header.Header (header_in f)) header_checks (λ t. (refl, refl))
+      asked_is Err header_answer (verdict_of f) (Ok (header_in f)) header_checks (λ t. (refl, refl))
       (λ e. (all_passed (header_values (header_in f))).exactly) n p
 
   -- ---- track i
 
   -- the answer in an accepted file, by what the test says
   abbrev track_by : ℕ → Bool → TrackAnswer
-  track_by i t = cond t (track.Track (track_at f (size_of f) (entry_place i))) (track.Refused (refusal reason.Question))
+  track_by i t = cond t (Ok (track_at f (size_of f) (entry_place i))) (Err (refusal reason.Question))
 
   track_own : (i : ℕ) (t : Bool) → ltb i (count_of f) ≡ t → AnswerIs (track_answer (track_by i t)) (track_checks f i)
   track_own i true e =
@@ -61,7 +57,7 @@ module _ (f : List ℕ) where
   -- THEOREM: the file's own fault, then 13 exactly where the file has no such track.
   pub track_asked : (i n p : ℕ) → ((answer_number (track_answer (track_of f i)) ≡ n) × (answer_place (track_answer (track_of f i)) ≡ p)) ↔ Asked (verdict_of f) (track_checks f i) n p
   unfolding track_of
-  track_asked i n p = asked_is track.Refused track_answer (verdict_of f) (track_in f i) (track_checks f i) (λ t. (refl, refl)) (λ e. (track_own i (ltb i (count_of f)) refl).exactly) n p
+  track_asked i n p = asked_is Err track_answer (verdict_of f) (track_in f i) (track_checks f i) (λ t. (refl, refl)) (λ e. (track_own i (ltb i (count_of f)) refl).exactly) n p
 
   -- ---- point j of track i
 
@@ -72,7 +68,7 @@ module _ (f : List ℕ) where
   -- the answer in an accepted file, by what the two tests say
   abbrev point_by : ℕ → ℕ → Bool → Bool → PointAnswer
   point_by i j t u =
-      cond t (cond u (point.Point (point_at f (size_of f) (point_place f (size_of f) (entry_place i) j))) (point.Refused (refusal reason.Question))) (point.Refused (refusal reason.Question))
+      cond t (cond u (Ok (point_at f (size_of f) (point_place f (size_of f) (entry_place i) j))) (Err (refusal reason.Question))) (Err (refusal reason.Question))
 
   module _ (o : Obeys f) (i j : ℕ) where
     -- point j of a track stands no further than its last point exactly where it is counted
@@ -92,7 +88,7 @@ module _ (f : List ℕ) where
   pub point_asked : (i j n p : ℕ) → ((answer_number (point_answer (point_of f i j)) ≡ n) × (answer_place (point_answer (point_of f i j)) ≡ p)) ↔ Asked (verdict_of f) (point_checks f i j) n p
   unfolding point_of
   point_asked i j n p =
-      asked_is point.Refused point_answer (verdict_of f) (point_by i j (ltb i (count_of f)) (ltb j (points i))) (point_checks f i j) (λ t. (refl, refl))
+      asked_is Err point_answer (verdict_of f) (point_by i j (ltb i (count_of f)) (ltb j (points i))) (point_checks f i j) (λ t. (refl, refl))
       (λ e. (point_own ((verdict_obeys f).0 e) i j (ltb i (count_of f)) (ltb j (points i)) refl refl).exactly) n p
 
   -- ---- the coordinate at position x of the track with a number
@@ -103,14 +99,14 @@ module _ (f : List ℕ) where
     position = check 12 (PositionOn f number x) (λ p. p ≡ 0) ∷ []
 
     -- the track at e is found, and numbers strictly rise, so that there is no other
-    module _ (e : ℕ) (q : find_track f number ≡ At e) where
+    module _ (e : ℕ) (q : find_track f number ≡ Some e) where
       found : TrackNumbered f number
       found = let w = found_number f number e q in record { track = w.track; in_file = w.in_file; same = ap (number_at f) (sym w.there) ∙ w.same }
 
       one_entry : (t : TrackNumbered f number) → entry_place t.track ≡ e
       one_entry t =
           let w = (found_iff f o number (entry_place t.track)).1 (record { track = t.track; in_file = t.in_file; there = refl; same = t.same }) in
-          let z : At (entry_place t.track) ≡ At e = sym w ∙ q in
+          let z : Some (entry_place t.track) ≡ Some e = sym w ∙ q in
           cc
 
       on_track_lem : x ≤ end_position_of f e → AnswerIs (coordinate_answer (coordinate_asked f number x)) (coordinate_checks f number x)
@@ -128,11 +124,11 @@ module _ (f : List ℕ) where
           (passed (TrackNumbered f number) position 11 (refused 2 (refusal reason.Position)) found (λ z. omega arith)
           (failed (PositionOn f number x) [] reason.Position 2 (λ g. let end = ap (end_position_of f) (one_entry g.found) in let l = g.before_end in omega arith)))
 
-    coordinate_own : (s : Found) → find_track f number ≡ s → AnswerIs (coordinate_answer (coordinate_asked f number x)) (coordinate_checks f number x)
-    coordinate_own Absent q =
+    coordinate_own : (s : Option ℕ) → find_track f number ≡ s → AnswerIs (coordinate_answer (coordinate_asked f number x)) (coordinate_checks f number x)
+    coordinate_own None q =
         let none = (absent_iff f number).0 q in
         rw ((track_refused f o number x).1 none) (failed (TrackNumbered f number) position reason.Track 2 (λ h. none h.track h.in_file h.same))
-    coordinate_own (At e) q = ⊎_elim (λ (h : x ≤ end_position_of f e). on_track_lem e q h) (λ (h : end_position_of f e < x). beyond_track e q h) (le-or-lt x (end_position_of f e))
+    coordinate_own (Some e) q = ⊎_elim (λ (h : x ≤ end_position_of f e). on_track_lem e q h) (λ (h : end_position_of f e < x). beyond_track e q h) (le-or-lt x (end_position_of f e))
 
   -- THEOREM: the file's own fault, then 11 exactly where no track has the number, then 12 exactly where the position is beyond its end.
   pub coordinate_asked_lem : (number x n p : ℕ)
@@ -140,7 +136,7 @@ module _ (f : List ℕ) where
   unfolding coordinate_asked
   coordinate_asked_lem number x n p =
       let a = on_found f (size_of f) x (find_track f number) in
-      asked_is coordinate.Refused coordinate_answer (verdict_of f) a (coordinate_checks f number x) (λ t. (refl, refl))
+      asked_is Err coordinate_answer (verdict_of f) a (coordinate_checks f number x) (λ t. (refl, refl))
       (λ e.
-      (subst (λ (r : CoordinateAnswer). AnswerIs (coordinate_answer r) (coordinate_checks f number x)) (no_fault coordinate.Refused (verdict_of f) a e)
+      (subst (λ (r : CoordinateAnswer). AnswerIs (coordinate_answer r) (coordinate_checks f number x)) (no_fault Err (verdict_of f) a e)
       (coordinate_own ((verdict_obeys f).0 e) number x (find_track f number) refl)).exactly) n p

@@ -11,9 +11,8 @@ use native.Mathlib.Omega.{arith}
 use Rattle.verdict.specs.declared.Mark.{Mark}
 use Rattle.verdict.specs.declared.Reason.TheVariants as reason
 use Rattle.verdict.specs.declared.Fault.{Fault}
-use Rattle.verdict.specs.declared.Judged.TheVariants.{Refused}
-use Rattle.verdict.specs.declared.Verdict.{Verdict}
-use Rattle.verdict.specs.declared.Verdict.TheVariants as verdict
+use Rattle.std.specs.Prelude.{Ok, Err}
+use Rattle.verdict.specs.Verdicts.{Verdict}
 use Rattle.verdict.specs.Facts.{Claim, test, Holds, Fact, fact, first_fault}
 use Rattle.verdict.specs.Reasons.{fault_of, shown_of, number_in, place_in}
 use Rattle.verdict.specs.Answers.{refusal, after_verdict}
@@ -26,10 +25,6 @@ use Rattle.x1_verdict.specs.Facts.{sized_facts, facts_by, verdict_by, verdict_of
 use Rattle.x1_obeys.specs.Obeys.{Between, structure_of, size_of, entry_place, point_place}
 use Rattle.x1_obeys.proofs.Obeys.{least_iff}
 use Rattle.x1_lookup.specs.Lookup.{find_track}
-use Rattle.x1_questions.specs.declared.answers.HeaderAnswer.TheVariants as header
-use Rattle.x1_questions.specs.declared.answers.TrackAnswer.TheVariants as track
-use Rattle.x1_questions.specs.declared.answers.PointAnswer.TheVariants as point
-use Rattle.x1_questions.specs.declared.answers.CoordinateAnswer.TheVariants as coordinate
 use Rattle.x1_questions.specs.Questions.{header_of, track_of, point_in, point_of, on_found, coordinate_asked}
 use Rattle.x1_questions.specs.Answers.{point_answer}
 use Rattle.x1_theorems.specs.Base.{verdict_was, point_was, point_answer_was, without_height, AsEver, NewFile}
@@ -45,18 +40,18 @@ alike : (c d : Claim) (m n : Mark) (a b : List Fact) → fault_of m ≡ fault_of
 unfolding first_fault
 alike c d m n a b e iff rest = go (test c) (test d) (agrees c) (agrees d)
   where
-    go : (t u : Bool) → Agrees t (Holds c) → Agrees u (Holds d) → shown_of (cond t (first_fault a) (Refused m)) ≡ shown_of (cond u (first_fault b) (Refused n))
+    go : (t u : Bool) → Agrees t (Holds c) → Agrees u (Holds d) → shown_of (cond t (first_fault a) (Err m)) ≡ shown_of (cond u (first_fault b) (Err n))
     go true true x y = rest x
     go true false x y = absurd (y (iff.0 x))
     go false true x y = absurd (x (iff.1 y))
-    go false false x y = ap verdict.Refused e
+    go false false x y = ap Err e
 
 -- LAW: a fact that holds changes nothing.
 held : (c : Claim) (m : Mark) (a : List Fact) → Holds c → verdict_for (fact c m ∷ a) ≡ verdict_for a
 unfolding first_fault
 held c m a h = go (test c) (agrees c)
   where
-    go : (t : Bool) → Agrees t (Holds c) → shown_of (cond t (first_fault a) (Refused m)) ≡ verdict_for a
+    go : (t : Bool) → Agrees t (Holds c) → shown_of (cond t (first_fault a) (Err m)) ≡ verdict_for a
     go true x = refl
     go false x = absurd (x h)
 
@@ -111,38 +106,38 @@ module _ (f : List ℕ) (first : structure_of f ≡ 1) where
 
   point_read : (i j : ℕ) → point_of f i j ≡ point_was f i j
   unfolding point_of
-  point_read i j = answer_was point.Refused (λ s. cond (ltb i (count_of f)) (point_in f s (entry_place i) j) (point.Refused (refusal reason.Question)))
+  point_read i j = answer_was Err (λ s. cond (ltb i (count_of f)) (point_in f s (entry_place i) j) (Err (refusal reason.Question)))
 
   -- a point of the size that was has no height
-  no_height : (p : ℕ) → point_answer (point.Point (point_at f (point_size 1) p)) ≡ without_height (point_answer_was (point.Point (point_at f (point_size 1) p)))
+  no_height : (p : ℕ) → point_answer (Ok (point_at f (point_size 1) p)) ≡ without_height (point_answer_was (Ok (point_at f (point_size 1) p)))
   unfolding point_at height_at point_size
   no_height p = refl
 
   point_without : (i j : ℕ) → point_answer (point_was f i j) ≡ without_height (point_answer_was (point_was f i j))
   point_without i j = by_verdict (verdict_was f)
     where
-      by_point : (t : Bool) → point_answer (cond t (point.Point (point_at f (point_size 1) (point_place f (point_size 1) (entry_place i) j))) (point.Refused (refusal reason.Question)))
-          ≡ without_height (point_answer_was (cond t (point.Point (point_at f (point_size 1) (point_place f (point_size 1) (entry_place i) j))) (point.Refused (refusal reason.Question))))
+      by_point : (t : Bool) → point_answer (cond t (Ok (point_at f (point_size 1) (point_place f (point_size 1) (entry_place i) j))) (Err (refusal reason.Question)))
+          ≡ without_height (point_answer_was (cond t (Ok (point_at f (point_size 1) (point_place f (point_size 1) (entry_place i) j))) (Err (refusal reason.Question))))
       by_point true = no_height (point_place f (point_size 1) (entry_place i) j)
       by_point false = refl
 
-      by_track : (t : Bool) → point_answer (cond t (point_in f (point_size 1) (entry_place i) j) (point.Refused (refusal reason.Question)))
-          ≡ without_height (point_answer_was (cond t (point_in f (point_size 1) (entry_place i) j) (point.Refused (refusal reason.Question))))
+      by_track : (t : Bool) → point_answer (cond t (point_in f (point_size 1) (entry_place i) j) (Err (refusal reason.Question)))
+          ≡ without_height (point_answer_was (cond t (point_in f (point_size 1) (entry_place i) j) (Err (refusal reason.Question))))
       by_track true = by_point (ltb j (points_in (point_size 1) (first_of f (entry_place i)) (last_of f (entry_place i))))
       by_track false = refl
 
-      by_verdict : (v : Verdict) → point_answer (after_verdict point.Refused v (cond (ltb i (count_of f)) (point_in f (point_size 1) (entry_place i) j) (point.Refused (refusal reason.Question))))
-          ≡ without_height (point_answer_was (after_verdict point.Refused v (cond (ltb i (count_of f)) (point_in f (point_size 1) (entry_place i) j) (point.Refused (refusal reason.Question)))))
-      by_verdict verdict.Accepted = by_track (ltb i (count_of f))
-      by_verdict (verdict.Refused t) = refl
+      by_verdict : (v : Verdict) → point_answer (after_verdict Err v (cond (ltb i (count_of f)) (point_in f (point_size 1) (entry_place i) j) (Err (refusal reason.Question))))
+          ≡ without_height (point_answer_was (after_verdict Err v (cond (ltb i (count_of f)) (point_in f (point_size 1) (entry_place i) j) (Err (refusal reason.Question)))))
+      by_verdict (Ok tt) = by_track (ltb i (count_of f))
+      by_verdict (Err t) = refl
 
   -- THEOREM: it reads as ever.
   pub as_ever : AsEver f
   unfolding header_of track_of coordinate_asked
   as_ever = record {
     verdict = verdict_was_lem;
-    header = answer_was header.Refused (λ s. header.Header (header_in f));
-    track = λ i. answer_was track.Refused (λ s. cond (ltb i (count_of f)) (track.Track (track_at f s (entry_place i))) (track.Refused (refusal reason.Question)));
+    header = answer_was Err (λ s. Ok (header_in f));
+    track = λ i. answer_was Err (λ s. cond (ltb i (count_of f)) (Ok (track_at f s (entry_place i))) (Err (refusal reason.Question)));
     point = λ i j. ap point_answer (point_read i j) ∙ point_without i j;
-    coordinate = λ number x. answer_was coordinate.Refused (λ s. on_found f s x (find_track f number));
+    coordinate = λ number x. answer_was Err (λ s. on_found f s x (find_track f number));
   }

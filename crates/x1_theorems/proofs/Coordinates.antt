@@ -15,11 +15,10 @@ use Rattle.x1_obeys.specs.Obeys.{structure_of, size_of, entry_place, point_place
 use Rattle.rounding.specs.Nearest.{coordinate_of}
 use Rattle.rounding.proofs.Ends.{coordinate_is, coordinate_only, at_start, at-end}
 use Rattle.x1_lookup.specs.Lookup.{number_at, find_track}
-use Rattle.x1_lookup.specs.declared.Found.{Found}
-use Rattle.x1_lookup.specs.declared.Found.TheVariants.{At, Absent}
+use Rattle.std.specs.Prelude.{Option, Some, None}
 use Rattle.x1_lookup.proofs.Lookup.{verdict_obeys, absent_iff}
 use Rattle.x1_questions.specs.declared.answers.Coordinate.{Coordinate}
-use Rattle.x1_questions.specs.declared.answers.CoordinateAnswer.TheVariants as coordinate
+use Rattle.std.specs.Prelude.{Ok, Err}
 use Rattle.x1_questions.specs.Stretch.{end_position_of, position_of, latitude_of, longitude_of, point_coordinate, stretch_of, coordinate_on}
 use Rattle.x1_questions.specs.inner.Requires.{TrackObeys}
 use Rattle.x1_questions.specs.Coordinate.{Neighbours, NearestAt, CoordinateAt}
@@ -139,7 +138,7 @@ module _ (f : List ℕ) (size e : ℕ) (positive : 0 < size) (o : TrackObeys f s
 
 -- ---- the question, in a file that obeys, on a track that is found
 
-module _ (f : List ℕ) (o : Obeys f) (number e : ℕ) (found : find_track f number ≡ At e) where
+module _ (f : List ℕ) (o : Obeys f) (number e : ℕ) (found : find_track f number ≡ Some e) where
   abbrev size : ℕ
   size = size_of f
 
@@ -156,57 +155,57 @@ module _ (f : List ℕ) (o : Obeys f) (number e : ℕ) (found : find_track f num
   on_track_lem x = sym (along_track f number x refl ((verdict_obeys f).1 o) refl found refl refl)
 
   -- the answer, on the stretch that is found
-  answered : (x : ℕ) → x ≤ end → (j : ℕ) × Neighbours f size e x j × (coordinate_asked f number x ≡ coordinate.Coordinate (onward f size e positive track x j))
+  answered : (x : ℕ) → x ≤ end → (j : ℕ) × Neighbours f size e x j × (coordinate_asked f number x ≡ Ok (onward f size e positive track x j))
   answered x h = by_stretch (stretch_of f size e x) refl
     where
-      by_stretch : (s : Found) → stretch_of f size e x ≡ s → (j : ℕ) × Neighbours f size e x j × (coordinate_asked f number x ≡ coordinate.Coordinate (onward f size e positive track x j))
-      by_stretch Absent q = absurd (some_stretch f size e positive track x h q)
-      by_stretch (At p) q =
+      by_stretch : (s : Option ℕ) → stretch_of f size e x ≡ s → (j : ℕ) × Neighbours f size e x j × (coordinate_asked f number x ≡ Ok (onward f size e positive track x j))
+      by_stretch None q = absurd (some_stretch f size e positive track x h q)
+      by_stretch (Some p) q =
           let w = found_stretch f size e positive track x p q in (
             w.0,
             w.2,
             on_track_lem x
                 ∙ sym (along_stretch f size e x refl h refl q refl)
-                ∙ ap (λ (a : ℕ). coordinate.Coordinate (coordinate_on f size e x a)) w.1
-                ∙ ap coordinate.Coordinate (on_points f size e positive track x w.0),
+                ∙ ap (λ (a : ℕ). Ok (coordinate_on f size e x a)) w.1
+                ∙ ap Ok (on_points f size e positive track x w.0),
           )
 
   -- THEOREM: at each position up to the end the answer is the nearest to the exact one between two neighbouring points.
-  pub coordinate_nearest : (x : ℕ) → x ≤ end → (r : Coordinate) × (coordinate_asked f number x ≡ coordinate.Coordinate r) × CoordinateAt f size e x r
+  pub coordinate_nearest : (x : ℕ) → x ≤ end → (r : Coordinate) × (coordinate_asked f number x ≡ Ok r) × CoordinateAt f size e x r
   coordinate_nearest x h =
       let w = answered x h in
       (onward f size e positive track x w.0, w.2, onward_nearest f size e positive track x w.0 w.1)
 
   -- THEOREM: no other coordinate is, whichever two neighbouring points are taken.
-  pub coordinate_only_one : (x : ℕ) (r : Coordinate) → CoordinateAt f size e x r → coordinate_asked f number x ≡ coordinate.Coordinate r
+  pub coordinate_only_one : (x : ℕ) (r : Coordinate) → CoordinateAt f size e x r → coordinate_asked f number x ≡ Ok r
   coordinate_only_one x r c =
       let n = c.between in
       let a = n.ahead in
       let m = position_most f size e positive track (suc c.point) n.in_track in
       let w = answered x (omega arith) in
-      w.2 ∙ ap coordinate.Coordinate (sym (onward_only f size e positive track x w.0 w.1 r c))
+      w.2 ∙ ap Ok (sym (onward_only f size e positive track x w.0 w.1 r c))
 
   -- THEOREM: at a stored point the answer is that point's own coordinate.
-  pub coordinate_at_point : (j : ℕ) → point_place f size e j ≤ last_of f e → coordinate_asked f number (position_of f (point_place f size e j)) ≡ coordinate.Coordinate (point_coordinate f e (point_place f size e j))
+  pub coordinate_at_point : (j : ℕ) → point_place f size e j ≤ last_of f e → coordinate_asked f number (position_of f (point_place f size e j)) ≡ Ok (point_coordinate f e (point_place f size e j))
   coordinate_at_point j h =
       let x = position_of f (point_place f size e j) in
       let w = answered x (position_most f size e positive track j h) in
-      w.2 ∙ ap coordinate.Coordinate (onward_point f size e positive track x w.0 w.1 j h refl)
+      w.2 ∙ ap Ok (onward_point f size e positive track x w.0 w.1 j h refl)
 
   -- THEOREM: it is refused for the position exactly beyond the end.
-  pub position_refused : (x : ℕ) → (coordinate_asked f number x ≡ coordinate.Refused (refusal reason.Position)) ↔ (end < x)
+  pub position_refused : (x : ℕ) → (coordinate_asked f number x ≡ Err (refusal reason.Position)) ↔ (end < x)
   position_refused x = (
     λ q. ⊎_elim (λ (h : x ≤ end). let w = answered x h in absurd (omega (arith, ap answer_number (ap coordinate_answer (sym q ∙ w.2))))) (λ (h : end < x). h) (le-or-lt x end),
     λ h. on_track_lem x ∙ sym (beyond_end f size e x refl h refl),
   )
 
 -- THEOREM: in a file that obeys it is refused for the track exactly where no track has the number.
-pub track_refused : (f : List ℕ) → Obeys f → (number x : ℕ) → (coordinate_asked f number x ≡ coordinate.Refused (refusal reason.Track)) ↔ ((i : ℕ) → i < count_of f → number_at f (entry_place i) ≡ number → ⊥)
+pub track_refused : (f : List ℕ) → Obeys f → (number x : ℕ) → (coordinate_asked f number x ≡ Err (refusal reason.Track)) ↔ ((i : ℕ) → i < count_of f → number_at f (entry_place i) ≡ number → ⊥)
 track_refused f o number x = (there (find_track f number) refl, λ h. sym (no_track f number x refl ((verdict_obeys f).1 o) refl ((absent_iff f number).1 h) refl))
   where
-    there : (s : Found) → find_track f number ≡ s → coordinate_asked f number x ≡ coordinate.Refused (refusal reason.Track) → (i : ℕ) → i < count_of f → number_at f (entry_place i) ≡ number → ⊥
-    there Absent q g = (absent_iff f number).0 q
-    there (At e) q g =
+    there : (s : Option ℕ) → find_track f number ≡ s → coordinate_asked f number x ≡ Err (refusal reason.Track) → (i : ℕ) → i < count_of f → number_at f (entry_place i) ≡ number → ⊥
+    there None q g = (absent_iff f number).0 q
+    there (Some e) q g =
         ⊎_elim
         (λ (h : x ≤ end_position_of f e). let r = coordinate_nearest f o number e q x h in absurd (omega (arith, ap answer_number (ap coordinate_answer (sym g ∙ r.1)))))
         (λ (h : end_position_of f e < x). let d = (position_refused f o number e q x).1 h in absurd (omega (arith, ap answer_number (ap coordinate_answer (sym g ∙ d)))))

@@ -26,13 +26,11 @@ use Rattle.degrees_theorems.proofs.Once.{conversion_exact, one_rounding}
 use Rattle.degrees_theorems.proofs.Numbers.{degrees_finite}
 use Rattle.degrees_theorems.proofs.Whole.{whole_degrees_exact}
 use Rattle.degrees_theorems.proofs.Apart.{degrees_strict, degrees_say}
-use Rattle.x1_questions.specs.declared.answers.TrackAnswer.{TrackAnswer}
-use Rattle.x1_questions.specs.declared.answers.TrackAnswer.TheVariants as track
-use Rattle.x1_questions.specs.declared.answers.PointAnswer.{PointAnswer}
-use Rattle.x1_questions.specs.declared.answers.PointAnswer.TheVariants as point
+use Rattle.x1_questions.specs.Results.{TrackAnswer}
+use Rattle.std.specs.Prelude.{Ok, Err}
+use Rattle.x1_questions.specs.Results.{PointAnswer}
 use Rattle.x1_questions.specs.declared.answers.Coordinate.{Coordinate}
-use Rattle.x1_questions.specs.declared.answers.CoordinateAnswer.{CoordinateAnswer}
-use Rattle.x1_questions.specs.declared.answers.CoordinateAnswer.TheVariants as coordinate
+use Rattle.x1_questions.specs.Results.{CoordinateAnswer}
 use Rattle.x1_questions.specs.Answers.{coordinate_answer}
 use Rattle.x1_questions.specs.Coordinate.{CoordinateRange}
 use Rattle.x1_questions.specs.Questions.{track_of, point_of, of_both, point_coordinate_of, coordinate_asked}
@@ -41,8 +39,7 @@ use Rattle.x1_questions.specs.Stretch.{position_of}
 use Rattle.x1_questions.proofs.Stretches.{track_obeys, named_iff}
 use Rattle.x1_questions.proofs.Ranges.{coordinate_range, coordinate_named, point_coordinate_range}
 use Rattle.x1_degrees.specs.declared.Surveyed.{Surveyed}
-use Rattle.x1_degrees.specs.declared.DegreesAnswer.{DegreesAnswer}
-use Rattle.x1_degrees.specs.declared.DegreesAnswer.TheVariants as answer
+use Rattle.x1_degrees.specs.Results.{DegreesAnswer}
 use Rattle.x1_degrees.specs.Answers.{coordinate_in, degrees_in, degrees_answer}
 use Rattle.x1_degrees.specs.Questions.{surveyed_at, with_degrees, degrees_asked, point_degrees_of}
 use Rattle.x1_theorems.specs.Asked.{point_checks, coordinate_checks}
@@ -54,12 +51,12 @@ use Rattle.x1_theorems.proofs.Ranges.{point_handed}
 -- ---- the number and the place, of two answers that have the same ones
 
 number_kept : (a : CoordinateAnswer) → answer_number (degrees_answer (with_degrees a)) ≡ answer_number (coordinate_answer a)
-number_kept (coordinate.Coordinate c) = refl
-number_kept (coordinate.Refused t) = refl
+number_kept (Ok c) = refl
+number_kept (Err t) = refl
 
 place_kept : (a : CoordinateAnswer) → answer_place (degrees_answer (with_degrees a)) ≡ answer_place (coordinate_answer a)
-place_kept (coordinate.Coordinate c) = refl
-place_kept (coordinate.Refused t) = refl
+place_kept (Ok c) = refl
+place_kept (Err t) = refl
 
 same_asked : {a b n p : ℕ} {c d : ℕ} {Z : Type 0} → a ≡ b → c ≡ d → ((b ≡ n) × (d ≡ p)) ↔ Z → ((a ≡ n) × (c ≡ p)) ↔ Z
 same_asked e g h = (λ w. h.0 (sym e ∙ w.0, sym g ∙ w.1), λ z. let w = h.1 z in (e ∙ w.0, g ∙ w.1))
@@ -84,9 +81,9 @@ point_degrees_asked f i j n p =
 -- ---- what is answered
 
 -- what is set beside a coordinate is its own
-its_own : (a : CoordinateAnswer) (s : Surveyed) → with_degrees a ≡ answer.Surveyed s → (a ≡ coordinate.Coordinate s.coordinate) × (s ≡ surveyed_at s.coordinate)
-its_own (coordinate.Coordinate c) s e = let q : surveyed_at c ≡ s = cc in let k : c ≡ s.coordinate = ap (λ (u : Surveyed). u.coordinate) q in (ap coordinate.Coordinate k, sym q ∙ ap surveyed_at k)
-its_own (coordinate.Refused t) s e = absurd (some_number t.reason (ap answer_number (ap degrees_answer e)))
+its_own : (a : CoordinateAnswer) (s : Surveyed) → with_degrees a ≡ Ok s → (a ≡ Ok s.coordinate) × (s ≡ surveyed_at s.coordinate)
+its_own (Ok c) s e = let q : surveyed_at c ≡ s = cc in let k : c ≡ s.coordinate = ap (λ (u : Surveyed). u.coordinate) q in (ap Ok k, sym q ∙ ap surveyed_at k)
+its_own (Err t) s e = absurd (some_number t.reason (ap answer_number (ap degrees_answer e)))
 
 -- one number, of milliarcseconds in the range of a longitude
 one : (z : ℤ) → nat_abs z ≤ 648000000 → DegreesOf z (degrees_of z)
@@ -96,32 +93,32 @@ both : (c : Coordinate) → CoordinateRange c → InDegrees (surveyed_at c)
 both c r = let h = r.latitude in record { latitude = one c.latitude (omega arith); longitude = one c.longitude r.longitude }
 
 -- THEOREM: at a position, the milliarcseconds are the coordinate's.
-pub degrees_record : (f : List ℕ) (number x : ℕ) (s : Surveyed) → degrees_asked f number x ≡ answer.Surveyed s → coordinate_asked f number x ≡ coordinate.Coordinate s.coordinate
+pub degrees_record : (f : List ℕ) (number x : ℕ) (s : Surveyed) → degrees_asked f number x ≡ Ok s → coordinate_asked f number x ≡ Ok s.coordinate
 unfolding degrees_asked
 degrees_record f number x s e = (its_own (coordinate_asked f number x) s e).0
 
 -- THEOREM: and the degrees beside them are each one division.
-pub degrees_beside : (f : List ℕ) (number x : ℕ) (s : Surveyed) → degrees_asked f number x ≡ answer.Surveyed s → InDegrees s
+pub degrees_beside : (f : List ℕ) (number x : ℕ) (s : Surveyed) → degrees_asked f number x ≡ Ok s → InDegrees s
 unfolding degrees_asked
 degrees_beside f number x s e =
     let w = its_own (coordinate_asked f number x) s e in
     subst InDegrees (sym w.1) (both s.coordinate (coordinate_range f number x s.coordinate w.0))
 
 -- THEOREM: of a point, the milliarcseconds are its track's start plus its increment.
-pub point_degrees_record : (f : List ℕ) (i j : ℕ) (s : Surveyed) → point_degrees_of f i j ≡ answer.Surveyed s → StandsAt f i j s.coordinate
+pub point_degrees_record : (f : List ℕ) (i j : ℕ) (s : Surveyed) → point_degrees_of f i j ≡ Ok s → StandsAt f i j s.coordinate
 unfolding point_degrees_of point_coordinate_of
 point_degrees_record f i j s e = by_answers (point_of f i j) (track_of f i) refl refl (its_own (point_coordinate_of f i j) s e).0
   where
-    never : (t : Fault) → coordinate.Refused t ≡ coordinate.Coordinate s.coordinate → ⊥
+    never : (t : Fault) → Err t ≡ Ok s.coordinate → ⊥
     never t q = some_number t.reason (ap answer_number (ap coordinate_answer q))
 
-    by_answers : (a : PointAnswer) (b : TrackAnswer) → point_of f i j ≡ a → track_of f i ≡ b → of_both a b ≡ coordinate.Coordinate s.coordinate → StandsAt f i j s.coordinate
-    by_answers (point.Refused t) b g h q = absurd (never t q)
-    by_answers (point.Point p) (track.Refused t) g h q = absurd (never t q)
-    by_answers (point.Point p) (track.Track t) g h q = record { its_track = t; its_point = p; track_answered = h; point_answered = g; sums = cc }
+    by_answers : (a : PointAnswer) (b : TrackAnswer) → point_of f i j ≡ a → track_of f i ≡ b → of_both a b ≡ Ok s.coordinate → StandsAt f i j s.coordinate
+    by_answers (Err t) b g h q = absurd (never t q)
+    by_answers (Ok p) (Err t) g h q = absurd (never t q)
+    by_answers (Ok p) (Ok t) g h q = record { its_track = t; its_point = p; track_answered = h; point_answered = g; sums = cc }
 
 -- THEOREM: and the degrees beside them are each one division.
-pub point_degrees_beside : (f : List ℕ) (i j : ℕ) (s : Surveyed) → point_degrees_of f i j ≡ answer.Surveyed s → InDegrees s
+pub point_degrees_beside : (f : List ℕ) (i j : ℕ) (s : Surveyed) → point_degrees_of f i j ≡ Ok s → InDegrees s
 unfolding point_degrees_of
 point_degrees_beside f i j s e =
     let w = its_own (point_coordinate_of f i j) s e in
@@ -145,7 +142,7 @@ module _ (z w : ℤ) (x y : Float) (p : DegreesOf z x) (q : DegreesOf w y) (h : 
 -- ---- the two questions
 
 -- THEOREM: at the position of a point, on its track, the answer is that of the point.
-pub degrees_agree : (f : List ℕ) (i j : ℕ) (p : Point) → point_of f i j ≡ point.Point p → degrees_asked f (number_at f (entry_place i)) p.position ≡ point_degrees_of f i j
+pub degrees_agree : (f : List ℕ) (i j : ℕ) (p : Point) → point_of f i j ≡ Ok p → degrees_asked f (number_at f (entry_place i)) p.position ≡ point_degrees_of f i j
 unfolding degrees_asked point_degrees_of point_at
 degrees_agree f i j p e =
     let w = point_handed f i j p e in
@@ -165,5 +162,5 @@ pub degrees_values : (a : DegreesAnswer)
     → answer_values (degrees_answer a)
     ≡ (coordinate_in a).latitude ∷ (coordinate_in a).longitude ∷ pos (to_bits binary64 (degrees_in a).latitude) ∷ pos (to_bits binary64 (degrees_in a).longitude) ∷ []
 unfolding to_bits
-degrees_values (answer.Surveyed s) = refl
-degrees_values (answer.Refused t) = refl
+degrees_values (Ok s) = refl
+degrees_values (Err t) = refl

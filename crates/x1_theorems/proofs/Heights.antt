@@ -3,7 +3,7 @@ use Prim.Native.Nat.{ℕ, ◌+◌, ◌<◌}
 use mathlib.Core.Path.{◌≡◌, refl, sym, ap, subst, ◌∙◌}
 use mathlib.Core.Bool.{Bool, true, false, cond}
 use mathlib.Core.List.{List, [], ◌∷◌, ◌++◌}
-use lib.IntN.{ℤ, pos, negsuc, nat_abs}
+use lib.IntN.{ℤ, pos, negsuc}
 use lib.ListN.{get_or}
 use lib.Signed.{mag}
 use native.Mathlib.Omega.{arith}
@@ -16,12 +16,11 @@ use Rattle.tables.specs.Rows.{table_facts}
 use Rattle.x1_records.specs.Places.{point_size}
 use Rattle.x1_records.specs.Rows as rows
 use Rattle.x1_records.specs.Tracks.{height_at, point_at}
-use Rattle.x1_records.specs.declared.Height.{Height}
-use Rattle.x1_records.specs.declared.Height.TheVariants.{Decimetres, NoHeight}
+use Rattle.std.specs.Prelude.{Some, None}
 use Rattle.x1_records.specs.declared.Point.{Point}
 use Rattle.x1_fields.specs.Fields.{point_fields}
-use Rattle.x1_obeys.specs.Obeys.{structure_of, size_of, entry_place, point_place}
-use Rattle.x1_questions.specs.declared.answers.PointAnswer.TheVariants as point
+use Rattle.x1_obeys.specs.Obeys.{size_of, entry_place, point_place}
+use Rattle.std.specs.Prelude.{Ok}
 use Rattle.x1_questions.specs.Questions.{point_of}
 use Rattle.x1_theorems.specs.Heights.{HeightRead, HeightRange}
 use Rattle.x1_theorems.proofs.Ranges.{point_handed}
@@ -34,7 +33,7 @@ two_small f bytes at =
     let m : Is 2 f at (num_at 2 f at) = record { is = refl; below = omega (arith, n.is, n.below) } in
     (of_number Two f at (num_at 2 f at) (half_of 2) (signed_at 2 f at) m refl refl).small
 
-module _ (f : List ℕ) (i j : ℕ) (p : Point) (e : point_of f i j ≡ point.Point p) where
+module _ (f : List ℕ) (i j : ℕ) (p : Point) (e : point_of f i j ≡ Ok p) where
   abbrev place : ℕ
   place = point_place f (size_of f) (entry_place i) j
 
@@ -55,11 +54,11 @@ module _ (f : List ℕ) (i j : ℕ) (p : Point) (e : point_of f i j ≡ point.Po
   unfolding height_at
   height_range bytes = subst HeightRange height_handed (by_size (rows.has_height (size_of f)))
     where
-      small : (z : ℤ) → mag z < half_of 2 → HeightRange (Decimetres z)
+      small : (z : ℤ) → mag z < half_of 2 → HeightRange (Some z)
       small (pos n) h = omega arith
       small (negsuc n) h = omega arith
 
-      by_size : (t : Bool) → HeightRange (cond t (Decimetres (signed_of f place rows.height)) NoHeight)
+      by_size : (t : Bool) → HeightRange (cond t (Some (signed_of f place rows.height)) None)
       by_size true = small (signed_of f place rows.height) (two_small f bytes (place + (rows.height).offset))
       by_size false = tt
 

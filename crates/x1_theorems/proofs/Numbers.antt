@@ -9,8 +9,8 @@ use Rattle.octets.specs.Octets.{num_at}
 use Rattle.checksum.specs.Checksum.{checksum_of}
 use Rattle.verdict.specs.declared.Mark.{Mark}
 use Rattle.verdict.specs.declared.Reason.TheVariants.{Layout, Field, Agreement}
-use Rattle.verdict.specs.declared.Judged.{Judged}
-use Rattle.verdict.specs.declared.Judged.TheVariants.{Accepted, Refused}
+use Rattle.verdict.specs.Verdicts.{Judged}
+use Rattle.std.specs.Prelude.{Ok, Err}
 use Rattle.verdict.specs.Facts.{TrueReason}
 use Rattle.verdict.specs.Reasons.{number_of, shown_of, number_in, place_in}
 use Rattle.verdict.specs.Order.{Reported, Lowest, InFirst}
@@ -34,9 +34,9 @@ use Rattle.x1_theorems.proofs.FieldPlaces.{layout_located, only_layout, fields_l
 use Rattle.x1_theorems.proofs.AgreementPlaces.{agreement_located}
 
 -- no refusal has the number 0
-number_accepted : (v : Judged) → (number_in (shown_of v) ≡ 0) ↔ (v ≡ Accepted)
-number_accepted Accepted = (λ e. refl, λ e. refl)
-number_accepted (Refused m) = (λ e. absurd (some_number m.reason e), λ e. absurd (some_number m.reason (ap (λ (v : Judged). number_in (shown_of v)) e)))
+number_accepted : (v : Judged) → (number_in (shown_of v) ≡ 0) ↔ (v ≡ Ok tt)
+number_accepted (Ok tt) = (λ e. refl, λ e. refl)
+number_accepted (Err m) = (λ e. absurd (some_number m.reason e), λ e. absurd (some_number m.reason (ap (λ (v : Judged). number_in (shown_of v)) e)))
 
 -- a fact that says of itself what the table says
 pub same_iff : {A : Type 0} → A ↔ A
@@ -106,10 +106,10 @@ pub accepted_is : (f : List ℕ) → (number_in (verdict_of f) ≡ 0) ↔ Obeys 
 accepted_is = accepted_by 2
 
 -- THEOREM: the mark of a refusal is its true reason: it stands in the list, every fact before it holds, and what it says fails.
-pub refused_truly : (f : List ℕ) (m : Mark) → judged_of f ≡ Refused m → TrueReason (says_of f) (facts f) m
+pub refused_truly : (f : List ℕ) (m : Mark) → judged_of f ≡ Err m → TrueReason (says_of f) (facts f) m
 refused_truly f m e = true_reason (says_of f) (facts f) m (facts_marked 2 f) e
 
 -- THEOREM: the number of its reason and its place are those answered.
-pub refused_answered : (f : List ℕ) (m : Mark) → judged_of f ≡ Refused m → Reported (checks f) (number_of m.reason) m.place
+pub refused_answered : (f : List ℕ) (m : Mark) → judged_of f ≡ Err m → Reported (checks f) (number_of m.reason) m.place
 refused_answered f m e =
     (answer_is f (number_of m.reason) m.place).0 (ap (λ (v : Judged). number_in (shown_of v)) e, ap (λ (v : Judged). place_in (shown_of v)) e)

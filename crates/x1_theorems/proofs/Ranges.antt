@@ -12,7 +12,7 @@ use native.Mathlib.Omega.{arith}
 use borrow.Author.Tests.{ltb-true, le-ltb}
 use Rattle.verdict.specs.declared.Reason.TheVariants as reason
 use Rattle.verdict.specs.declared.Fault.{Fault}
-use Rattle.verdict.specs.declared.Verdict.TheVariants as verdict
+use Rattle.std.specs.Prelude.{Ok, Err}
 use Rattle.verdict.specs.Answers.{refusal, answer_number}
 use Rattle.verdict.proofs.Questions.{accepted_by, some_number}
 use Rattle.envelope.specs.declared.Header.{Header}
@@ -29,9 +29,6 @@ use Rattle.x1_verdict.specs.Facts.{verdict_of}
 use Rattle.x1_obeys.specs.Obeys.{Between, Within, structure_of, size_of, entry_place, point_place}
 use Rattle.rounding.proofs.Sizes.{minus_size}
 use Rattle.x1_lookup.proofs.Lookup.{verdict_obeys}
-use Rattle.x1_questions.specs.declared.answers.HeaderAnswer.TheVariants as header
-use Rattle.x1_questions.specs.declared.answers.TrackAnswer.TheVariants as track
-use Rattle.x1_questions.specs.declared.answers.PointAnswer.TheVariants as point
 use Rattle.x1_questions.specs.Answers.{header_answer, track_answer, point_answer}
 use Rattle.x1_questions.specs.Questions.{header_of, track_in, track_of, point_in, point_of}
 use Rattle.x1_questions.proofs.Stretches.{track_obeys, named_iff}
@@ -77,21 +74,21 @@ step_size x y m h k =
     omega arith
 
 module _ (f : List ℕ) where
-  pub header_range : (h : Header) → header_of f ≡ header.Header h → HeaderRange h
+  pub header_range : (h : Header) → header_of f ≡ Ok h → HeaderRange h
   unfolding header_of header_in
   header_range h e =
-      let a = accepted_by header.Refused (verdict_of f) (header.Header (header_in f)) (header.Header h) (λ t q. some_number t.reason (ap answer_number (ap header_answer q))) e in
+      let a = accepted_by Err (verdict_of f) (Ok (header_in f)) (Ok h) (λ t q. some_number t.reason (ap answer_number (ap header_answer q))) e in
       let o = (verdict_obeys f).0 a.0 in
       let i : header_in f ≡ h = cc in
       subst HeaderRange i (record { structure = o.structure_version; version = o.fields.data_version; station = o.fields.station })
 
-  pub track_range : (i : ℕ) (t : Track) → track_of f i ≡ track.Track t → TrackRange t
+  pub track_range : (i : ℕ) (t : Track) → track_of f i ≡ Ok t → TrackRange t
   unfolding track_of track_at points_in
   track_range i t e =
-      let never : (u : Fault) → track.Refused u ≡ track.Track t → ⊥ = λ u q. some_number u.reason (ap answer_number (ap track_answer q)) in
-      let a = accepted_by track.Refused (verdict_of f) (track_in f i) (track.Track t) never e in
+      let never : (u : Fault) → Err u ≡ Ok t → ⊥ = λ u q. some_number u.reason (ap answer_number (ap track_answer q)) in
+      let a = accepted_by Err (verdict_of f) (track_in f i) (Ok t) never e in
       let o = (verdict_obeys f).0 a.0 in
-      let c = chosen (ltb i (count_of f)) (track.Track (track_at f (size_of f) (entry_place i))) (track.Refused (refusal reason.Question)) (track.Track t) (never (refusal reason.Question)) a.1 in
+      let c = chosen (ltb i (count_of f)) (Ok (track_at f (size_of f) (entry_place i))) (Err (refusal reason.Question)) (Ok t) (never (refusal reason.Question)) a.1 in
       let there = ltb-true i (count_of f) c.0 in
       let same : track_at f (size_of f) (entry_place i) ≡ t = let q = c.1 in cc in
       let entry = o.fields.each_entry i there in
@@ -122,25 +119,25 @@ module _ (f : List ℕ) where
 
   -- a point that is handed out is one of an accepted file, and what stands at its place
   pub record Handed (i j : ℕ) (p : Point) : Type 0 where
-    pub accepted : verdict_of f ≡ verdict.Accepted
+    pub accepted : verdict_of f ≡ Ok tt
     pub track : i < count_of f
     pub point : j < points_in (size_of f) (first_of f (entry_place i)) (last_of f (entry_place i))
     pub same : point_at f (size_of f) (point_place f (size_of f) (entry_place i) j) ≡ p
 
-  pub point_handed : (i j : ℕ) (p : Point) → point_of f i j ≡ point.Point p → Handed i j p
+  pub point_handed : (i j : ℕ) (p : Point) → point_of f i j ≡ Ok p → Handed i j p
   unfolding point_of
   point_handed i j p e =
-      let never : (u : Fault) → point.Refused u ≡ point.Point p → ⊥ = λ u q. some_number u.reason (ap answer_number (ap point_answer q)) in
+      let never : (u : Fault) → Err u ≡ Ok p → ⊥ = λ u q. some_number u.reason (ap answer_number (ap point_answer q)) in
       let none = never (refusal reason.Question) in
       let at = entry_place i in
-      let in_track = cond (ltb i (count_of f)) (point_in f (size_of f) at j) (point.Refused (refusal reason.Question)) in
-      let a = accepted_by point.Refused (verdict_of f) in_track (point.Point p) never e in
-      let c = chosen (ltb i (count_of f)) (point_in f (size_of f) at j) (point.Refused (refusal reason.Question)) (point.Point p) none a.1 in
+      let in_track = cond (ltb i (count_of f)) (point_in f (size_of f) at j) (Err (refusal reason.Question)) in
+      let a = accepted_by Err (verdict_of f) in_track (Ok p) never e in
+      let c = chosen (ltb i (count_of f)) (point_in f (size_of f) at j) (Err (refusal reason.Question)) (Ok p) none a.1 in
       let points = points_in (size_of f) (first_of f at) (last_of f at) in
-      let d = chosen (ltb j points) (point.Point (point_at f (size_of f) (point_place f (size_of f) at j))) (point.Refused (refusal reason.Question)) (point.Point p) none c.1 in
+      let d = chosen (ltb j points) (Ok (point_at f (size_of f) (point_place f (size_of f) at j))) (Err (refusal reason.Question)) (Ok p) none c.1 in
       record { accepted = a.0; track = ltb-true i (count_of f) c.0; point = ltb-true j points d.0; same = let q = d.1 in cc }
 
-  pub point_range : (i j : ℕ) (p : Point) → point_of f i j ≡ point.Point p → PointRange p
+  pub point_range : (i j : ℕ) (p : Point) → point_of f i j ≡ Ok p → PointRange p
   unfolding point_at
   point_range i j p e =
       let w = point_handed i j p e in

@@ -6,7 +6,7 @@ use Rattle.octets.specs.Octets.{num_at}
 use Rattle.octets.specs.declared.Width.TheVariants.{One, Two, Four}
 use Rattle.checksum.specs.Checksum.{checksum_of}
 use Rattle.verdict.specs.declared.Reason.TheVariants as reason
-use Rattle.verdict.specs.declared.Verdict.{Verdict}
+use Rattle.verdict.specs.Verdicts.{Verdict}
 use Rattle.verdict.specs.Facts.{Fact, first_fault}
 use Rattle.verdict.specs.Reasons.{shown_of}
 use Rattle.verdict.specs.Answers.{Answer, answered, refused, refusal, after_verdict}
@@ -15,19 +15,15 @@ use Rattle.envelope.specs.Seal.{most_length, end_of, type_at, structure_at}
 use Rattle.envelope.specs.Header.{header_in}
 use Rattle.x1_records.specs.Places.{least_length, point_size}
 use Rattle.x1_records.specs.Tracks.{track_at}
-use Rattle.x1_records.specs.declared.Point.{Point}
 use Rattle.x1_layout.specs.Layout.{count_of}
 use Rattle.x1_verdict.specs.Facts.{file_type, sized_facts, verdict_of}
 use Rattle.x1_obeys.specs.Obeys.{structure_of, entry_place}
 use Rattle.x1_lookup.specs.Lookup.{find_track}
-use Rattle.x1_questions.specs.declared.answers.HeaderAnswer.{HeaderAnswer}
-use Rattle.x1_questions.specs.declared.answers.HeaderAnswer.TheVariants as header
-use Rattle.x1_questions.specs.declared.answers.TrackAnswer.{TrackAnswer}
-use Rattle.x1_questions.specs.declared.answers.TrackAnswer.TheVariants as track
-use Rattle.x1_questions.specs.declared.answers.PointAnswer.{PointAnswer}
-use Rattle.x1_questions.specs.declared.answers.PointAnswer.TheVariants as point
-use Rattle.x1_questions.specs.declared.answers.CoordinateAnswer.{CoordinateAnswer}
-use Rattle.x1_questions.specs.declared.answers.CoordinateAnswer.TheVariants as coordinate
+use Rattle.x1_questions.specs.Results.{HeaderAnswer}
+use Rattle.std.specs.Prelude.{Ok, Err}
+use Rattle.x1_questions.specs.Results.{TrackAnswer}
+use Rattle.x1_questions.specs.Results.{PointAnswer}
+use Rattle.x1_questions.specs.Results.{CoordinateAnswer}
 use Rattle.x1_questions.specs.Questions.{header_of, track_of, point_in, point_of, on_found, coordinate_asked}
 use Rattle.x1_questions.specs.Answers.{point_answer}
 
@@ -51,26 +47,26 @@ verdict_was f = shown_of (first_fault (facts_was f))
 -- ---- the answers
 
 abbrev pub header_was : List ℕ → HeaderAnswer
-header_was f = after_verdict header.Refused (verdict_was f) (header.Header (header_in f))
+header_was f = after_verdict Err (verdict_was f) (Ok (header_in f))
 
 abbrev pub track_was : List ℕ → ℕ → TrackAnswer
 track_was f i =
-    after_verdict track.Refused (verdict_was f)
-    (cond (ltb i (count_of f)) (track.Track (track_at f (point_size 1) (entry_place i))) (track.Refused (refusal reason.Question)))
+    after_verdict Err (verdict_was f)
+    (cond (ltb i (count_of f)) (Ok (track_at f (point_size 1) (entry_place i))) (Err (refusal reason.Question)))
 
 abbrev pub point_was : List ℕ → ℕ → ℕ → PointAnswer
 point_was f i j =
-    after_verdict point.Refused (verdict_was f)
-    (cond (ltb i (count_of f)) (point_in f (point_size 1) (entry_place i) j) (point.Refused (refusal reason.Question)))
+    after_verdict Err (verdict_was f)
+    (cond (ltb i (count_of f)) (point_in f (point_size 1) (entry_place i) j) (Err (refusal reason.Question)))
 
 -- a point had five values
 abbrev pub point_answer_was : PointAnswer → Answer
-point_answer_was (point.Point p) =
+point_answer_was (Ok p) =
     answered (pos p.position ∷ p.latitude_increment ∷ p.longitude_increment ∷ p.heading ∷ pos p.near ∷ [])
-point_answer_was (point.Refused t) = refused 5 t
+point_answer_was (Err t) = refused 5 t
 
 abbrev pub coordinate_was : List ℕ → ℕ → ℕ → CoordinateAnswer
-coordinate_was f number x = after_verdict coordinate.Refused (verdict_was f) (on_found f (point_size 1) x (find_track f number))
+coordinate_was f number x = after_verdict Err (verdict_was f) (on_found f (point_size 1) x (find_track f number))
 
 -- ---- what is said of them
 

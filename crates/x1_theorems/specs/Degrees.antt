@@ -7,8 +7,7 @@ use Rattle.degrees.specs.Degrees.{degree, degrees_of}
 use Rattle.degrees_theorems.specs.Wholes.{negative, IsWhole}
 use Rattle.x1_records.specs.declared.Track.{Track}
 use Rattle.x1_records.specs.declared.Point.{Point}
-use Rattle.x1_questions.specs.declared.answers.TrackAnswer.TheVariants as track
-use Rattle.x1_questions.specs.declared.answers.PointAnswer.TheVariants as point
+use Rattle.std.specs.Prelude.{Ok}
 use Rattle.x1_questions.specs.declared.answers.Coordinate.{Coordinate}
 use Rattle.x1_questions.specs.Questions.{track_of, point_of, start_plus}
 use Rattle.x1_degrees.specs.declared.Surveyed.{Surveyed}
@@ -33,6 +32,6 @@ pub record InDegrees (s : Surveyed) : Type 0 where
 pub record StandsAt (f : List ℕ) (i j : ℕ) (c : Coordinate) : Type 0 where
   pub its_track : Track
   pub its_point : Point
-  pub track_answered : track_of f i ≡ track.Track its_track
-  pub point_answered : point_of f i j ≡ point.Point its_point
+  pub track_answered : track_of f i ≡ Ok its_track
+  pub point_answered : point_of f i j ≡ Ok its_point
   pub sums : c ≡ start_plus its_track its_point

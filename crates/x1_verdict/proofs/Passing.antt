@@ -13,12 +13,12 @@ use lib.IntN.{nat_abs}
 use borrow.Author.Tests.{ltb-true, leb-true, eqb-true, le-leb, lt-ltb, le-ltb, eq-eqb, ne_eqb}
 use Rattle.octets.specs.Octets.{half_of, signed, signed_at, Is}
 use Rattle.octets.proofs.Signs.{low_distance, high_distance}
-use Rattle.verdict.specs.declared.Judged.{Judged}
-use Rattle.verdict.specs.declared.Judged.TheVariants.{Accepted}
-use Rattle.verdict.specs.Facts.{same, at_most, either, test, all_tests, judge}
-use Rattle.verdict.proofs.Facts.{tested, tests_append}
+use Rattle.verdict.specs.Verdicts.{Judged}
+use Rattle.std.specs.Prelude.{Ok, Err, is_ok}
+use Rattle.verdict.specs.Facts.{same, at_most, either, test, all_tests, first_fault}
+use Rattle.verdict.proofs.Facts.{tested, tests_append, accepted_first}
 use Rattle.verdict.proofs.Orders.{and-true}
-use Rattle.verdict.proofs.Checks.{passes_over, judge_stop}
+use Rattle.verdict.proofs.Checks.{passes_over, first_stop}
 use Rattle.rules.specs.Rules.{lies_between}
 use Rattle.tables.specs.Table.{field_place, value_of, signed_of}
 use Rattle.x1_records.specs.Places.{entries_at, entry_size, position_most, heading_most}
@@ -26,11 +26,11 @@ use Rattle.x1_records.specs.Rows.{position, heading, near}
 use Rattle.x1_layout.specs.Layout.{end_of, points_at, first_of, last_of, entries}
 use Rattle.x1_fields.specs.Fields.{header_fields, entry_fields, point_fields}
 use Rattle.x1_verdict.specs.declared.agreement.Frame.{Frame}
-use Rattle.x1_verdict.specs.Fields.{all_points}
+use Rattle.x1_verdict.specs.Fields.{all_points, field_facts}
 use Rattle.x1_verdict.specs.Agreement.{FrameOf, opens, rises, stays, closes, number_agrees, point_agrees, track_agrees, agreement_facts}
 use Rattle.x1_verdict.specs.inner.FirstOff.{points_from, Later, LaterOff}
 use Rattle.x1_verdict.specs.inner.Pass.{fields_from, FieldsIfSmall, PointPassed, EdgePassed, LastPassed, RoomyInside, FieldsPassed, LaterPassed, TrackPassed, Passing, TracksPassed, AllPassed}
-use Rattle.x1_verdict.proofs.Checks.{point_tested, later_tested, points_judged}
+use Rattle.x1_verdict.proofs.Checks.{point_tested, later_tested}
 use Rattle.x1_verdict.proofs.Tracks.{record_over, later_over, off_none, track_tested}
 
 -- ---- one point
@@ -148,14 +148,14 @@ module _ (f : List ℕ) (size e p : ℕ) where
 
 -- a point that obeys by its fields is passed over
 fields_over : (f : List ℕ) (size p from : ℕ) → 0 < size → all_tests (point_fields f p) ≡ true → FieldsPassed f size from p → FieldsPassed f size from (p + size)
-fields_over f size p from pos t passed = record { so = record_over size (end_of f) (point_fields f) pos p t Accepted ∙ passed.so }
+fields_over f size p from pos t passed = record { so = record_over size (end_of f) (point_fields f) pos p t ∙ passed.so }
 
 -- ---- the points of a track
 
 pub later_start : (f : List ℕ) (size e first : ℕ) → first ≡ first_of f e → first + size < 2 ^ 17 → LaterPassed f size e (first + size)
 later_start f size e first i small = record {
-  fields = λ _. record { so = ap (λ (n : ℕ). judge Accepted (fields_from f size (n + size))) i };
-  agrees = λ v. ap (λ (n : ℕ). judge v (points_from f size e (n + size))) i;
+  fields = λ _. record { so = ap (λ (n : ℕ). first_fault (fields_from f size (n + size))) i };
+  agrees = ap (λ (n : ℕ). first_fault (points_from f size e (n + size))) i;
   after = omega arith;
   small = small;
 }
@@ -168,7 +168,7 @@ later_step f size e p pos small point later =
       fields = λ h.
           let here : value_of f p position ≤ position_most = subst (λ (n : ℕ). value_of f n position ≤ position_most) back h in
           fields_over f size p (first_of f e + size) pos (point.fields here) (later.fields (omega (arith, rises, here)));
-      agrees = λ v. later_over f size e pos p true (sym point.agrees) refl v ∙ later.agrees v;
+      agrees = later_over f size e pos p true (sym point.agrees) refl ∙ later.agrees;
       after = omega (arith, later.after);
       small = small;
     }
@@ -188,11 +188,11 @@ module _ (f : List ℕ) (size e : ℕ) (pos : 0 < size) (p : ℕ) (later : Later
       record {
         fields = record {
           so =
-              record_over size (end_of f) (point_fields f) pos p closes.fields Accepted
+              record_over size (end_of f) (point_fields f) pos p closes.fields
               ∙ (later.fields (omega (arith, small, rises))).so
-              ∙ ap (λ (n : ℕ). judge Accepted (fields_from f size (n + size))) (sym i)
-              ∙ record_over size (end_of f) (point_fields f) pos first opens.fields Accepted
-              ∙ ap (λ (n : ℕ). judge Accepted (fields_from f size n)) d;
+              ∙ ap (λ (n : ℕ). first_fault (fields_from f size (n + size))) (sym i)
+              ∙ record_over size (end_of f) (point_fields f) pos first opens.fields
+              ∙ ap (λ (n : ℕ). first_fault (fields_from f size n)) d;
         };
         agrees =
             sym (track_tested f size e (p + size) pos none n true j (sym (le-leb (last_of f e + size) (p + size) (omega arith)))) ∙ simp number;
@@ -202,25 +202,48 @@ module _ (f : List ℕ) (size e : ℕ) (pos : 0 < size) (p : ℕ) (later : Later
 
 pub passing_start : (f : List ℕ) (size : ℕ) → Passing f size entries_at (points_at f)
 unfolding agreement_facts entries
-passing_start f size = record { fields = record { so = refl }; agrees = λ v. refl }
+passing_start f size = record { fields = record { so = refl }; agrees = refl }
 
 pub passing_over :
     (f : List ℕ) (size e due next : ℕ) → e < points_at f → Passing f size e due → TrackPassed f size e due next → Passing f size (e + entry_size) next
 passing_over f size e due next h passing track = record {
   fields = record { so = track.fields.so ∙ passing.fields.so };
-  agrees = λ v. passes_over (λ _. entry_size) (points_at f) (track_agrees f size) (λ x. omega arith) v e true h (sym track.agrees) (e + entry_size) refl refl ∙ passing.agrees v;
+  agrees = passes_over (λ _. entry_size) (points_at f) (track_agrees f size) (λ x. omega arith) e true h (sym track.agrees) (e + entry_size) refl refl ∙ passing.agrees;
+}
+
+pub passing_end : (f : List ℕ) (size e due : ℕ) → points_at f ≤ e → Passing f size e due → Passing f size (points_at f) due
+passing_end f size e due h passing = record {
+  fields = passing.fields;
+  agrees =
+      first_stop (λ _. entry_size) (points_at f) (track_agrees f size) (points_at f) (omega arith)
+      ∙ sym (first_stop (λ _. entry_size) (points_at f) (track_agrees f size) e h)
+      ∙ passing.agrees;
 }
 
 pub passing_all : (f : List ℕ) (size e due : ℕ) → points_at f ≤ e → end_of f ≤ due → Passing f size e due → TracksPassed f size
 unfolding all_points
 passing_all f size e due h g passing = record {
-  fields = sym (judge_stop (λ _. size) (end_of f) (point_fields f) Accepted due g) ∙ passing.fields.so;
-  agrees = sym (judge_stop (λ _. entry_size) (points_at f) (track_agrees f size) Accepted e h) ∙ passing.agrees Accepted;
+  fields = sym (first_stop (λ _. size) (end_of f) (point_fields f) due g) ∙ passing.fields.so;
+  agrees = sym (first_stop (λ _. entry_size) (points_at f) (track_agrees f size) e h) ∙ passing.agrees;
 }
 
 -- ---- the fields of the header and of the entries too: x and y are the verdicts on them
 
+accepted : (v : Judged) → is_ok v ≡ true → v ≡ Ok tt
+accepted (Ok _) e = refl
+accepted (Err m) e = absurd (bool.true≢false (sym e))
+
 pub all_passed :
-    (f : List ℕ) (size : ℕ) (x y : Judged) → x ≡ judge Accepted (header_fields f) → x ≡ Accepted → y ≡ judge Accepted (flat_map (entry_fields f) (entries f)) → y ≡ Accepted
+    (f : List ℕ) (size : ℕ) (x y : Judged) → x ≡ first_fault (header_fields f) → is_ok x ≡ true → y ≡ first_fault (flat_map (entry_fields f) (entries f)) → is_ok y ≡ true
     → TracksPassed f size → AllPassed f size
-all_passed f size x y i h j g tracks = record { fields = points_judged f size Accepted x i h y j g Accepted tracks.fields; agrees = tracks.agrees }
+unfolding field_facts
+all_passed f size x y i h j g tracks =
+    let points = flat_map (point_fields f) (all_points f size) in
+    let entered = flat_map (entry_fields f) (entries f) in
+    record {
+      fields =
+          tracks.fields
+          ∙ sym (accepted_first entered points (sym j ∙ accepted y g))
+          ∙ sym (accepted_first (header_fields f) (entered ++ points) (sym i ∙ accepted x h));
+      agrees = tracks.agrees;
+    }

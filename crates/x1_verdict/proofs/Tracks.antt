@@ -3,79 +3,79 @@
 -- found.
 use Prim.Native.Nat.{ℕ, ◌+◌, ◌≤◌, ◌<◌}
 use mathlib.Core.Path.{◌≡◌, refl, sym, ap, ◌∙◌}
-use mathlib.Core.Bool.{Bool, true, false, not, ◌&&◌}
+use mathlib.Core.Bool.{Bool, true, false, ◌&&◌}
 use mathlib.Core.List.{List, flat_map}
 use mathlib.Core.Logic.{⊎_elim}
 use native.Mathlib.Omega.{arith}
 use lib.Dec.{leb}
-use borrow.Author.Tests.{leb-true, leb-false, not-true, not-false}
-use Rattle.verdict.specs.declared.Judged.{Judged}
-use Rattle.verdict.specs.declared.Judged.TheVariants.{Accepted}
-use Rattle.verdict.specs.Facts.{Fact, all_tests, judge}
+use borrow.Author.Tests.{leb-true, leb-false}
+use Rattle.verdict.specs.Verdicts.{Judged}
+use Rattle.std.specs.Prelude.{Ok}
+use Rattle.verdict.specs.Facts.{Fact, all_tests, first_fault}
 use Rattle.verdict.specs.Walk.{starts_from}
-use Rattle.verdict.specs.inner.Accepted.{is_accepted}
+use Rattle.std.specs.Prelude.{is_ok}
 use Rattle.verdict.proofs.Facts.{tests_then, tests_judged}
 use Rattle.verdict.proofs.Orders.{le-or-lt}
-use Rattle.verdict.proofs.Checks.{passes_over, fails_here, judge_stop}
+use Rattle.verdict.proofs.Checks.{passes_over, fails_here, first_stop}
 use Rattle.x1_layout.specs.Layout.{first_of, last_of}
 use Rattle.x1_verdict.specs.Agreement.{number_agrees, point_agrees, points_of, track_agrees}
 use Rattle.x1_verdict.specs.inner.FirstOff.{points_from, LaterOff, FirstOff}
 
 -- a record that obeys is passed over, and past the end there is none
 pub record_over :
-    (size end : ℕ) (facts : ℕ → List Fact) → 0 < size → (p : ℕ) → all_tests (facts p) ≡ true → (v : Judged)
-    → judge v (flat_map facts (starts_from (λ _. size) end (p + size))) ≡ judge v (flat_map facts (starts_from (λ _. size) end p))
-record_over size end facts pos p t v =
+    (size end : ℕ) (facts : ℕ → List Fact) → 0 < size → (p : ℕ) → all_tests (facts p) ≡ true
+    → first_fault (flat_map facts (starts_from (λ _. size) end (p + size))) ≡ first_fault (flat_map facts (starts_from (λ _. size) end p))
+record_over size end facts pos p t =
     ⊎_elim
-    (λ (h : end ≤ p). judge_stop (λ _. size) end facts v (p + size) (omega arith) ∙ sym (judge_stop (λ _. size) end facts v p h))
-    (λ (h : p < end). passes_over (λ _. size) end facts (λ x. pos) v p (all_tests (facts p)) h refl (p + size) (ap not t) refl)
+    (λ (h : end ≤ p). first_stop (λ _. size) end facts (p + size) (omega arith) ∙ sym (first_stop (λ _. size) end facts p h))
+    (λ (h : p < end). passes_over (λ _. size) end facts (λ x. pos) p (all_tests (facts p)) h refl (p + size) t refl)
     (le-or-lt end p)
 
 module _ (f : List ℕ) (size e : ℕ) (pos : 0 < size) where
   -- the points between the first and the last one, from p on: one turn
-  pub later_over : (p : ℕ) (t : Bool) → t ≡ all_tests (point_agrees f size e p) → not t ≡ false → (v : Judged) → judge v (points_from f size e (p + size)) ≡ judge v (points_from f size e p)
-  later_over p t i n = record_over size (last_of f e + size) (point_agrees f size e) pos p (sym i ∙ not-false t n)
+  pub later_over : (p : ℕ) (t : Bool) → t ≡ all_tests (point_agrees f size e p) → t ≡ true → first_fault (points_from f size e (p + size)) ≡ first_fault (points_from f size e p)
+  later_over p t i n = record_over size (last_of f e + size) (point_agrees f size e) pos p (sym i ∙ n)
 
   -- the four ways out: at the first point, at a later one, at the last one, and past them all
   module _ (first : ℕ) (i : first ≡ first_of f e) (t : Bool) (j : t ≡ all_tests (point_agrees f size e first)) where
-    pub off_first : not t ≡ true → FirstOff f size e first
+    pub off_first : t ≡ false → FirstOff f size e first
     unfolding points_of
-    off_first n = record { before = λ v. ap (λ (p : ℕ). judge v (points_from f size e p)) i; here = λ h. sym j ∙ not-true t n }
+    off_first n = record { before = ap (λ (p : ℕ). first_fault (points_from f size e p)) i; here = λ h. sym j ∙ n }
 
-    module _ (n : not t ≡ false) (p : ℕ) (later : LaterOff f size e p) where
-      since_first : (v : Judged) → judge v (points_from f size e p) ≡ judge v (flat_map (point_agrees f size e) (points_of f size e))
+    module _ (n : t ≡ true) (p : ℕ) (later : LaterOff f size e p) where
+      since_first : first_fault (points_from f size e p) ≡ first_fault (flat_map (point_agrees f size e) (points_of f size e))
       unfolding points_of
-      since_first v = later.before v ∙ later_over (first_of f e) t (j ∙ ap (λ (p : ℕ). all_tests (point_agrees f size e p)) i) n v
+      since_first = later.before ∙ later_over (first_of f e) t (j ∙ ap (λ (p : ℕ). all_tests (point_agrees f size e p)) i) n
 
       pub off_later : p < last_of f e → FirstOff f size e p
       off_later h = record { before = since_first; here = λ _. later.here h }
 
       module _ (u : Bool) (k : u ≡ all_tests (point_agrees f size e p)) where
-        pub off_last : not u ≡ true → FirstOff f size e p
-        off_last m = record { before = since_first; here = λ _. sym k ∙ not-true u m }
+        pub off_last : u ≡ false → FirstOff f size e p
+        off_last m = record { before = since_first; here = λ _. sym k ∙ m }
 
-        pub off_none : last_of f e ≤ p → not u ≡ false → FirstOff f size e (p + size)
-        off_none h m = record { before = λ v. later_over p u k m v ∙ since_first v; here = λ g. absurd (omega arith) }
+        pub off_none : last_of f e ≤ p → u ≡ true → FirstOff f size e (p + size)
+        off_none h m = record { before = later_over p u k m ∙ since_first; here = λ g. absurd (omega arith) }
 
 module _ (f : List ℕ) (size e p : ℕ) (pos : 0 < size) (off : FirstOff f size e p) where
-  pub points_end : (v : Judged) → last_of f e + size ≤ p → v ≡ judge v (flat_map (point_agrees f size e) (points_of f size e))
-  points_end v h = sym (judge_stop (λ _. size) (last_of f e + size) (point_agrees f size e) v p h) ∙ off.before v
+  pub points_end : last_of f e + size ≤ p → Ok tt ≡ first_fault (flat_map (point_agrees f size e) (points_of f size e))
+  points_end h = sym (first_stop (λ _. size) (last_of f e + size) (point_agrees f size e) p h) ∙ off.before
 
-  pub points_off : (v r : Judged) → p < last_of f e + size → r ≡ judge v (point_agrees f size e p) → r ≡ judge v (flat_map (point_agrees f size e) (points_of f size e))
-  points_off v r h q =
-      fails_here (λ _. size) (last_of f e + size) (point_agrees f size e) (λ x. pos) v p (all_tests (point_agrees f size e p)) h refl r (ap not (off.here h)) q
-      ∙ off.before v
+  pub points_off : (r : Judged) → p < last_of f e + size → r ≡ first_fault (point_agrees f size e p) → r ≡ first_fault (flat_map (point_agrees f size e) (points_of f size e))
+  points_off r h q =
+      fails_here (λ _. size) (last_of f e + size) (point_agrees f size e) (λ x. pos) p (all_tests (point_agrees f size e p)) h refl r (off.here h) q
+      ∙ off.before
 
   points_tested : leb (last_of f e + size) p ≡ all_tests (flat_map (point_agrees f size e) (points_of f size e))
   points_tested = by_test (leb (last_of f e + size) p) refl
     where
       by_test : (t : Bool) → leb (last_of f e + size) p ≡ t → t ≡ all_tests (flat_map (point_agrees f size e) (points_of f size e))
-      by_test true h = tests_judged Accepted true (flat_map (point_agrees f size e) (points_of f size e)) (points_end Accepted (leb-true (last_of f e + size) p h)) refl
+      by_test true h = tests_judged (Ok tt) true (flat_map (point_agrees f size e) (points_of f size e)) (points_end (leb-true (last_of f e + size) p h)) refl
       by_test false h =
           let l = leb-false (last_of f e + size) p h in
-          let u = judge Accepted (point_agrees f size e p) in
-          let refused : is_accepted u ≡ false = tests_judged u (is_accepted u) (point_agrees f size e p) refl refl ∙ off.here l in
-          tests_judged u false (flat_map (point_agrees f size e) (points_of f size e)) (points_off Accepted u l refl) (sym refused)
+          let u = first_fault (point_agrees f size e p) in
+          let refused : is_ok u ≡ false = tests_judged u (is_ok u) (point_agrees f size e p) refl refl ∙ off.here l in
+          tests_judged u false (flat_map (point_agrees f size e) (points_of f size e)) (points_off u l refl) (sym refused)
 
   pub track_tested : (n t : Bool) → n ≡ all_tests (number_agrees f e) → t ≡ leb (last_of f e + size) p → (n && t) ≡ all_tests (track_agrees f size e)
   unfolding track_agrees

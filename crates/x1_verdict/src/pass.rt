@@ -1,21 +1,20 @@
 // One pass over the tracks of a file and their points: whether each point obeys by its fields and agrees, so that an accepted file is read
 // once. Where it stops, nothing is said, and the checks go in turn, that of the agreement from the track where it stops. The points of a
 // track are due where those of the track before it end, so that together they are all points.
-ghost use Rattle.std.specs.Prelude.{◌≡◌, true, ◌+◌, ◌-◌, ◌^◌, ◌≤◌, ◌<◌, length};
+ghost use Rattle.std.specs.Prelude.{IfSome, ◌≡◌, true, ◌+◌, ◌-◌, ◌^◌, ◌≤◌, ◌<◌, length};
 ghost use Rattle.octets.specs.Octets.{Is, IsSigned};
 ghost use Rattle.tables.specs.Table.{value_of};
 ghost use Rattle.x1_records.specs.Places.{entry_size};
 ghost use Rattle.x1_records.specs.Rows.{position};
 ghost use Rattle.x1_verdict.specs.Agreement.{FrameOf};
 ghost use Rattle.x1_verdict.specs.inner.FirstOff.{Later};
-ghost use Rattle.x1_verdict.specs.inner.Pass.{FieldsIfSmall, PointPassed, EdgePassed, LastPassed, LaterPassed, RoomyInside, TrackPassed, Passing, TracksPassed, AllPassed};
+ghost use Rattle.x1_verdict.specs.inner.Pass.{FieldsIfSmall, PointPassed, EdgePassed, LastPassed, LaterPassed, RoomyInside, TrackPassed, Passing, Reached, TracksPassed, AllPassed};
 
 use crate::agreement::{Frame, closing_obeys, is_roomy, number_obeys, opening_obeys, stay_obeys};
 use crate::fields::entries_fields;
 use envelope::end_of;
 use octets::Width;
 use tables::{lies_between, number_of};
-use verdict::Judged;
 use x1_fields::header_fields;
 use x1_layout::points_at;
 use x1_records::{ENTRIES, HEADING_MOST, POSITION_MOST, Point, Track};
@@ -23,24 +22,10 @@ use x1_records::{ENTRIES, HEADING_MOST, POSITION_MOST, Point, Track};
 // The least heading as a number without sign: it has two bytes, and a negative one counts down from 256 times 256.
 const HEADING_LEAST: usize = 0x1_0000 - HEADING_MOST;
 
-// How far the pass came over the points of a track: whether each of them obeys and agrees, and where the next one is due.
-#[derive(Clone, Copy)]
-struct Passed {
-    obeys: bool,
-    next: u32,
-}
-
-// How far the pass came over the tracks: the entry of the first one that does not pass, or the place after them all, and where the points
-// are due from there on.
-#[derive(Clone, Copy)]
-pub struct Reached {
-    pub entry: u32,
-    pub due: u32,
-}
-
 // ---- what lies inside the file, read with no test of where it ends
 
 // The byte at a place inside the file.
+// Stays (2): octets has such a reader, which requires its bytes inside the file, so that a rule of the project keeps it private there.
 fn byte_inside(f: &[u8], at: usize) -> usize
     requires { at < length f.now }
     ensures { Is 1 f.now at result }
@@ -49,6 +34,7 @@ fn byte_inside(f: &[u8], at: usize) -> usize
 }
 
 // The number of two bytes that lie inside the file.
+// Stays (2): octets has such a reader, which requires its bytes inside the file, so that a rule of the project keeps it private there.
 fn two_inside(f: &[u8], at: usize) -> usize
     requires { at + 2 ≤ length f.now }
     ensures { Is 2 f.now at result }
@@ -57,6 +43,7 @@ fn two_inside(f: &[u8], at: usize) -> usize
 }
 
 // The number of four bytes that lie inside the file.
+// Stays (2): octets has such a reader, which requires its bytes inside the file, so that a rule of the project keeps it private there.
 fn four_inside(f: &[u8], at: usize) -> usize
     requires { at + 4 ≤ length f.now }
     ensures { Is 4 f.now at result }
@@ -163,6 +150,7 @@ fn roomy_pass(f: &[u8], size: u8, e: u32, t: Frame, second: usize) -> u32
     let last = t.last as usize;
     let mut before = four_inside(f, second - step + Point::POSITION.0 as usize);
     let mut p = second;
+    // Stays (3): the place where the walk ends is the answer, and a `for` does not keep the one past its last turn.
     while p < last {
         let here = four_inside(f, p + Point::POSITION.0 as usize);
         if here <= before {
@@ -196,6 +184,7 @@ fn later_pass(f: &[u8], size: u8, e: u32, t: Frame) -> u32
     }
     let mut before = number_of(f, t.first as u32, Point::POSITION);
     let mut p = t.first as u32 + step;
+    // Stays (3): the place where the walk ends is the answer, and a `for` does not keep the one past its last turn.
     while p < last {
         if f.len() < p as usize + Point::SIZE as usize {
             return p;
@@ -210,18 +199,14 @@ fn later_pass(f: &[u8], size: u8, e: u32, t: Frame) -> u32
     p
 }
 
-// The track of the entry at e, whose points are due at a place: its number agrees, its points stand there, and each obeys and agrees.
-// It does not pass where the file ends inside the entry.
-fn track_passes(f: &[u8], size: u8, e: u32, due: u32) -> Passed
+// The track of the entry at e, whose points are due at a place: its number agrees, its points stand there, and each obeys and agrees. It
+// answers where the next track's points are due. The track does not pass where the file ends inside the entry.
+fn track_passes(f: &[u8], size: u8, e: u32, due: u32) -> Option<u32>
     requires { 0 < size }
-    ensures track_passed { result.obeys ≡ true → TrackPassed f.now size e due result.next }
-    ensures next_bound { result.next < 2 ^ 18 }
+    ensures { IfSome result (λ next. TrackPassed f.now size e due next × (next < 2 ^ 18)) }
 {
     if f.len() < e as usize + Track::SIZE as usize {
-        return Passed {
-            obeys: false,
-            next: 0,
-        };
+        return None;
     }
     let t = frame_inside(f, e);
     let first = t.first as u32;
@@ -229,29 +214,26 @@ fn track_passes(f: &[u8], size: u8, e: u32, due: u32) -> Passed
     let opens = first_passes(f, size, e, t);
     let last = later_pass(f, size, e, t);
     let closes = last_passes(f, size, e, t, last);
-    Passed {
-        obeys: (first == due) & (number & (opens & closes)),
-        next: last + size as u32,
+    if (first == due) & (number & (opens & closes)) {
+        return Some(last + size as u32);
     }
+    None
 }
 
-// How far the pass comes over the tracks.
-pub fn tracks_reached(f: &[u8], size: u8) -> Reached
+// How far the pass comes over the tracks: where the points of them all end, or the entry of the first one that does not pass.
+pub fn tracks_reached(f: &[u8], size: u8) -> Result<u32, u32>
     requires { 0 < size }
-    ensures { Passing f.now size result.entry result.due }
+    ensures { Reached f.now size result }
 {
     let points = points_at(f);
     let mut due = points;
-    let mut e = ENTRIES;
-    while e < points {
-        let track = track_passes(f, size, e, due);
-        if !track.obeys {
-            return Reached { entry: e, due: due };
+    for e in (ENTRIES..points).step_by(Track::SIZE as usize) {
+        match track_passes(f, size, e, due) {
+            Some(next) => due = next,
+            None => return Err(e),
         }
-        due = track.next;
-        e = e + Track::SIZE as u32;
     }
-    Reached { entry: e, due: due }
+    Ok(due)
 }
 
 // Every track agrees, and all points obey: those of one track after those of the other reach End.
@@ -259,10 +241,10 @@ fn tracks_pass(f: &[u8], size: u8) -> bool
     requires { 0 < size }
     ensures { result ≡ true → TracksPassed f.now size }
 {
-    let reached = tracks_reached(f, size);
-    let all = points_at(f) <= reached.entry;
-    let ends = end_of(f) <= reached.due as usize;
-    all & ends
+    match tracks_reached(f, size) {
+        Ok(due) => end_of(f) <= due as usize,
+        Err(_) => false,
+    }
 }
 
 // Whether all fields obey and every track agrees: the fields of the header and of the entries, which are few, then the pass.
@@ -270,11 +252,5 @@ pub fn all_obey(f: &[u8], size: u8) -> bool
     requires { 0 < size }
     ensures { result ≡ true → AllPassed f.now size }
 {
-    let Judged::Accepted = header_fields(Judged::Accepted, f) else {
-        return false;
-    };
-    let Judged::Accepted = entries_fields(Judged::Accepted, f) else {
-        return false;
-    };
-    tracks_pass(f, size)
+    header_fields(f).is_ok() && (entries_fields(f).is_ok() && tracks_pass(f, size))
 }

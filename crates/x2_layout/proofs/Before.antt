@@ -1,14 +1,16 @@
 -- The record directly before another: what the search for it finds, and that there is only one. And a loop over the records that keeps the
 -- start of the one before.
 use Prim.Native.Nat.{ℕ, ◌+◌, ◌≤◌, ◌<◌}
-use mathlib.Core.Path.{◌≡◌, ◌∙◌, refl, sym, ap, subst, subst⁻¹}
-use mathlib.Core.Bool.{Bool, true, false, not}
+use mathlib.Core.Path.{◌≡◌, ◌∙◌, refl, sym, ap, subst⁻¹}
+use Rattle.std.specs.Prelude.{Ok, Err}
+use Rattle.verdict.specs.declared.Mark.{Mark}
+use mathlib.Core.Bool.{Bool, true, false}
 use mathlib.Core.Logic.{◌⊎◌, inl, inr, ⊎_elim}
 use mathlib.Core.List.{List, Memᴰ}
 use native.Mathlib.Omega.{arith}
 use borrow.Author.Tests.{eq-eqb, ne_eqb}
-use Rattle.verdict.specs.declared.Judged.{Judged}
-use Rattle.verdict.specs.Facts.{Fact, all_tests, judge}
+use Rattle.verdict.specs.Verdicts.{Judged}
+use Rattle.verdict.specs.Facts.{Fact, all_tests, first_fault}
 use Rattle.verdict.specs.Walk.{starts_from, Reach, here, onward}
 use Rattle.verdict.proofs.Walk.{starts_step, reach_le}
 use Rattle.x2_records.specs.declared.Kind.{Kind}
@@ -16,8 +18,8 @@ use Rattle.x2_layout.specs.declared.Layout.{Layout}
 use Rattle.x2_layout.specs.Records.{kind_at, IsSize, size_of, size_at, starts, before_in, record_before, DirectlyBefore, each_after}
 use Rattle.x2_layout.proofs.Records.{size_at_pos}
 use Rattle.x2_layout.proofs.Walks.{starts_between, starts_reached}
-use Rattle.x2_layout.specs.inner.Walking.{Walking, Following}
-use Rattle.x2_layout.proofs.Walking.{walking_stop, walking_over, walking_fault}
+use Rattle.x2_layout.specs.inner.Walking.{Following}
+use Rattle.x2_layout.proofs.Walking.{walking_stop, walking_over, walking_on, walking_refused}
 
 module _ (size : ℕ → ℕ) (end : ℕ) (pos : (x : ℕ) → 0 < size x) where
   -- one step of the search
@@ -93,36 +95,43 @@ module _ (f : List ℕ) (l : Layout) (x : ℕ) (m : Memᴰ x (starts f l)) where
 
 -- ---- a loop over the records that keeps the start of the one before
 
-pub following_start : (f : List ℕ) (l : Layout) (facts : ℕ → Kind → ℕ → List Fact) (v : Judged) → Following f l facts v 0 l.starts
+pub following_start : (f : List ℕ) (l : Layout) (facts : ℕ → Kind → ℕ → List Fact) → Following f l facts 0 l.starts
 unfolding record_before
-following_start f l facts v = record { walking = record { so = refl }; onward_is = λ x h. refl }
+following_start f l facts = record { walking = record { so = refl }; onward_is = λ x h. refl }
 
-module _ {f : List ℕ} {l : Layout} {facts : ℕ → Kind → ℕ → List Fact} {v : Judged} {before at : ℕ} (i : Following f l facts v before at) where
-  pub following_stop : l.end ≤ at → v ≡ judge v (each_after f l facts)
+module _ {f : List ℕ} {l : Layout} {facts : ℕ → Kind → ℕ → List Fact} {before at : ℕ} (i : Following f l facts before at) where
+  pub following_stop : l.end ≤ at → Ok tt ≡ first_fault (each_after f l facts)
   following_stop h = walking_stop i.walking h
 
   -- `before` is the record before this one
   is_before : at < l.end → before ≡ record_before f l at
   is_before h = sym (i.onward_is at (omega arith) ∙ before_here (size_at f l) l.end (size_at_pos f l) before at h)
 
+  -- past a record, to the next one
+  further : {k : Kind} {n : ℕ} → at < l.end → k ≡ kind_at l at → IsSize f k at n → (x : ℕ) → at + n ≤ x → record_before f l x ≡ before_in at (starts_from (size_at f l) l.end (at + n)) x
+  further {k} {n} h kind size x far =
+      let z = size_at_pos f l at in
+      let is : n ≡ size_at f l at = size.is ∙ ap (λ (c : Kind). size_of f c at) kind in
+      i.onward_is x (omega arith)
+      ∙ before_later (size_at f l) l.end (size_at_pos f l) before at x h (λ q. omega arith)
+      ∙ ap (λ (y : ℕ). before_in at (starts_from (size_at f l) l.end (at + y)) x) (sym is)
+
   -- a record whose tests pass is passed over
   pub following_over :
-      {k : Kind} {t : Bool} {n : ℕ} → at < l.end → k ≡ kind_at l at → t ≡ all_tests (facts before k at) → not t ≡ false → IsSize f k at n
-      → Following f l facts v at (at + n)
+      {k : Kind} {t : Bool} {n : ℕ} → at < l.end → k ≡ kind_at l at → t ≡ all_tests (facts before k at) → t ≡ true → IsSize f k at n
+      → Following f l facts at (at + n)
   following_over {k} {t} {n} h kind e holds size = record {
     walking = walking_over i.walking h kind (e ∙ ap (λ (b : ℕ). all_tests (facts b k at)) (is_before h)) holds size;
-    onward_is = λ x far.
-        let z = size_at_pos f l at in
-        let is : n ≡ size_at f l at = size.is ∙ ap (λ (c : Kind). size_of f c at) kind in
-        i.onward_is x (omega arith)
-        ∙ before_later (size_at f l) l.end (size_at_pos f l) before at x h (λ q. omega arith)
-        ∙ ap (λ (y : ℕ). before_in at (starts_from (size_at f l) l.end (at + y)) x) (sym is);
+    onward_is = further h kind size;
   }
 
-  -- at the first whose tests do not, its facts are the verdict
-  pub following_fault :
-      {k : Kind} {t : Bool} {r : Judged} → at < l.end → k ≡ kind_at l at → t ≡ all_tests (facts before k at) → not t ≡ true → r ≡ judge v (facts before k at)
-      → r ≡ judge v (each_after f l facts)
-  following_fault {k} {t} {r} h kind e fails judged =
-      let b = is_before h in
-      walking_fault i.walking h kind (e ∙ ap (λ (y : ℕ). all_tests (facts y k at)) b) fails (judged ∙ ap (λ (y : ℕ). judge v (facts y k at)) b)
+  -- the same of a loop that judges each record, whose first fault is w
+  module _ {k : Kind} {w : Judged} (h : at < l.end) (kind : k ≡ kind_at l at) (judged : w ≡ first_fault (facts before k at)) where
+    own : w ≡ first_fault (facts (record_before f l at) k at)
+    own = judged ∙ ap (λ (y : ℕ). first_fault (facts y k at)) (is_before h)
+
+    pub following_on : {n : ℕ} → w ≡ Ok tt → IsSize f k at n → Following f l facts at (at + n)
+    following_on e size = record { walking = walking_on i.walking h kind own e size; onward_is = further h kind size }
+
+    pub following_refused : (m : Mark) → w ≡ Err m → Err m ≡ first_fault (each_after f l facts)
+    following_refused m e = walking_refused i.walking h kind own m e

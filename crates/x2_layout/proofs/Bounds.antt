@@ -2,14 +2,14 @@
 -- none.
 use Prim.Native.Nat.{ℕ, ◌≤◌}
 use mathlib.Core.Path.{◌≡◌, ◌∙◌, sym, ap}
-use mathlib.Core.Bool.{Bool, true, false, not, cond}
+use Rattle.std.specs.Prelude.{Ok}
+use mathlib.Core.Bool.{Bool, true, false, cond}
 use mathlib.Core.List.{List, []}
 use mathlib.Core.Logic.{◌↔◌}
 use lib.ListN.{length}
 use native.Mathlib.Omega.{arith}
-use borrow.Author.Tests.{not-true, not-false}
-use Rattle.verdict.specs.declared.Judged.{Judged}
-use Rattle.verdict.specs.Facts.{Fact, judge, test}
+use Rattle.verdict.specs.Verdicts.{Judged}
+use Rattle.verdict.specs.Facts.{Fact, first_fault, test}
 use Rattle.verdict.proofs.Facts.{tested}
 use Rattle.x2_layout.specs.declared.Layout.{Layout}
 use Rattle.x2_layout.specs.inner.Bounds.{place_most, bounded, Bounded, if_bounded}
@@ -26,20 +26,21 @@ module _ (l : Layout) where
         λ b. t.1 (b.n, (b.k, (b.starts, (b.ends, b.end)))),
       )
 
-  asked : (v : Judged) (fs : List Fact) (t : Bool) → test (bounded l) ≡ t → judge v (if_bounded l fs) ≡ judge v (cond t fs [])
+  asked : (fs : List Fact) (t : Bool) → test (bounded l) ≡ t → first_fault (if_bounded l fs) ≡ first_fault (cond t fs [])
   unfolding if_bounded
-  asked v fs t e = ap (λ (b : Bool). judge v (cond b fs [])) e
+  asked fs t e = ap (λ (b : Bool). first_fault (cond b fs [])) e
 
-  pub all_asked : (v : Judged) (fs : List Fact) → Bounded l → judge v (if_bounded l fs) ≡ judge v fs
-  all_asked v fs b = asked v fs true (bounded_iff.1 b)
+  pub all_asked : (fs : List Fact) → Bounded l → first_fault (if_bounded l fs) ≡ first_fault fs
+  all_asked fs b = asked fs true (bounded_iff.1 b)
 
   -- a check that first asks `is_bounded`, whose answer is t, and goes on where it says yes
   module _ (t : Bool) (is : t ≡ test (bounded l)) where
-    pub none_judged : not t ≡ true → (v : Judged) (fs : List Fact) → v ≡ judge v (if_bounded l fs)
-    none_judged e v fs = sym (asked v fs false (sym is ∙ not-true t e))
+    pub none_asked : t ≡ false → (fs : List Fact) → Ok tt ≡ first_fault (if_bounded l fs)
+    unfolding first_fault
+    none_asked e fs = sym (asked fs false (sym is ∙ e))
 
-    pub is_bounded : not t ≡ false → Bounded l
-    is_bounded e = bounded_iff.0 (sym is ∙ not-false t e)
+    pub is_bounded : t ≡ true → Bounded l
+    is_bounded e = bounded_iff.0 (sym is ∙ e)
 
-    pub all_judged : not t ≡ false → (v r : Judged) (fs : List Fact) → r ≡ judge v fs → r ≡ judge v (if_bounded l fs)
-    all_judged e v r fs p = p ∙ sym (all_asked v fs (is_bounded e))
+    pub all_judged : t ≡ true → (r : Judged) (fs : List Fact) → r ≡ first_fault fs → r ≡ first_fault (if_bounded l fs)
+    all_judged e r fs p = p ∙ sym (all_asked fs (is_bounded e))

@@ -1,6 +1,5 @@
 pub mod Reading
 pub mod Records
-pub mod Checks
 pub mod Walks
 pub mod Obeys
 pub mod Regions

@@ -4,14 +4,13 @@ use mathlib.Core.List.{List, [], ◌∷◌, ◌++◌, flat_map}
 use Rattle.octets.specs.declared.Width.TheVariants.{One, Two}
 use Rattle.verdict.specs.Facts.{Fact, first_fault}
 use Rattle.verdict.specs.Walk.{starts_from}
-use Rattle.verdict.specs.declared.Judged.{Judged}
-use Rattle.verdict.specs.declared.Judged.TheVariants.{Accepted, Refused}
+use Rattle.verdict.specs.Verdicts.{Judged}
+use Rattle.std.specs.Prelude.{Ok, Err}
 use Rattle.verdict.specs.declared.Reason.TheVariants as reason
 use Rattle.rules.specs.Rules.{is_number, between, fits}
 use Rattle.x2_records.specs.Places.{boundary_size}
 use Rattle.x2_layout.specs.declared.Layout.{Layout}
-use Rattle.x2_layout.specs.declared.Shape.{Shape}
-use Rattle.x2_layout.specs.declared.Shape.TheVariants.{Found, Faulty}
+use Rattle.x2_layout.specs.Results.{Shape}
 use Rattle.x2_layout.specs.Places.{start_count_at, entry_offset, header_entry_size, start_entries_at, end_count_at, end_entries_at, groups_at}
 use Rattle.x2_layout.specs.Layout.{yard_offsets, layout_of}
 unfoldable pub use Rattle.x2_layout.specs.Groups.{balise_bytes}
@@ -57,8 +56,8 @@ layout_facts f l =
 -- ---- the layout that is found, or the first fault
 
 unfoldable pub shaped : Judged → Layout → Shape
-shaped Accepted l = Found l
-shaped (Refused m) l = Faulty m
+shaped (Ok tt) l = Ok l
+shaped (Err m) l = Err m
 
 unfoldable pub shape_of : List ℕ → Shape
 shape_of f = shaped (first_fault (layout_facts f (layout_of f))) (layout_of f)

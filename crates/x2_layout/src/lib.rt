@@ -1,11 +1,10 @@
 // X.2's layout (01, 'X.2, fixed application' and 'Layout faults'): where the records of a file stand, the first fault of that, and the
 // records one after the other.
-#![tactic(auto)]
+#![tactic(auto, unfolding(verdict::specs::Facts::first_fault))]
 
 use envelope::MOST_LENGTH;
 use octets::Width;
 use tables::Field;
-use verdict::Mark;
 
 mod balises;
 mod faults;
@@ -39,14 +38,8 @@ pub struct Layout {
     pub end: usize,
 }
 
-// The layout of a file, or its first fault.
-#[derive(Clone, Copy)]
-pub enum Shape {
-    Found(Layout),
-    Faulty(Mark),
-}
-
 // What the records of a group are: of one size, or balises, each of its own size.
+// Stays (1): `None` in the place of `Balises` would not say what is walked.
 #[derive(Clone, Copy)]
 pub enum Made {
     Fixed(usize),
@@ -54,6 +47,7 @@ pub enum Made {
 }
 
 // Whose groups they are: X.2's five, or X.3's, all of elements.
+// Stays (7): a closed choice of two headers, which one match takes apart; `made_of` (01: X2.header.1) names both.
 #[derive(Clone, Copy)]
 pub enum Grouping {
     Yard,
@@ -92,6 +86,7 @@ pub const OFFSET_SIZE: usize = 2;
 
 pub const YARD_GROUPS: usize = 5;
 
+// Stays (1): they count the offsets of one header, as the loop over either file's groups does; an enum would be made a number at each.
 pub const TURNOUTS: usize = 0;
 
 pub const BALISES: usize = 1;

@@ -9,6 +9,7 @@ use octets::byte_after;
 use x2_records::{Balise, Boundary, Joint, Kind, Siding, Signal, Turnout};
 
 // The kind of the record that starts at a place, by the region that the place lies in.
+#[tactic(auto, unfolding(crate::specs::Records::kind_at))]
 pub fn kind_at(l: Layout, at: usize) -> Kind
     ensures { result ≡ kind_at l at }
 {
@@ -34,15 +35,17 @@ pub fn kind_at(l: Layout, at: usize) -> Kind
 }
 
 // How many bytes the balise at a place has: its size byte, and never under 16.
+#[tactic(auto, unfolding(crate::specs::Groups::balise_bytes))]
 pub fn balise_bytes(f: &[u8], at: usize) -> usize
     ensures value { result ≡ balise_bytes f.now at }
     ensures lower_bound { (balise_size ≤ result) × (result < 256) }
 {
     let n = byte_after(f, at, Balise::SIZE_BYTE.0 as usize);
-    if Balise::SIZE < n { n } else { Balise::SIZE }
+    n.max(Balise::SIZE)
 }
 
 // How many bytes the record of a kind at a place has.
+#[tactic(auto, unfolding(crate::specs::Records::size_of))]
 pub fn size_of(f: &[u8], k: Kind, at: usize) -> usize
     ensures { IsSize f.now k at result }
 {

@@ -1,7 +1,6 @@
-// The targets of X.2's links (01, 'Links'): check 8 of a file whose layout was found; crate x2_returns has check 9. The check takes the
-// verdict so far and goes on with its facts, in byte order. A record is tested as a whole, and goes fact by fact only where that fails.
-// Where a record's links stand comes from its table, as one value (`Kind::links`).
-#![tactic(auto)]
+// The targets of X.2's links (01, 'Links'): check 8 of a file whose layout was found; crate x2_returns has check 9. The facts go in
+// byte order, and the first that fails is the answer. Where a record's links stand comes from its table, as one value (`Kind::links`).
+#![tactic(auto, unfolding(verdict::specs::Facts::first_fault))]
 
 mod marks;
 mod named;

@@ -28,13 +28,9 @@ pub fn may_link(f: &[u8], k: Kind, at: u32) -> bool
     ensures { result ≡ test (linkable f.now k at) }
 {
     match k {
-        Kind::StartBoundary => true,
-        Kind::EndBoundary => true,
-        Kind::Turnout => true,
         Kind::Balise => is_first(f, at),
-        Kind::Signal => true,
-        Kind::Joint => true,
         Kind::Siding => false,
+        _ => true,
     }
 }
 
@@ -59,6 +55,7 @@ pub fn mark_targets(f: &[u8], l: Layout, marks: &mut [u8; CELLS])
 {
     let end = l.end;
     let mut at = l.starts;
+    // Stays (3): no plainer; a step is the size of the record just read, which no range counts by, and an iterator of our own is longer.
     while at < end {
         let k = kind_at(l, at);
         let mark = mark_if(may_link(f, k, at as u32), at);

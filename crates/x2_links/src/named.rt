@@ -16,6 +16,7 @@ pub fn may_name(f: &[u8], l: Layout, x: usize) -> bool
         return false;
     }
     let mut at = l.starts;
+    // Stays (3): no plainer; a step is the size of the record just read, which no range counts by, and an iterator of our own is longer.
     while at < x {
         at = at + size_of(f, kind_at(l, at), at);
     }

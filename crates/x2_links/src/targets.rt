@@ -1,6 +1,6 @@
 // The targets of the links: 8 in 01's table.
 ghost use Rattle.std.specs.Prelude.{◌≡◌, [], ◌∷◌};
-ghost use Rattle.verdict.specs.Facts.{all_tests, judge};
+ghost use Rattle.verdict.specs.Facts.{first_fault};
 ghost use Rattle.x2_records.specs.Records.{places_in};
 ghost use Rattle.x2_layout.specs.inner.Bounds.{Bounded, if_bounded};
 ghost use Rattle.x2_links.specs.Links.{target, linked, targets, record_targets, target_facts};
@@ -9,149 +9,88 @@ ghost use Rattle.x2_links.specs.inner.Marks.{Targets};
 use crate::marks::{CELLS, is_target, mark_targets};
 use envelope::NUMBER_MOST;
 use octets::u16_at;
-use tables::{lies_between, number_between};
-use verdict::{Judged, Reason, Rule, also_fact};
+use tables::number_between;
+use verdict::{Mark, Reason, Rule, fact};
 use x2_layout::{Layout, is_bounded, kind_at, size_of};
 use x2_records::{Boundary, Kind, LINK_SIZE, Links};
 
-// The link at p, of the record at `at`, is 0, or names a record that it may, and not its own.
-fn target_obeys(f: &[u8], l: Layout, marks: &[u8; CELLS], at: u32, p: usize) -> bool
+// The target of the link at p, of the record at `at`: it is 0, or names a record that it may, and not its own.
+fn target_fact(f: &[u8], l: Layout, marks: &[u8; CELLS], at: u32, p: usize) -> Result<(), Mark>
     requires { Targets f.now l marks.now }
-    ensures { result ≡ all_tests (target f.now l at p ∷ []) }
+    ensures { result ≡ first_fault (target f.now l at p ∷ []) }
 {
     let x = u16_at(f, p);
-    (x == 0) | ((x != at as usize) & is_target(marks, x as u16))
-}
-
-// The target of the link at p, of the record at `at`.
-fn target_fact(v: Judged, f: &[u8], l: Layout, marks: &[u8; CELLS], at: u32, p: usize) -> Judged
-    requires { Targets f.now l marks.now }
-    ensures { result ≡ judge v (target f.now l at p ∷ []) }
-{
-    let ok = target_obeys(f, l, marks, at, p);
+    let ok = (x == 0) | ((x != at as usize) & is_target(marks, x as u16));
     let rule = Rule::NamesObject;
-    also_fact(v, ok, Reason::Target, at as usize, p, LINK_SIZE, rule)
-}
-
-// A boundary has a link.
-fn is_linked(f: &[u8], k: Kind, at: u32) -> bool
-    ensures { result ≡ all_tests (linked f.now k at) }
-{
-    match k {
-        Kind::StartBoundary => lies_between(f, at, Boundary::LINK, 1, NUMBER_MOST),
-        Kind::EndBoundary => lies_between(f, at, Boundary::LINK, 1, NUMBER_MOST),
-        Kind::Turnout => true,
-        Kind::Balise => true,
-        Kind::Signal => true,
-        Kind::Joint => true,
-        Kind::Siding => true,
-    }
+    fact(ok, Reason::Target, at as usize, p, LINK_SIZE, rule)
 }
 
 // 0 means no link; in a boundary it is 8.
-fn has_link(v: Judged, f: &[u8], k: Kind, at: u32) -> Judged
-    ensures { result ≡ judge v (linked f.now k at) }
+fn has_link(f: &[u8], k: Kind, at: u32) -> Result<(), Mark>
+    ensures { result ≡ first_fault (linked f.now k at) }
 {
     match k {
-        Kind::StartBoundary => {
-            number_between(v, f, Reason::Target, at, Boundary::LINK, 1, NUMBER_MOST)
+        Kind::StartBoundary | Kind::EndBoundary => {
+            number_between(f, Reason::Target, at, Boundary::LINK, 1, NUMBER_MOST)
         }
-        Kind::EndBoundary => {
-            number_between(v, f, Reason::Target, at, Boundary::LINK, 1, NUMBER_MOST)
-        }
-        Kind::Turnout => v,
-        Kind::Balise => v,
-        Kind::Signal => v,
-        Kind::Joint => v,
-        Kind::Siding => v,
-    }
-}
-
-// The targets of a record's links obey.
-fn link_targets_obey(f: &[u8], l: Layout, marks: &[u8; CELLS], at: u32, links: Links) -> bool
-    requires { Targets f.now l marks.now }
-    ensures { result ≡ all_tests (targets f.now l at (places_in links)) }
-{
-    match links {
-        Links::Nothing => true,
-        Links::One(p) => target_obeys(f, l, marks, at, p),
-        Links::Two(p, q) => target_obeys(f, l, marks, at, p) & target_obeys(f, l, marks, at, q),
-        Links::Three(p, q, r) => {
-            target_obeys(f, l, marks, at, p)
-                & (target_obeys(f, l, marks, at, q) & target_obeys(f, l, marks, at, r))
-        }
+        _ => Ok(()),
     }
 }
 
 // The targets of a record's links.
-fn link_targets(
-    v: Judged,
-    f: &[u8],
-    l: Layout,
-    marks: &[u8; CELLS],
-    at: u32,
-    links: Links,
-) -> Judged
+fn link_targets(f: &[u8], l: Layout, marks: &[u8; CELLS], at: u32, links: Links) -> Result<(), Mark>
     requires { Targets f.now l marks.now }
-    ensures { result ≡ judge v (targets f.now l at (places_in links)) }
+    ensures { result ≡ first_fault (targets f.now l at (places_in links)) }
 {
     match links {
-        Links::Nothing => v,
-        Links::One(p) => target_fact(v, f, l, marks, at, p),
+        Links::Nothing => Ok(()),
+        Links::One(p) => target_fact(f, l, marks, at, p),
         Links::Two(p, q) => {
-            let w = target_fact(v, f, l, marks, at, p);
-            target_fact(w, f, l, marks, at, q)
+            target_fact(f, l, marks, at, p)?;
+            target_fact(f, l, marks, at, q)
         }
         Links::Three(p, q, r) => {
-            let mut w = target_fact(v, f, l, marks, at, p);
-            w = target_fact(w, f, l, marks, at, q);
-            target_fact(w, f, l, marks, at, r)
+            target_fact(f, l, marks, at, p)?;
+            target_fact(f, l, marks, at, q)?;
+            target_fact(f, l, marks, at, r)
         }
     }
-}
-
-// The targets of one record's links obey.
-fn record_targets_obey(f: &[u8], l: Layout, marks: &[u8; CELLS], k: Kind, at: u32) -> bool
-    requires { Targets f.now l marks.now }
-    ensures { result ≡ all_tests (record_targets f.now l k at) }
-{
-    is_linked(f, k, at) & link_targets_obey(f, l, marks, at, k.links(at))
 }
 
 // The targets of one record's links.
-fn record_targets(v: Judged, f: &[u8], l: Layout, marks: &[u8; CELLS], k: Kind, at: u32) -> Judged
+fn record_targets(f: &[u8], l: Layout, marks: &[u8; CELLS], k: Kind, at: u32) -> Result<(), Mark>
     requires { Targets f.now l marks.now }
-    ensures { result ≡ judge v (record_targets f.now l k at) }
+    ensures { result ≡ first_fault (record_targets f.now l k at) }
 {
-    let w = has_link(v, f, k, at);
-    link_targets(w, f, l, marks, at, k.links(at))
+    has_link(f, k, at)?;
+    link_targets(f, l, marks, at, k.links(at))
 }
 
 // The targets of every record's links: those of the first record that does not obey are the verdict.
-fn all_targets(v: Judged, f: &[u8], l: Layout, marks: &[u8; CELLS]) -> Judged
+fn all_targets(f: &[u8], l: Layout, marks: &[u8; CELLS]) -> Result<(), Mark>
     requires { Targets f.now l marks.now × Bounded l }
-    ensures { result ≡ judge v (target_facts f.now l) }
+    ensures { result ≡ first_fault (target_facts f.now l) }
 {
     let end = l.end;
     let mut at = l.starts;
+    // Stays (3): no plainer; a step is the size of the record just read, which no range counts by, and an iterator of our own is longer.
     while at < end {
         let k = kind_at(l, at);
-        if !record_targets_obey(f, l, marks, k, at as u32) {
-            return record_targets(v, f, l, marks, k, at as u32);
-        }
+        record_targets(f, l, marks, k, at as u32)?;
         at = at + size_of(f, k, at);
     }
-    v
+    Ok(())
 }
 
-// The verdict so far, then the targets of all links. A layout that no file has is not looked at.
-pub fn check_targets(v: Judged, f: &[u8], l: Layout) -> Judged
-    ensures { result ≡ judge v (if_bounded l (target_facts f.now l)) }
+// The targets of all links. A layout that no file has is not looked at.
+pub fn check_targets(f: &[u8], l: Layout) -> Result<(), Mark>
+    ensures { result ≡ first_fault (if_bounded l (target_facts f.now l)) }
 {
     if !is_bounded(l) {
-        return v;
+        return Ok(());
     }
+    // Stays (6): fixed room on the stack, since a library crate uses no heap (project rule).
     let mut marks = [0u8; CELLS];
     mark_targets(f, l, &mut marks);
-    all_targets(v, f, l, &marks)
+    all_targets(f, l, &marks)
 }

@@ -4,7 +4,6 @@ use mathlib.Core.Path.{◌≡◌, refl}
 use mathlib.Core.List.{List, [], ◌∷◌}
 use Rattle.octets.specs.Octets.{num_at}
 use Rattle.x2_records.specs.declared.Kind.TheVariants as kind
-use Rattle.x2_records.specs.declared.turnouts.Turnout.{Turnout}
 use Rattle.x2_records.specs.Tables.{direction_of, turnout_at, facing_bits, duty_bits}
 use Rattle.x2_records.specs.Records.{link_places}
 

@@ -9,13 +9,16 @@ use tables::{Bits, Field, bits_of, number_of};
 #[derive(Clone, Copy)]
 pub enum Nature {
     // 0: 虚拟应答器, which stands in the data alone
-    Virtual,
+    Virtual = 0,
     // 1: 实体应答器, which lies in the track
-    Physical,
+    Physical = 1,
 }
 
 impl Nature {
     // The nature that an attribute byte gives. Every number but 0 counts as 1; an accepted file has no other.
+    // Stays (4): it answers for every byte, as `record_at` and `enums_kept` have it; a TryFrom would refuse some.
+    // Stays (2): each reads bits of its own, so no law of one trait says `of (number k) = k`.
+    #[tactic(auto, unfolding(crate::specs::Tables::nature_of))]
     pub fn of(b: usize) -> Self
         ensures { result ≡ nature_of b }
     {
@@ -26,13 +29,11 @@ impl Nature {
     }
 
     // The table's number.
+    // Stays (4): it names what it gives, where `usize::from` would not.
     pub fn number(self) -> usize
         ensures { result ≡ nature_number self }
     {
-        match self {
-            Nature::Virtual => 0,
-            Nature::Physical => 1,
-        }
+        self as usize
     }
 }
 
@@ -41,13 +42,16 @@ impl Nature {
 #[derive(Clone, Copy)]
 pub enum GroupDirection {
     // 1: 相反, against rising positions
-    Opposite,
+    Opposite = 1,
     // 2: 相同, with rising positions
-    Same,
+    Same = 2,
 }
 
 impl GroupDirection {
     // The direction that an attribute byte gives. Every number but 1 counts as 2; an accepted file has no other.
+    // Stays (4): it answers for every byte, as `record_at` and `enums_kept` have it; a TryFrom would refuse some.
+    // Stays (2): each reads bits of its own, so no law of one trait says `of (number k) = k`.
+    #[tactic(auto, unfolding(crate::specs::Tables::group_direction_of))]
     pub fn of(b: usize) -> Self
         ensures { result ≡ group_direction_of b }
     {
@@ -58,13 +62,11 @@ impl GroupDirection {
     }
 
     // The table's number.
+    // Stays (4): it names what it gives, where `usize::from` would not.
     pub fn number(self) -> usize
         ensures { result ≡ group_direction_number self }
     {
-        match self {
-            GroupDirection::Opposite => 1,
-            GroupDirection::Same => 2,
-        }
+        self as usize
     }
 }
 
@@ -152,6 +154,7 @@ impl Balise {
     }
 
     // The balise that starts at a place.
+    #[tactic(auto, unfolding(crate::specs::Tables::balise_at))]
     pub fn read(s: &[u8], at: u16) -> Self
         ensures { result ≡ balise_at s.now at }
     {

@@ -8,12 +8,14 @@ use tables::{Field, number_of};
 #[derive(Clone, Copy)]
 pub struct Boundary {
     // 条目类型: the type byte as it stands: which line the boundary is on, and whether it starts or ends it
+    // Stays (1): `boundary_at` gives the byte of any file, also one that no type has.
     pub entry: usize,
     // 相邻数据对象的字节偏移: the next object on the boundary's track
     pub link: usize,
     // 相邻车站编号: the station beyond the boundary, 0 for none
     pub neighbour_station: usize,
     // 相邻车站数据边界类型: the type byte of the boundary there
+    // Stays (1): as the entry.
     pub neighbour_type: usize,
     // 相邻车站轨道号: the track there, 0 for none
     pub neighbour_track: usize,
@@ -55,6 +57,7 @@ impl Boundary {
     pub const TRACK: Field = Field(11, Width::One);
 
     // The boundary that starts at a place.
+    #[tactic(auto, unfolding(crate::specs::Tables::boundary_at))]
     pub fn read(s: &[u8], at: u16) -> Self
         ensures { result ≡ boundary_at s.now at }
     {

@@ -41,6 +41,7 @@ impl Joint {
     pub const TRACK: Field = Field(17, Width::One);
 
     // The joint that starts at a place.
+    #[tactic(auto, unfolding(crate::specs::Tables::joint_at))]
     pub fn read(s: &[u8], at: u16) -> Self
         ensures { result ≡ joint_at s.now at }
     {

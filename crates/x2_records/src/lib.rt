@@ -108,6 +108,7 @@ pub enum Record {
 
 impl Record {
     // The record of a kind that starts at a place.
+    #[tactic(auto, unfolding(crate::specs::Records::record_at))]
     pub fn read(s: &[u8], k: Kind, at: u16) -> Self
         ensures { result ≡ record_at s.now k at }
     {

@@ -45,6 +45,7 @@ impl Siding {
     pub const DOWN_SIGNAL: NameField = NameField(24);
 
     // The siding that starts at a place.
+    #[tactic(auto, unfolding(crate::specs::Tables::siding_at))]
     pub fn read(s: &[u8], at: u16) -> Self
         ensures { result ≡ siding_at s.now at }
     {

@@ -10,15 +10,18 @@ use tables::{Bits, Field, NameField, bits_of, name_of, number_of};
 #[derive(Clone, Copy)]
 pub enum Facing {
     // 0: 无方向, for no direction
-    Neither,
+    Neither = 0,
     // 1: 下行, for the down direction
-    Down,
+    Down = 1,
     // 2: 上行, for the up direction
-    Up,
+    Up = 2,
 }
 
 impl Facing {
     // The direction that a signal byte gives. Every number but 0 and 1 counts as 2; an accepted file has no other.
+    // Stays (4): it answers for every byte, as `record_at` and `enums_kept` have it; a TryFrom would refuse some.
+    // Stays (2): each reads bits of its own, so no law of one trait says `of (number k) = k`.
+    #[tactic(auto, unfolding(crate::specs::Tables::facing_of))]
     pub fn of(b: usize) -> Self
         ensures { result ≡ facing_of b }
     {
@@ -30,14 +33,11 @@ impl Facing {
     }
 
     // The table's number.
+    // Stays (4): it names what it gives, where `usize::from` would not.
     pub fn number(self) -> usize
         ensures { result ≡ facing_number self }
     {
-        match self {
-            Facing::Neither => 0,
-            Facing::Down => 1,
-            Facing::Up => 2,
-        }
+        self as usize
     }
 }
 
@@ -45,19 +45,22 @@ impl Facing {
 #[derive(Clone, Copy)]
 pub enum Duty {
     // 1: 进站信号机, for entering the station
-    Entry,
+    Entry = 1,
     // 2: 出站信号机, for leaving the station
-    Exit,
+    Exit = 2,
     // 3: 通过信号机, for passing on the line
-    Passing,
+    Passing = 3,
     // 4: 进路信号机, for a route inside the station
-    Route,
+    Route = 4,
     // 5: 调车信号机, for shunting
-    Shunting,
+    Shunting = 5,
 }
 
 impl Duty {
     // The duty that a signal byte gives. Every number but 1 to 4 counts as 5; an accepted file has no other.
+    // Stays (4): it answers for every byte, as `record_at` and `enums_kept` have it; a TryFrom would refuse some.
+    // Stays (2): each reads bits of its own, so no law of one trait says `of (number k) = k`.
+    #[tactic(auto, unfolding(crate::specs::Tables::duty_of))]
     pub fn of(b: usize) -> Self
         ensures { result ≡ duty_of b }
     {
@@ -71,16 +74,11 @@ impl Duty {
     }
 
     // The table's number.
+    // Stays (4): it names what it gives, where `usize::from` would not.
     pub fn number(self) -> usize
         ensures { result ≡ duty_number self }
     {
-        match self {
-            Duty::Entry => 1,
-            Duty::Exit => 2,
-            Duty::Passing => 3,
-            Duty::Route => 4,
-            Duty::Shunting => 5,
-        }
+        self as usize
     }
 }
 
@@ -132,6 +130,7 @@ impl Signal {
     pub const LOW: Bits = Bits(1, 16);
 
     // The signal that starts at a place.
+    #[tactic(auto, unfolding(crate::specs::Tables::signal_at))]
     pub fn read(s: &[u8], at: u16) -> Self
         ensures { result ≡ signal_at s.now at }
     {

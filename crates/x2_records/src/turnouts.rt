@@ -9,13 +9,16 @@ use tables::{Field, number_of};
 #[derive(Clone, Copy)]
 pub enum Direction {
     // 0: with falling positions
-    Decreasing,
+    Decreasing = 0,
     // 1: with rising positions
-    Increasing,
+    Increasing = 1,
 }
 
 impl Direction {
     // The direction that a byte gives. Every byte but 0 counts as 1; an accepted file has no other.
+    // Stays (4): it answers for every byte, as `record_at` and `enums_kept` have it; a TryFrom would refuse some.
+    // Stays (2): each reads bits of its own, so no law of one trait says `of (number k) = k`.
+    #[tactic(auto, unfolding(crate::specs::Tables::direction_of))]
     pub fn of(b: usize) -> Self
         ensures { result ≡ direction_of b }
     {
@@ -26,13 +29,11 @@ impl Direction {
     }
 
     // The table's number.
+    // Stays (4): it names what it gives, where `usize::from` would not.
     pub fn number(self) -> usize
         ensures { result ≡ direction_number self }
     {
-        match self {
-            Direction::Decreasing => 0,
-            Direction::Increasing => 1,
-        }
+        self as usize
     }
 }
 
@@ -95,6 +96,7 @@ impl Turnout {
     pub const REVERSE_TRACK: Field = Field(23, Width::One);
 
     // The turnout that starts at a place.
+    #[tactic(auto, unfolding(crate::specs::Tables::turnout_at))]
     pub fn read(s: &[u8], at: u16) -> Self
         ensures { result ≡ turnout_at s.now at }
     {

@@ -1,16 +1,16 @@
 // The returns of X.2's links, doubled links (01, 'Links') and the links of a group's later balises (02, ticket 2): check 9 of a file whose
 // layout was found. The definitions are those of crate x2_links.
-#![tactic(auto)]
+#![tactic(auto, unfolding(verdict::specs::Facts::first_fault))]
 
 ghost use Rattle.std.specs.Prelude.{◌≡◌, [], ◌∷◌};
-ghost use Rattle.verdict.specs.Facts.{test, all_tests, also, judge};
+ghost use Rattle.verdict.specs.Facts.{test, all_tests, alone, first_fault};
 ghost use Rattle.x2_records.specs.Records.{places_in};
 ghost use Rattle.x2_layout.specs.inner.Bounds.{Bounded, if_bounded};
 ghost use Rattle.x2_links.specs.Links.{some_names, return_mark, back, distinct, returns, same_link, same_links, is_member, record_returns, return_facts};
 
 use octets::u16_at;
 use tables::{bits_of, number_of, place_of};
-use verdict::{Judged, Reason, Rule, also_fact};
+use verdict::{Mark, Reason, Rule, fact};
 use x2_layout::{Layout, is_bounded, kind_at, size_of};
 use x2_records::{Balise, Kind, LINK_SIZE, Links};
 
@@ -28,133 +28,80 @@ fn some_names(f: &[u8], links: Links, at: usize) -> bool
     }
 }
 
-// The verdict so far, then a rule of the link at p, of the record at `at`.
-fn return_fact(v: Judged, ok: bool, at: u32, p: usize, rule: Rule) -> Judged
-    ensures { result ≡ also v ok (return_mark at p rule) }
+// A rule of the link at p, of the record at `at`.
+fn return_fact(ok: bool, at: u32, p: usize, rule: Rule) -> Result<(), Mark>
+    ensures { result ≡ alone ok (return_mark at p rule) }
 {
-    also_fact(v, ok, Reason::Return, at as usize, p, LINK_SIZE, rule)
+    fact(ok, Reason::Return, at as usize, p, LINK_SIZE, rule)
 }
 
 // The link at p, of the record at `at`, is 0, or is returned.
-fn back_obeys(f: &[u8], l: Layout, at: u32, p: usize) -> bool
-    ensures { result ≡ all_tests (back f.now l at p ∷ []) }
+fn back_fact(f: &[u8], l: Layout, at: u32, p: usize) -> Result<(), Mark>
+    ensures { result ≡ first_fault (back f.now l at p ∷ []) }
 {
     let x = u16_at(f, p);
     let k = kind_at(l, x);
     let returned = some_names(f, k.links(x as u32), at as usize);
-    (x == 0) | returned
-}
-
-// The link at p, of the record at `at`, is returned.
-fn back_fact(v: Judged, f: &[u8], l: Layout, at: u32, p: usize) -> Judged
-    ensures { result ≡ judge v (back f.now l at p ∷ []) }
-{
-    return_fact(v, back_obeys(f, l, at, p), at, p, Rule::IsReturned)
+    return_fact((x == 0) | returned, at, p, Rule::IsReturned)
 }
 
 // The link at p, of the record at `at`, is 0, or is another one than the link at q.
-fn distinct_obeys(f: &[u8], at: u32, p: usize, q: usize) -> bool
-    ensures { result ≡ all_tests (distinct f.now at p q ∷ []) }
+fn distinct_fact(f: &[u8], at: u32, p: usize, q: usize) -> Result<(), Mark>
+    ensures { result ≡ first_fault (distinct f.now at p q ∷ []) }
 {
     let x = u16_at(f, p);
     let y = u16_at(f, q);
-    (x == 0) | (y != x)
-}
-
-// The link at p is another one than the link at q.
-fn distinct_fact(v: Judged, f: &[u8], at: u32, p: usize, q: usize) -> Judged
-    ensures { result ≡ judge v (distinct f.now at p q ∷ []) }
-{
-    let ok = distinct_obeys(f, at, p, q);
-    return_fact(v, ok, at, p, Rule::NotDoubled(q))
-}
-
-// The returns of two links, the first links of a record, obey.
-fn two_returns_obey(f: &[u8], l: Layout, at: u32, p: usize, q: usize) -> bool
-    ensures { result ≡ all_tests (returns f.now l at [] (p ∷ q ∷ [])) }
-{
-    back_obeys(f, l, at, p) & (back_obeys(f, l, at, q) & distinct_obeys(f, at, q, p))
-}
-
-// The returns of two links, the first links of a record.
-fn two_returns(v: Judged, f: &[u8], l: Layout, at: u32, p: usize, q: usize) -> Judged
-    ensures { result ≡ judge v (returns f.now l at [] (p ∷ q ∷ [])) }
-{
-    let mut w = back_fact(v, f, l, at, p);
-    w = back_fact(w, f, l, at, q);
-    distinct_fact(w, f, at, q, p)
-}
-
-// The returns of a record's links obey.
-fn link_returns_obey(f: &[u8], l: Layout, at: u32, links: Links) -> bool
-    ensures { result ≡ all_tests (returns f.now l at [] (places_in links)) }
-{
-    match links {
-        Links::Nothing => true,
-        Links::One(p) => back_obeys(f, l, at, p),
-        Links::Two(p, q) => two_returns_obey(f, l, at, p, q),
-        Links::Three(p, q, r) => {
-            let two = two_returns_obey(f, l, at, p, q);
-            let back = back_obeys(f, l, at, r);
-            two & (back & (distinct_obeys(f, at, r, p) & distinct_obeys(f, at, r, q)))
-        }
-    }
+    return_fact((x == 0) | (y != x), at, p, Rule::NotDoubled(q))
 }
 
 // The returns of a record's links.
-fn link_returns(v: Judged, f: &[u8], l: Layout, at: u32, links: Links) -> Judged
-    ensures { result ≡ judge v (returns f.now l at [] (places_in links)) }
+fn link_returns(f: &[u8], l: Layout, at: u32, links: Links) -> Result<(), Mark>
+    ensures { result ≡ first_fault (returns f.now l at [] (places_in links)) }
 {
     match links {
-        Links::Nothing => v,
-        Links::One(p) => back_fact(v, f, l, at, p),
-        Links::Two(p, q) => two_returns(v, f, l, at, p, q),
+        Links::Nothing => Ok(()),
+        Links::One(p) => back_fact(f, l, at, p),
+        Links::Two(p, q) => {
+            back_fact(f, l, at, p)?;
+            back_fact(f, l, at, q)?;
+            distinct_fact(f, at, q, p)
+        }
         Links::Three(p, q, r) => {
-            let mut w = two_returns(v, f, l, at, p, q);
-            w = back_fact(w, f, l, at, r);
-            w = distinct_fact(w, f, at, r, p);
-            distinct_fact(w, f, at, r, q)
+            back_fact(f, l, at, p)?;
+            back_fact(f, l, at, q)?;
+            distinct_fact(f, at, q, p)?;
+            back_fact(f, l, at, r)?;
+            distinct_fact(f, at, r, p)?;
+            distinct_fact(f, at, r, q)
         }
     }
 }
 
-// The link at p is the link at q.
-fn same_link_obeys(f: &[u8], at: u32, p: usize, q: usize) -> bool
-    ensures { result ≡ all_tests (same_link f.now at p q ∷ []) }
-{
-    u16_at(f, p) == u16_at(f, q)
-}
-
 // The link at p, of the record at `at`, is the link at q.
-fn same_link(v: Judged, f: &[u8], at: u32, p: usize, q: usize) -> Judged
-    ensures { result ≡ judge v (same_link f.now at p q ∷ []) }
+fn same_link(f: &[u8], at: u32, p: usize, q: usize) -> Result<(), Mark>
+    ensures { result ≡ first_fault (same_link f.now at p q ∷ []) }
 {
-    let ok = same_link_obeys(f, at, p, q);
-    return_fact(v, ok, at, p, Rule::SameAs(p, q, LINK_SIZE))
+    let same = u16_at(f, p) == u16_at(f, q);
+    return_fact(same, at, p, Rule::SameAs(p, q, LINK_SIZE))
 }
 
 // Both links of a balise are those of the record at `before`.
+fn same_links(f: &[u8], before: u32, at: u32) -> Result<(), Mark>
+    ensures { result ≡ first_fault (same_links f.now before at) }
+{
+    let p = place_of(at, Balise::PREVIOUS);
+    let q = place_of(before, Balise::PREVIOUS);
+    same_link(f, at, p, q)?;
+    let s = place_of(at, Balise::NEXT);
+    let t = place_of(before, Balise::NEXT);
+    same_link(f, at, s, t)
+}
+
+// Whether both links of a balise are those of the record at `before`.
 pub fn same_links_obey(f: &[u8], before: u32, at: u32) -> bool
     ensures { result ≡ all_tests (same_links f.now before at) }
 {
-    let p = place_of(at, Balise::PREVIOUS);
-    let q = place_of(before, Balise::PREVIOUS);
-    let previous = same_link_obeys(f, at, p, q);
-    let s = place_of(at, Balise::NEXT);
-    let t = place_of(before, Balise::NEXT);
-    previous & same_link_obeys(f, at, s, t)
-}
-
-// The same, as facts.
-fn same_links(v: Judged, f: &[u8], before: u32, at: u32) -> Judged
-    ensures { result ≡ judge v (same_links f.now before at) }
-{
-    let p = place_of(at, Balise::PREVIOUS);
-    let q = place_of(before, Balise::PREVIOUS);
-    let w = same_link(v, f, at, p, q);
-    let s = place_of(at, Balise::NEXT);
-    let t = place_of(before, Balise::NEXT);
-    same_link(w, f, at, s, t)
+    same_links(f, before, at).is_ok()
 }
 
 // A record of a kind is a balise of place above 1.
@@ -162,61 +109,45 @@ pub fn is_member(f: &[u8], k: Kind, at: u32) -> bool
     ensures { result ≡ is_member f.now k at }
 {
     match k {
-        Kind::StartBoundary => false,
-        Kind::EndBoundary => false,
-        Kind::Turnout => false,
         Kind::Balise => bits_of(number_of(f, at, Balise::GROUP), Balise::RANK) != 0,
-        Kind::Signal => false,
-        Kind::Joint => false,
-        Kind::Siding => false,
+        _ => false,
     }
 }
 
-// The links of one record, after the one at `before`, obey.
-fn record_returns_obey(f: &[u8], l: Layout, before: u32, k: Kind, at: u32) -> bool
-    ensures { result ≡ all_tests (record_returns f.now l before k at) }
+// The links of one record, after the one at `before`.
+fn record_returns(f: &[u8], l: Layout, before: u32, k: Kind, at: u32) -> Result<(), Mark>
+    ensures { result ≡ first_fault (record_returns f.now l before k at) }
 {
     if is_member(f, k, at) {
-        return same_links_obey(f, before, at);
+        return same_links(f, before, at);
     }
-    link_returns_obey(f, l, at, k.links(at))
-}
-
-// The same, as facts.
-fn record_returns(v: Judged, f: &[u8], l: Layout, before: u32, k: Kind, at: u32) -> Judged
-    ensures { result ≡ judge v (record_returns f.now l before k at) }
-{
-    if is_member(f, k, at) {
-        return same_links(v, f, before, at);
-    }
-    link_returns(v, f, l, at, k.links(at))
+    link_returns(f, l, at, k.links(at))
 }
 
 // Every record's links, with the record before it: those of the first record that does not obey are the verdict.
-fn all_returns(v: Judged, f: &[u8], l: Layout) -> Judged
+fn all_returns(f: &[u8], l: Layout) -> Result<(), Mark>
     requires { Bounded l }
-    ensures { result ≡ judge v (return_facts f.now l) }
+    ensures { result ≡ first_fault (return_facts f.now l) }
 {
     let end = l.end;
     let mut before = 0;
     let mut at = l.starts;
+    // Stays (3): no plainer; a step is the size of the record just read, which no range counts by, and an iterator of our own is longer.
     while at < end {
         let k = kind_at(l, at);
-        if !record_returns_obey(f, l, before, k, at as u32) {
-            return record_returns(v, f, l, before, k, at as u32);
-        }
+        record_returns(f, l, before, k, at as u32)?;
         before = at as u32;
         at = at + size_of(f, k, at);
     }
-    v
+    Ok(())
 }
 
-// The verdict so far, then the returns of all links. A layout that no file has is not looked at.
-pub fn check_returns(v: Judged, f: &[u8], l: Layout) -> Judged
-    ensures { result ≡ judge v (if_bounded l (return_facts f.now l)) }
+// The returns of all links. A layout that no file has is not looked at.
+pub fn check_returns(f: &[u8], l: Layout) -> Result<(), Mark>
+    ensures { result ≡ first_fault (if_bounded l (return_facts f.now l)) }
 {
     if !is_bounded(l) {
-        return v;
+        return Ok(());
     }
-    all_returns(v, f, l)
+    all_returns(f, l)
 }

@@ -18,8 +18,7 @@ use Rattle.x2_verdict.specs.Facts.{verdict_of}
 use Rattle.x2_verdict.specs.Questions.{named_header_in, named_header_of, record_if, record_of}
 use Rattle.x2_verdict.specs.Answers.{named_header_values, named_header_answer, value_count, record_values, record_answer}
 use Rattle.x2_theorems.specs.Asked.{header_checks, record_checks}
-use Rattle.x2_verdict.specs.declared.NamedHeaderAnswer.TheVariants as header
-use Rattle.x2_verdict.specs.declared.RecordAnswer.TheVariants as answer
+use Rattle.std.specs.Prelude.{Ok, Err}
 
 module _ (f : List ℕ) where
   -- ---- the header
@@ -29,7 +28,7 @@ module _ (f : List ℕ) where
       → ((answer_number (named_header_answer (named_header_of f)) ≡ n) × (answer_place (named_header_answer (named_header_of f)) ≡ p)) ↔ Asked (verdict_of f) header_checks n p
   unfolding named_header_of
   header_asked n p =
-      asked_is header.Refused named_header_answer (verdict_of f) (header.Header (named_header_in f)) header_checks (λ t. (refl, refl))
+      asked_is Err named_header_answer (verdict_of f) (Ok (named_header_in f)) header_checks (λ t. (refl, refl))
       (λ e. (all_passed (named_header_values (named_header_in f))).exactly) n p
 
   -- ---- the record at x
@@ -48,5 +47,5 @@ module _ (f : List ℕ) where
   pub record_asked : (x n p : ℕ) → ((answer_number (record_answer (record_of f x)) ≡ n) × (answer_place (record_answer (record_of f x)) ≡ p)) ↔ Asked (verdict_of f) (record_checks f x) n p
   unfolding record_of
   record_asked x n p =
-      asked_is answer.Refused record_answer (verdict_of f) (record_if (test (is_start f (layout_of f) x)) f x) (record_checks f x) (λ t. (refl, refl))
+      asked_is Err record_answer (verdict_of f) (record_if (test (is_start f (layout_of f) x)) f x) (record_checks f x) (λ t. (refl, refl))
       (λ e. (record_own x (test (is_start f (layout_of f) x)) refl).exactly) n p

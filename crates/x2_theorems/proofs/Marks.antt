@@ -7,7 +7,7 @@ use mathlib.Core.List.{List, [], ◌∷◌, ◌++◌, flat_map, Memᴰ}
 use Rattle.verdict.specs.declared.Mark.{Mark}
 use Rattle.verdict.specs.declared.Reason.{Reason}
 use Rattle.verdict.specs.declared.Reason.TheVariants.{Layout, Field, Agreement, Target, Return}
-use Rattle.verdict.specs.declared.Judged.TheVariants.{Refused}
+use Rattle.std.specs.Prelude.{Ok, Err}
 use Rattle.verdict.specs.Facts.{Claim, test, Fact, fact, first_fault}
 use Rattle.verdict.proofs.Facts.{never}
 use Rattle.refusals.proofs.Sections.{Each, Speaks, each_append, each_flat}
@@ -28,12 +28,12 @@ use Rattle.x2_theorems.specs.Says.{NamesBefore, HeldFor, HeldOf}
 -- ---- a property of each fact
 
 -- what holds of each, holds of the one that is refused
-refused_each : (P : Mark → Type 0) (fs : List Fact) (m : Mark) → Each (λ c n. P n) fs → first_fault fs ≡ Refused m → P m
+refused_each : (P : Mark → Type 0) (fs : List Fact) (m : Mark) → Each (λ c n. P n) fs → first_fault fs ≡ Err m → P m
 unfolding first_fault
 refused_each P [] m h e = absurd (never m (sym e))
 refused_each P (fact c n ∷ fs) m h e = go (test c) e (refused_each P fs m h.1)
   where
-    go : (t : Bool) → cond t (first_fault fs) (Refused n) ≡ Refused m → (first_fault fs ≡ Refused m → P m) → P m
+    go : (t : Bool) → cond t (first_fault fs) (Err n) ≡ Err m → (first_fault fs ≡ Err m → P m) → P m
     go true e ih = ih e
     go false e ih = let x : n ≡ m = cc in subst P x h.0
 
@@ -140,5 +140,5 @@ facts_held f =
     )
 
 -- THEOREM
-pub refused_held : (f : List ℕ) (m : Mark) → judged_of f ≡ Refused m → HeldOf f m
+pub refused_held : (f : List ℕ) (m : Mark) → judged_of f ≡ Err m → HeldOf f m
 refused_held f m e = refused_each (HeldOf f) (facts f) m (facts_held f) e

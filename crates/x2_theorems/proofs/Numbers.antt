@@ -7,8 +7,8 @@ use lib.ListN.{take}
 use Rattle.octets.specs.declared.Width.TheVariants.{One, Two, Four}
 use Rattle.checksum.specs.Checksum.{checksum_of}
 use Rattle.verdict.specs.declared.Mark.{Mark}
-use Rattle.verdict.specs.declared.Judged.{Judged}
-use Rattle.verdict.specs.declared.Judged.TheVariants.{Refused}
+use Rattle.verdict.specs.Verdicts.{Judged}
+use Rattle.std.specs.Prelude.{Ok, Err}
 use Rattle.verdict.specs.declared.Reason.TheVariants.{Length, Checksum, FileType, Structure, Layout, Field, Agreement, Target, Return}
 use Rattle.verdict.specs.Facts.{AllHold}
 use Rattle.verdict.specs.Reasons.{number_of, shown_of, number_in, place_in}
@@ -113,6 +113,6 @@ accepted_is f =
     )
 
 -- THEOREM: the number of a mark's reason and its place are those answered.
-pub refused_answered : (f : List ℕ) (m : Mark) → judged_of f ≡ Refused m → Answered (checks f) (number_of m.reason) m.place
+pub refused_answered : (f : List ℕ) (m : Mark) → judged_of f ≡ Err m → Answered (checks f) (number_of m.reason) m.place
 refused_answered f m e =
     (answer_is f (number_of m.reason) m.place).0 (ap (λ (v : Judged). number_in (shown_of v)) e, ap (λ (v : Judged). place_in (shown_of v)) e)

@@ -8,7 +8,7 @@ use lib.ListN.{get_or}
 use native.Mathlib.Nat.{pow-suc}
 use native.Mathlib.Omega.{arith}
 use Rattle.verdict.specs.declared.Reason.TheVariants.{Question}
-use Rattle.verdict.specs.declared.Verdict.TheVariants as verdict
+use Rattle.std.specs.Prelude.{Ok, Err}
 use Rattle.verdict.specs.Facts.{test}
 use Rattle.verdict.specs.Answers.{answer_number}
 use Rattle.verdict.proofs.Questions.{accepted_by, some_number}
@@ -39,8 +39,6 @@ use Rattle.x2_layout.proofs.Regions.{regions}
 use Rattle.x2_layout.proofs.Bounds.{regions_bounded}
 use Rattle.x2_layout.proofs.Starts.{start_tested, start_below}
 use Rattle.x2_verdict.specs.declared.NamedHeader.{NamedHeader}
-use Rattle.x2_verdict.specs.declared.NamedHeaderAnswer.TheVariants as header
-use Rattle.x2_verdict.specs.declared.RecordAnswer.TheVariants as answer
 use Rattle.x2_verdict.specs.Facts.{verdict_of}
 use Rattle.x2_verdict.specs.Answers.{named_header_answer, boundary_fields, fields_of, record_answer}
 use Rattle.x2_verdict.specs.Questions.{named_header_in, named_header_of, record_if, record_of}
@@ -55,10 +53,10 @@ pub record NamedRange (h : NamedHeader) : Type 0 where
   pub name : h.name ≡ 7
   pub name_bytes : Between 2 16 h.name_bytes
 
-pub named_range : (f : List ℕ) (h : NamedHeader) → named_header_of f ≡ header.Header h → NamedRange h
+pub named_range : (f : List ℕ) (h : NamedHeader) → named_header_of f ≡ Ok h → NamedRange h
 unfolding named_header_of named_header_in header_in
 named_range f h e =
-    let a = accepted_by header.Refused (verdict_of f) (header.Header (named_header_in f)) (header.Header h) (λ t q. some_number t.reason (ap answer_number (ap named_header_answer q))) e in
+    let a = accepted_by Err (verdict_of f) (Ok (named_header_in f)) (Ok h) (λ t q. some_number t.reason (ap answer_number (ap named_header_answer q))) e in
     let o = verdict_obeys f a.0 in
     let i : named_header_in f ≡ h = let q = a.1 in cc in
     let bytes = header_name f h e in
@@ -160,7 +158,7 @@ module _ (f : List ℕ) (bytes : (i : ℕ) → get_or f i 0 < 256) where
     )
 
   -- where a record starts in an accepted file
-  start_most : verdict_of f ≡ verdict.Accepted → (x : ℕ) → test (is_start f (layout_of f) x) ≡ true → x ≤ most_length
+  start_most : verdict_of f ≡ Ok tt → (x : ℕ) → test (is_start f (layout_of f) x) ≡ true → x ≤ most_length
   start_most e x s =
       let o = verdict_obeys f e in
       let whole = regions f o.layout in
@@ -168,15 +166,15 @@ module _ (f : List ℕ) (bytes : (i : ℕ) → get_or f i 0 < 256) where
       let below = start_below f (layout_of f) whole x ((start_tested f (layout_of f) x).0 s) in
       omega arith
 
-  chosen : (t : Bool) (x : ℕ) (r : Record) → record_if t f x ≡ answer.Record r → (t ≡ true) × (record_at f (kind_at (layout_of f) x) x ≡ r)
+  chosen : (t : Bool) (x : ℕ) (r : Record) → record_if t f x ≡ Ok r → (t ≡ true) × (record_at f (kind_at (layout_of f) x) x ≡ r)
   chosen true x r e = (refl, cc)
   chosen false x r e = absurd (some_number Question (ap answer_number (ap record_answer e)))
 
   -- THEOREM: every number of a record that is answered is one of at most four bytes.
-  pub record_below : (x : ℕ) (r : Record) → record_of f x ≡ answer.Record r → AllBelow four_bytes (fields_of r)
+  pub record_below : (x : ℕ) (r : Record) → record_of f x ≡ Ok r → AllBelow four_bytes (fields_of r)
   unfolding record_of
   record_below x r e =
       let starts = test (is_start f (layout_of f) x) in
-      let a = accepted_by answer.Refused (verdict_of f) (record_if starts f x) (answer.Record r) (λ t q. some_number t.reason (ap answer_number (ap record_answer q))) e in
+      let a = accepted_by Err (verdict_of f) (record_if starts f x) (Ok r) (λ t q. some_number t.reason (ap answer_number (ap record_answer q))) e in
       let c = chosen starts x r a.1 in
       subst (λ (z : Record). AllBelow four_bytes (fields_of z)) c.1 (fields_below x (start_most a.0 x c.0) (kind_at (layout_of f) x))

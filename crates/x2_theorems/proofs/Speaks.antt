@@ -5,7 +5,7 @@ use mathlib.Core.List.{List, [], ◌∷◌, ◌++◌}
 use Rattle.verdict.specs.declared.Mark.{Mark}
 use Rattle.verdict.specs.declared.Reason.{Reason}
 use Rattle.verdict.specs.declared.Reason.TheVariants.{Layout, Field, Agreement, Target, Return}
-use Rattle.verdict.specs.declared.Judged.TheVariants.{Refused}
+use Rattle.std.specs.Prelude.{Ok, Err}
 use Rattle.verdict.specs.Facts.{Fact, fact, TrueReason, Marked}
 use Rattle.verdict.proofs.Facts.{true_reason, marked_append}
 use Rattle.refusals.proofs.Sections.{Each, Speaks}
@@ -50,5 +50,5 @@ facts_marked f =
     )
 
 -- THEOREM
-pub refused_truly : (f : List ℕ) (m : Mark) → judged_of f ≡ Refused m → TrueReason (says_of f) (facts f) m
+pub refused_truly : (f : List ℕ) (m : Mark) → judged_of f ≡ Err m → TrueReason (says_of f) (facts f) m
 refused_truly f m e = true_reason (says_of f) (facts f) m (facts_marked f) e

@@ -6,7 +6,7 @@ use mathlib.Core.Logic.{inl, inr}
 use mathlib.Core.List.{List, Memᴰ}
 use lib.ListN.{get_or}
 use Rattle.octets.specs.Octets.{num_at}
-use Rattle.verdict.specs.declared.Verdict.TheVariants.{Accepted}
+use Rattle.std.specs.Prelude.{Ok, Err}
 use Rattle.x2_records.specs.declared.Kind.{Kind}
 use Rattle.x2_records.specs.declared.Kind.TheVariants as kind
 use Rattle.x2_records.specs.Records.{record_at}
@@ -51,7 +51,7 @@ kept f bytes kind.Joint at o = tt
 kept f bytes kind.Siding at o = tt
 
 -- THEOREM: in an accepted file the enums of each record, put together again, are the byte that is stored
-pub enums_kept : (f : List ℕ) → ((i : ℕ) → get_or f i 0 < 256) → verdict_of f ≡ Accepted → (at : ℕ) → Memᴰ at (starts f (layout_of f)) → EnumsKept f at (record_at f (kind_at (layout_of f) at) at)
+pub enums_kept : (f : List ℕ) → ((i : ℕ) → get_or f i 0 < 256) → verdict_of f ≡ Ok tt → (at : ℕ) → Memᴰ at (starts f (layout_of f)) → EnumsKept f at (record_at f (kind_at (layout_of f) at) at)
 enums_kept f bytes e at m = kept f bytes (kind_at (layout_of f) at) at ((verdict_obeys f e).fields.each_record at m)
 
 -- ---- names
@@ -73,5 +73,5 @@ named f kind.Joint at o = name_read f (at + 5) 0 o.name
 named f kind.Siding at o = (name_read f (at + 1) 1 o.name, name_read f (at + 13) 0 o.up_signal, name_read f (at + 24) 0 o.down_signal)
 
 -- THEOREM (02, ticket 10): in an accepted file each name of a record is one by the rule, of as many bytes as the record says
-pub names_read : (f : List ℕ) → verdict_of f ≡ Accepted → (at : ℕ) → Memᴰ at (starts f (layout_of f)) → NamesRead f at (record_at f (kind_at (layout_of f) at) at)
+pub names_read : (f : List ℕ) → verdict_of f ≡ Ok tt → (at : ℕ) → Memᴰ at (starts f (layout_of f)) → NamesRead f at (record_at f (kind_at (layout_of f) at) at)
 names_read f e at m = named f (kind_at (layout_of f) at) at ((verdict_obeys f e).fields.each_record at m)

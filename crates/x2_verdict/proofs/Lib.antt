@@ -8,3 +8,4 @@ pub mod Linked
 pub mod Balises
 pub mod SingleBytes
 pub mod KindTurns
+pub mod Stepping

@@ -3,11 +3,10 @@
 use Prim.Native.Nat.{ℕ, ◌+◌, ◌≤◌, ◌<◌}
 use mathlib.Core.Path.{◌≡◌, ◌∙◌, refl, sym, ap, subst}
 use mathlib.Core.Bool.{Bool, true, false, not, cond, ◌&&◌, ◌||◌, or-false, true≢false}
-use mathlib.Core.Logic.{◌⊎◌, inl, inr, ⊎_elim}
+use mathlib.Core.Logic.{inl, inr, ⊎_elim}
 use mathlib.Core.List.{List, [], ◌∷◌}
-use native.Mathlib.Omega.{arith}
-use lib.Dec.{eqb, ltb}
-use borrow.Author.Tests.{not-false, lt-ltb, le-ltb}
+use lib.Dec.{eqb}
+use borrow.Author.Tests.{lt-ltb, le-ltb}
 use Rattle.octets.specs.Octets.{num_at}
 use Rattle.verdict.specs.Facts.{test, same, both, either, denied, Holds, Fact, fact, AllHold, all_tests}
 use Rattle.verdict.proofs.Facts.{tested}
@@ -38,22 +37,22 @@ both_true false q h = absurd (true≢false (sym h))
 
 -- ---- some link names back
 
-module _ (f : List ℕ) (turnouts balises x at : ℕ) where
-  pub boundary_names : x < turnouts → (r : Bool) → r ≡ eqb (num_at 2 f (x + 1)) at → r ≡ true → test (links_to f (link_kind turnouts balises x) x at) ≡ true
+module _ (f : List ℕ) (l : Layout) (x at : ℕ) where
+  pub boundary_names : x < l.turnouts → (r : Bool) → r ≡ eqb (num_at 2 f (x + 1)) at → r ≡ true → test (links_to f (link_kind l x) x at) ≡ true
   unfolding links_to
-  boundary_names h r e t = rw (lt-ltb x turnouts h, ← e, t)
+  boundary_names h r e t = rw (lt-ltb x l.turnouts h, ← e, t)
 
   pub turnout_names :
-      turnouts ≤ x → x < balises → (p q r : Bool) → p ≡ eqb (num_at 2 f (x + 15)) at → q ≡ eqb (num_at 2 f (x + 17)) at → r ≡ eqb (num_at 2 f (x + 19)) at
-      → (p || (q || r)) ≡ true → test (links_to f (link_kind turnouts balises x) x at) ≡ true
+      l.turnouts ≤ x → x < l.balises → (p q r : Bool) → p ≡ eqb (num_at 2 f (x + 15)) at → q ≡ eqb (num_at 2 f (x + 17)) at → r ≡ eqb (num_at 2 f (x + 19)) at
+      → (p || (q || r)) ≡ true → test (links_to f (link_kind l x) x at) ≡ true
   unfolding links_to
-  turnout_names g h p q r d e i t = rw (le-ltb x turnouts g, lt-ltb x balises h, ← d, ← e, ← i, or-false r) t
+  turnout_names g h p q r d e i t = rw (le-ltb x l.turnouts g, lt-ltb x l.balises h, ← d, ← e, ← i, or-false r) t
 
   pub plain_names :
-      turnouts ≤ x → balises ≤ x → (p q : Bool) → p ≡ eqb (num_at 2 f (x + 1)) at → q ≡ eqb (num_at 2 f (x + 3)) at
-      → (p || q) ≡ true → test (links_to f (link_kind turnouts balises x) x at) ≡ true
+      l.turnouts ≤ x → l.balises ≤ x → (p q : Bool) → p ≡ eqb (num_at 2 f (x + 1)) at → q ≡ eqb (num_at 2 f (x + 3)) at
+      → (p || q) ≡ true → test (links_to f (link_kind l x) x at) ≡ true
   unfolding links_to
-  plain_names g h p q d e t = rw (le-ltb x turnouts g, le-ltb x balises h, ← d, ← e, or-false q) t
+  plain_names g h p q d e t = rw (le-ltb x l.turnouts g, le-ltb x l.balises h, ← d, ← e, or-false q) t
 
 -- ---- one link
 
@@ -79,7 +78,7 @@ module _ (f : List ℕ) (l : Layout) (r : Regions f l) where
       ⊎_elim (λ (far : l.sidings ≤ x). absurd (subst (λ (k : Kind). Holds (linkable f k x)) (kind_siding f l r x far) (named_kind x h) tt)) (λ (g : x < l.sidings). g) (le-or-lt l.sidings x)
 
   -- as far as links go, it is what its place says
-  told_kind : (x at : ℕ) → x < l.sidings → links_to f (link_kind l.turnouts l.balises x) x at ≡ links_to f (kind_at l x) x at
+  told_kind : (x at : ℕ) → x < l.sidings → links_to f (link_kind l x) x at ≡ links_to f (kind_at l x) x at
   unfolding links_to
   told_kind x at below =
       ⊎_elim (λ (g : l.turnouts ≤ x).
@@ -99,15 +98,12 @@ module _ (f : List ℕ) (l : Layout) (r : Regions f l) where
       (le-or-lt l.turnouts x)
 
   module _ (marks : List ℕ) (t : Targets f l marks) (at x : ℕ) (small : x ≤ place_most) where
-    -- a link that aims right and is returned; a and b are the tests
-    pub link_holds :
-        (turnouts balises : ℕ) → turnouts ≡ l.turnouts → balises ≡ l.balises → (x ≡ 0 → ⊥) → (a : Bool) → a ≡ aims marks at x → not a ≡ false
-        → test (links_to f (link_kind turnouts balises x) x at) ≡ true → LinkHolds f l at x
-    link_holds turnouts balises p q n a e h b =
-        let aim = aims_hold f l marks t at x small (sym e ∙ not-false a h) in
+    -- a link that aims right and is returned
+    pub link_holds : (x ≡ 0 → ⊥) → true ≡ aims marks at x → test (links_to f (link_kind l x) x at) ≡ true → LinkHolds f l at x
+    link_holds n e b =
+        let aim = aims_hold f l marks t at x small (sym e) in
         let named : Holds (is_target f l x) = ⊎_elim (λ (z : x ≡ 0). absurd (n z)) (λ (w : (x ≡ at → ⊥) × Holds (is_target f l x)). w.1) aim in
-        let told : test (links_to f (link_kind l.turnouts l.balises x) x at) ≡ true = rw (← p, ← q) b in
-        record { aims = aim; returned = inr ((tested (links_to f (kind_at l x) x at)).0 (ap test (sym (told_kind x at (no_siding x named))) ∙ told)) }
+        record { aims = aim; returned = inr ((tested (links_to f (kind_at l x) x at)).0 (ap test (sym (told_kind x at (no_siding x named))) ∙ b)) }
 
 -- ---- the links of a record of each kind
 

@@ -2,12 +2,12 @@
 -- links, from what was read there, for each way out of the code. And how far a loop over such records comes.
 use Prim.Native.Nat.{ℕ, ◌+◌, ◌-◌, ◌≤◌, ◌<◌}
 use mathlib.Core.Path.{◌≡◌, ◌∙◌, refl, sym, ap, subst}
-use mathlib.Core.Bool.{Bool, true, false, not, ◌&&◌, or-true}
+use mathlib.Core.Bool.{Bool, true, ◌&&◌, or-true}
 use mathlib.Core.List.{List}
 use native.Mathlib.Omega.{arith}
 use lib.Dec.{eqb}
 use lib.ListN.{length}
-use borrow.Author.Tests.{not-false, eq-eqb, ne_eqb}
+use borrow.Author.Tests.{eq-eqb, ne_eqb}
 use Rattle.octets.specs.Octets.{Is}
 use Rattle.verdict.specs.Facts.{test, same, both, either, denied, Holds, AllHold}
 use Rattle.x2_records.specs.declared.Kind.TheVariants.{Balise}
@@ -23,17 +23,17 @@ use Rattle.x2_verdict.specs.inner.Passes.{aims, LinkHolds, NextHolds, LinksHold,
 use Rattle.x2_verdict.proofs.Linked.{both_true, plain_names, aims_hold, at_link, plain_linked}
 
 -- the previous or the next object of a balise, a signal or a joint is `at`, which was read at p or at q
-module _ (f : List ℕ) (turnouts balises x at : ℕ) (order : turnouts ≤ balises) (h : balises ≤ x) where
-  pub previous_names : (p : ℕ) → p ≡ link_at f (x + 1) → p ≡ at → test (links_to f (link_kind turnouts balises x) x at) ≡ true
-  previous_names p e d = plain_names f turnouts balises x at (omega arith) h true (eqb (link_at f (x + 3)) at) (sym (eq-eqb (link_at f (x + 1)) at (sym e ∙ d))) refl refl
+module _ (f : List ℕ) (l : Layout) (x at : ℕ) (order : l.turnouts ≤ l.balises) (h : l.balises ≤ x) where
+  pub previous_names : (p : ℕ) → p ≡ link_at f (x + 1) → p ≡ at → test (links_to f (link_kind l x) x at) ≡ true
+  previous_names p e d = plain_names f l x at (omega arith) h true (eqb (link_at f (x + 3)) at) (sym (eq-eqb (link_at f (x + 1)) at (sym e ∙ d))) refl refl
 
-  pub next_names : (q : ℕ) → q ≡ link_at f (x + 3) → eqb q at ≡ true → test (links_to f (link_kind turnouts balises x) x at) ≡ true
+  pub next_names : (q : ℕ) → q ≡ link_at f (x + 3) → eqb q at ≡ true → test (links_to f (link_kind l x) x at) ≡ true
   next_names q e t =
-      plain_names f turnouts balises x at (omega arith) h (eqb (link_at f (x + 1)) at) true refl (sym t ∙ ap (λ (n : ℕ). eqb n at) e) (or-true (eqb (link_at f (x + 1)) at))
+      plain_names f l x at (omega arith) h (eqb (link_at f (x + 1)) at) true refl (sym t ∙ ap (λ (n : ℕ). eqb n at) e) (or-true (eqb (link_at f (x + 1)) at))
 
 -- a link that is not 0 aims right where it does not name its own record and m says that it names a marked place
-pub marked_aims : (marks : List ℕ) (at x : ℕ) → (x ≡ 0 → ⊥) → (x ≡ at → ⊥) → (m : Bool) → m ≡ mark_at marks x → not m ≡ false → true ≡ aims marks at x
-marked_aims marks at x n o m e h = rw (ne_eqb x 0 n, ne_eqb x at o, ← e, not-false m h)
+pub marked_aims : (marks : List ℕ) (at x : ℕ) → (x ≡ 0 → ⊥) → (x ≡ at → ⊥) → (m : Bool) → m ≡ mark_at marks x → m ≡ true → true ≡ aims marks at x
+marked_aims marks at x n o m e h = rw (ne_eqb x 0 n, ne_eqb x at o, ← e, h)
 
 -- the links of a balise of place 1, a signal or a joint, from what was read: x and y
 pub pair_linked :

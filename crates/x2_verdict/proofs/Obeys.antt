@@ -4,7 +4,7 @@ use mathlib.Core.Logic.{◌↔◌}
 use mathlib.Core.List.{List, ◌++◌}
 use Prim.Native.Nat.{ℕ}
 use Rattle.verdict.specs.Facts.{AllHold}
-use Rattle.verdict.specs.declared.Judged.TheVariants.{Accepted}
+use Rattle.std.specs.Prelude.{Ok}
 use Rattle.verdict.proofs.Facts.{accepted_iff, all_append}
 use native.Mathlib.Omega.{arith}
 use Rattle.rules.specs.Rules.{Between}
@@ -25,7 +25,7 @@ use Rattle.x2_verdict.specs.Obeys.{Obeys}
 pub one_iff : (x : ℕ) → Between 1 1 x ↔ (x ≡ 1)
 one_iff x = (λ h. omega arith, λ e. (omega arith, omega arith))
 
-pub accepted_obeys : (f : List ℕ) → (judged_of f ≡ Accepted) ↔ Obeys f
+pub accepted_obeys : (f : List ℕ) → (judged_of f ≡ Ok tt) ↔ Obeys f
 unfolding facts check_facts record_facts AllHold
 accepted_obeys f =
     let l = layout_of f in

@@ -7,10 +7,9 @@ use Rattle.x2_records.specs.declared.Record.TheVariants as is
 use Rattle.x2_records.specs.declared.boundaries.Boundary.{Boundary}
 use Rattle.x2_records.specs.Tables.{direction_number, nature_number, group_direction_number, facing_number, duty_number}
 use Rattle.x2_verdict.specs.declared.NamedHeader.{NamedHeader}
-use Rattle.x2_verdict.specs.declared.NamedHeaderAnswer.{NamedHeaderAnswer}
-use Rattle.x2_verdict.specs.declared.NamedHeaderAnswer.TheVariants as header
-use Rattle.x2_verdict.specs.declared.RecordAnswer.{RecordAnswer}
-use Rattle.x2_verdict.specs.declared.RecordAnswer.TheVariants as answer
+use Rattle.x2_verdict.specs.Results.{NamedHeaderAnswer}
+use Rattle.std.specs.Prelude.{Ok, Err}
+use Rattle.x2_verdict.specs.Results.{RecordAnswer}
 
 -- ---- the header
 
@@ -20,8 +19,8 @@ named_header_values h = header_values h.header ++ (pos h.name ∷ pos h.name_byt
 
 -- 01: Form.10
 abbrev pub named_header_answer : NamedHeaderAnswer → Answer
-named_header_answer (header.Header h) = answered (named_header_values h)
-named_header_answer (header.Refused t) = refused 5 t
+named_header_answer (Ok h) = answered (named_header_values h)
+named_header_answer (Err t) = refused 5 t
 
 -- ---- the record
 
@@ -110,5 +109,5 @@ record_values r = filled value_count (fields_of r)
 
 -- 01: Form.10
 abbrev pub record_answer : RecordAnswer → Answer
-record_answer (answer.Record r) = answered (record_values r)
-record_answer (answer.Refused t) = refused value_count t
+record_answer (Ok r) = answered (record_values r)
+record_answer (Err t) = refused value_count t

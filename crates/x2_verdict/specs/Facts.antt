@@ -2,8 +2,8 @@
 use Rattle.std.specs.Prelude.{ℕ, List, ◌∷◌, ◌++◌}
 use Rattle.verdict.specs.Facts.{Fact, first_fault}
 use Rattle.verdict.specs.Reasons.{shown_of}
-use Rattle.verdict.specs.declared.Judged.{Judged}
-use Rattle.verdict.specs.declared.Verdict.{Verdict}
+use Rattle.verdict.specs.Verdicts.{Judged}
+use Rattle.verdict.specs.Verdicts.{Verdict}
 use Rattle.rules.specs.Rules.{length_between}
 use Rattle.envelope.specs.Seal.{most_length, seal_facts}
 use Rattle.x2_layout.specs.declared.Layout.{Layout}

@@ -1,3 +1,4 @@
+pub mod Results
 pub mod Facts
 pub mod Obeys
 pub mod Questions

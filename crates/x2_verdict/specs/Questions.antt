@@ -11,10 +11,9 @@ use Rattle.x2_layout.specs.Places.{name_at}
 use Rattle.x2_layout.specs.Layout.{layout_of}
 use Rattle.x2_layout.specs.Records.{kind_at, is_start}
 use Rattle.x2_verdict.specs.declared.NamedHeader.{NamedHeader}
-use Rattle.x2_verdict.specs.declared.NamedHeaderAnswer.{NamedHeaderAnswer}
-use Rattle.x2_verdict.specs.declared.NamedHeaderAnswer.TheVariants as header
-use Rattle.x2_verdict.specs.declared.RecordAnswer.{RecordAnswer}
-use Rattle.x2_verdict.specs.declared.RecordAnswer.TheVariants.{Record, Refused}
+use Rattle.x2_verdict.specs.Results.{NamedHeaderAnswer}
+use Rattle.std.specs.Prelude.{Ok, Err}
+use Rattle.x2_verdict.specs.Results.{RecordAnswer}
 use Rattle.x2_verdict.specs.Facts.{verdict_of}
 
 -- ---- the header
@@ -24,15 +23,15 @@ unfoldable pub named_header_in : List ℕ → NamedHeader
 named_header_in f = record { header = header_in f; name = name_at; name_bytes = station_name_length f name_at }
 
 unfoldable pub named_header_of : List ℕ → NamedHeaderAnswer
-named_header_of f = after_verdict header.Refused (verdict_of f) (header.Header (named_header_in f))
+named_header_of f = after_verdict Err (verdict_of f) (Ok (named_header_in f))
 
 -- ---- the record at an offset
 
 -- the record at x, where one starts there
 abbrev pub record_if : Bool → List ℕ → ℕ → RecordAnswer
-record_if true f x = Record (record_at f (kind_at (layout_of f) x) x)
-record_if false f x = Refused (refusal Question)
+record_if true f x = Ok (record_at f (kind_at (layout_of f) x) x)
+record_if false f x = Err (refusal Question)
 
 -- 01: Ask.1
 unfoldable pub record_of : List ℕ → ℕ → RecordAnswer
-record_of f x = after_verdict Refused (verdict_of f) (record_if (test (is_start f (layout_of f) x)) f x)
+record_of f x = after_verdict Err (verdict_of f) (record_if (test (is_start f (layout_of f) x)) f x)

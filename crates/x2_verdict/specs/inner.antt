@@ -1,5 +1,5 @@
 -- What only the code's inner contracts and the proofs need. No reviewer has to believe it: each use of it is proved.
 pub mod Starts
-pub mod Shapes
 pub mod Passes
 pub mod Balises
+pub mod Plains

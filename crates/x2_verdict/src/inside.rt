@@ -6,6 +6,8 @@ ghost use Rattle.x2_links.specs.Links.{link_at};
 use tables::Field;
 
 // The byte at a place.
+// Stays (2): `octets` has this reader too, but one that asks something of its callers cannot be public there (project rule).
+#[tactic(auto, unfolding(octets::specs::Octets::num_at))]
 pub fn byte(f: &[u8], place: usize) -> usize
     requires { place < length f.now }
     ensures { Is 1 f.now place result }
@@ -30,9 +32,10 @@ pub fn later_byte_of(f: &[u8], at: usize, k: Field, i: usize) -> usize
 }
 
 // The link at a place.
+#[tactic(auto, unfolding(octets::specs::Octets::num_at))]
 pub fn link_at(f: &[u8], at: usize) -> u16
     requires { at + 1 < length f.now }
     ensures { result ≡ link_at f.now at }
 {
-    f[at] as u16 + 256 * f[at + 1] as u16
+    u16::from_le_bytes([f[at], f[at + 1]])
 }

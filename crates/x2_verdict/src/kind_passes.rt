@@ -1,25 +1,28 @@
 // The first pass over turnouts, signals, joints and sidings: a loop for each kind, which tests single bytes of a record that lies inside
 // the file, and is quicker so. What it tests says the same as the tables: four bytes are a position exactly where the last is below 0x80.
-ghost use Rattle.std.specs.Prelude.{◌≡◌, true, ◌+◌, ◌≤◌, ◌<◌, length};
+ghost use Rattle.std.specs.Prelude.{◌≡◌, ℕ, List, Bool, true, false, ◌+◌, ◌≤◌, ◌<◌, length, IfSome};
 ghost use Rattle.octets.specs.Octets.{num_at};
 ghost use Rattle.verdict.specs.Facts.{same, test, all_tests};
 ghost use Rattle.rules.specs.Rules.{lies_between};
 ghost use Rattle.tables.specs.Rows.{value_facts, row_facts};
+ghost use Rattle.x2_records.specs.declared.Kind.{Kind};
 ghost use Rattle.x2_records.specs.declared.Kind.TheVariants as kind;
 ghost use Rattle.x2_records.specs.Places as place;
 ghost use Rattle.x2_records.specs.Rows.{positions, signal_byte};
-ghost use Rattle.x2_layout.specs.inner.Bounds.{Bounded};
-ghost use Rattle.x2_layout.specs.inner.Regions.{Regions};
+ghost use Rattle.x2_layout.specs.declared.Layout.{Layout};
+ghost use Rattle.x2_layout.specs.inner.Bounds.{place_most, Bounded};
+ghost use Rattle.x2_layout.specs.inner.Regions.{Whole, Regions};
 ghost use Rattle.x2_kinds.specs.KindFields.{kind_fields};
-ghost use Rattle.x2_verdict.specs.inner.Passes.{Passing};
+ghost use Rattle.x2_verdict.specs.inner.Passes.{Sort, PlainKind, Passing};
+ghost use Rattle.x2_verdict.specs.inner.Plains.{start_plain, end_plain, turnout_plain, signal_plain, joint_plain, siding_plain};
 
-use crate::first_pass::Passed;
 use crate::inside::byte_of;
 use names::{MAY_BE_EMPTY, NOT_EMPTY, is_name};
 use tables::Field;
+use x2_kinds::kind_obeys;
 use x2_layout::Layout;
 use x2_links::{CELL, CELLS, mark_if};
-use x2_records::{Joint, Siding, Signal, Turnout};
+use x2_records::{Boundary, Joint, Kind, Siding, Signal, Turnout};
 
 // Which byte of a position is its last, and what that is below.
 const TOP_BYTE: usize = 3;
@@ -83,6 +86,7 @@ fn is_signal(f: &[u8], at: usize) -> bool
 // ---- a record of each kind
 
 // Table 8: a turnout.
+#[tactic(auto, unfolding(x2_kinds::specs::KindFields::kind_fields))]
 fn turnout_passes(f: &[u8], at: usize) -> bool
     requires { at + place.turnout_size ≤ length f.now }
     ensures { result ≡ all_tests (kind_fields f.now kind.Turnout at) }
@@ -101,6 +105,7 @@ fn turnout_passes(f: &[u8], at: usize) -> bool
 }
 
 // Table 10: a signal.
+#[tactic(auto, unfolding(x2_kinds::specs::KindFields::kind_fields))]
 fn signal_passes(f: &[u8], at: usize) -> bool
     requires { at + place.signal_size ≤ length f.now }
     ensures { result ≡ all_tests (kind_fields f.now kind.Signal at) }
@@ -114,6 +119,7 @@ fn signal_passes(f: &[u8], at: usize) -> bool
 }
 
 // Table 11: a joint.
+#[tactic(auto, unfolding(x2_kinds::specs::KindFields::kind_fields))]
 fn joint_passes(f: &[u8], at: usize) -> bool
     requires { at + place.joint_size ≤ length f.now }
     ensures { result ≡ all_tests (kind_fields f.now kind.Joint at) }
@@ -126,6 +132,7 @@ fn joint_passes(f: &[u8], at: usize) -> bool
 }
 
 // Table 12: a siding.
+#[tactic(auto, unfolding(x2_kinds::specs::KindFields::kind_fields))]
 fn siding_passes(f: &[u8], at: usize) -> bool
     requires { at + place.siding_size ≤ length f.now }
     ensures { result ≡ all_tests (kind_fields f.now kind.Siding at) }
@@ -138,88 +145,161 @@ fn siding_passes(f: &[u8], at: usize) -> bool
     entry & (name & (track & (up & down)))
 }
 
-// ---- the records of each kind, after the record at `before`
+// ---- the records of each kind
 
-// The turnouts.
-pub fn turnouts_pass(f: &[u8], l: Layout, before: u32, marks: &mut [u8; CELLS]) -> Passed
-    requires { Bounded l × Regions f.now l × Passing f.now l marks.old before l.turnouts }
-    ensures { result.obeys ≡ true → Passing f.now l marks.new result.last l.balises }
-{
-    let mut last = before;
-    let mut at = l.turnouts;
-    while at + Turnout::SIZE <= l.balises {
-        if !turnout_passes(f, at) {
-            return Passed { obeys: false, last };
-        }
-        marks[at / CELL] = mark_if(true, at);
-        last = at as u32;
-        at = at + Turnout::SIZE;
-    }
-    Passed {
-        obeys: at == l.balises,
-        last,
-    }
+// A kind of records that all have one size, and agree whatever stands in them: its fields are what the first pass asks.
+pub trait Plain {
+    ghost sort: { Kind };
+
+    ghost BYTES: { ℕ };
+
+    ghost NAMED: { Bool };
+
+    // How many bytes a record has, and whether a link may name it.
+    const BYTES: usize;
+
+    const NAMED: bool;
+
+    // A record that lies inside the file obeys by its fields.
+    fn passes(f: &[u8], at: usize) -> bool
+        requires { (at ≤ place_most) × (at + BYTES ≤ length f.now) }
+        ensures { result ≡ all_tests (kind_fields f.now sort at) };
+
+    ghost plain: { (f : List ℕ) (l : Layout) → PlainKind f l sort BYTES NAMED };
 }
 
-// The signals.
-pub fn signals_pass(f: &[u8], l: Layout, before: u32, marks: &mut [u8; CELLS]) -> Passed
-    requires { Bounded l × Regions f.now l × Passing f.now l marks.old before l.signals }
-    ensures { result.obeys ≡ true → Passing f.now l marks.new result.last l.joints }
-{
-    let mut last = before;
-    let mut at = l.signals;
-    while at + Signal::SIZE <= l.joints {
-        if !signal_passes(f, at) {
-            return Passed { obeys: false, last };
-        }
-        marks[at / CELL] = mark_if(true, at);
-        last = at as u32;
-        at = at + Signal::SIZE;
+// The boundaries of each kind.
+pub struct StartBoundaries;
+
+impl Plain for StartBoundaries {
+    ghost sort = { kind.StartBoundary };
+
+    ghost BYTES = { place.boundary_size };
+
+    ghost NAMED = { true };
+
+    const BYTES: usize = Boundary::SIZE;
+
+    const NAMED: bool = true;
+
+    fn passes(f: &[u8], at: usize) -> bool {
+        kind_obeys(f, Kind::StartBoundary, at as u32)
     }
-    Passed {
-        obeys: at == l.joints,
-        last,
-    }
+
+    ghost plain = { λ f l. start_plain };
 }
 
-// The joints.
-pub fn joints_pass(f: &[u8], l: Layout, before: u32, marks: &mut [u8; CELLS]) -> Passed
-    requires { Bounded l × Regions f.now l × Passing f.now l marks.old before l.joints }
-    ensures { result.obeys ≡ true → Passing f.now l marks.new result.last l.sidings }
-{
-    let mut last = before;
-    let mut at = l.joints;
-    while at + Joint::SIZE <= l.sidings {
-        if !joint_passes(f, at) {
-            return Passed { obeys: false, last };
-        }
-        marks[at / CELL] = mark_if(true, at);
-        last = at as u32;
-        at = at + Joint::SIZE;
+pub struct EndBoundaries;
+
+impl Plain for EndBoundaries {
+    ghost sort = { kind.EndBoundary };
+
+    ghost BYTES = { place.boundary_size };
+
+    ghost NAMED = { true };
+
+    const BYTES: usize = Boundary::SIZE;
+
+    const NAMED: bool = true;
+
+    fn passes(f: &[u8], at: usize) -> bool {
+        kind_obeys(f, Kind::EndBoundary, at as u32)
     }
-    Passed {
-        obeys: at == l.sidings,
-        last,
-    }
+
+    ghost plain = { λ f l. end_plain };
 }
 
-// The sidings, which no link may name.
-pub fn sidings_pass(f: &[u8], l: Layout, before: u32, marks: &mut [u8; CELLS]) -> Passed
-    requires { Bounded l × Regions f.now l × Passing f.now l marks.old before l.sidings }
-    ensures { result.obeys ≡ true → Passing f.now l marks.new result.last l.end }
+impl Plain for Turnout {
+    ghost sort = { kind.Turnout };
+
+    ghost BYTES = { place.turnout_size };
+
+    ghost NAMED = { true };
+
+    const BYTES: usize = Turnout::SIZE;
+
+    const NAMED: bool = true;
+
+    fn passes(f: &[u8], at: usize) -> bool {
+        turnout_passes(f, at)
+    }
+
+    ghost plain = { λ f l. turnout_plain };
+}
+
+impl Plain for Signal {
+    ghost sort = { kind.Signal };
+
+    ghost BYTES = { place.signal_size };
+
+    ghost NAMED = { true };
+
+    const BYTES: usize = Signal::SIZE;
+
+    const NAMED: bool = true;
+
+    fn passes(f: &[u8], at: usize) -> bool {
+        signal_passes(f, at)
+    }
+
+    ghost plain = { λ f l. signal_plain };
+}
+
+impl Plain for Joint {
+    ghost sort = { kind.Joint };
+
+    ghost BYTES = { place.joint_size };
+
+    ghost NAMED = { true };
+
+    const BYTES: usize = Joint::SIZE;
+
+    const NAMED: bool = true;
+
+    fn passes(f: &[u8], at: usize) -> bool {
+        joint_passes(f, at)
+    }
+
+    ghost plain = { λ f l. joint_plain };
+}
+
+impl Plain for Siding {
+    ghost sort = { kind.Siding };
+
+    ghost BYTES = { place.siding_size };
+
+    ghost NAMED = { false };
+
+    const BYTES: usize = Siding::SIZE;
+
+    const NAMED: bool = false;
+
+    fn passes(f: &[u8], at: usize) -> bool {
+        siding_passes(f, at)
+    }
+
+    ghost plain = { λ f l. siding_plain };
+}
+
+// The records of a kind, which stand from a place to another, after the record at `before`: where the last of them starts, if each passes.
+pub fn kind_pass<K: Plain>(
+    f: &[u8],
+    l: Layout,
+    from: usize,
+    until: usize,
+    before: u32,
+    marks: &mut [u8; CELLS],
+) -> Option<u32>
+    requires { Bounded l × Regions f.now l × Sort l K.sort from until × Whole K.BYTES from until × Passing f.now l marks.old before from }
+    ensures { IfSome result (λ last. Passing f.now l marks.new last until) }
 {
     let mut last = before;
-    let mut at = l.sidings;
-    while at + Siding::SIZE <= l.end {
-        if !siding_passes(f, at) {
-            return Passed { obeys: false, last };
+    for at in (from..until).step_by(K::BYTES) {
+        if !K::passes(f, at) {
+            return None;
         }
-        marks[at / CELL] = mark_if(false, at);
+        marks[at / CELL] = mark_if(K::NAMED, at);
         last = at as u32;
-        at = at + Siding::SIZE;
     }
-    Passed {
-        obeys: at == l.end,
-        last,
-    }
+    Some(last)
 }

@@ -15,6 +15,7 @@ fn starts_balise(f: &[u8], from: usize, x: usize) -> bool
     ensures { result ≡ test (balise_starts f.now from x) }
 {
     let mut at = from;
+    // Stays (3): no plainer; a step is the size of the balise just read, which no range counts by, and an iterator of our own is longer.
     while at < x {
         at = at + size_of(f, Kind::Balise, at);
     }

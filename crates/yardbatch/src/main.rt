@@ -10,52 +10,18 @@
 // more, is a line on standard error and ends the run.
 #![tactic(auto)]
 
-ghost use Rattle.std.specs.Prelude.{◌≤◌, length, IfOk};
-
 use ahead::LIES;
 use listings::{MOST_ROOM, NO_ROOM};
-use octets::{byte_at, least, u32_at};
+use octets::{byte_at, u32_at};
 use route_question::Engine;
-use std::io;
-use std::io::{Read, Stderr, Stdout};
+use std::alloc::AllocError;
+use std::io::{ErrorKind, Read};
+use std::{fmt, io};
 
 mod load;
 
 // What stands before the files of a case: the question, four numbers and two lengths.
 const HEAD: usize = 25;
-
-// The questions.
-const X1: usize = 1;
-
-const X2: usize = 2;
-
-const PAIR: usize = 3;
-
-const TRACK: usize = 4;
-
-const POINT: usize = 5;
-
-const COORDINATE: usize = 6;
-
-const RECORD: usize = 7;
-
-const ROUTES: usize = 8;
-
-const HEADER1: usize = 9;
-
-const HEADER2: usize = 10;
-
-const ROUTES2: usize = 11;
-
-const DEGREES: usize = 12;
-
-const POINT_DEGREES: usize = 13;
-
-const LOAD: usize = 14;
-
-const AHEAD: usize = 15;
-
-const X1_VERSION_1: usize = 16;
 
 // Where the four numbers stand, and the bytes of each.
 const NUMBERS: usize = 1;
@@ -67,300 +33,247 @@ const FIRST_LENGTH: usize = 17;
 
 const SECOND_LENGTH: usize = 21;
 
-// A byte more than the longest file: a file that fills the room is too long, whatever follows.
-const ROOM: usize = 65536;
+// A byte more than the longest file: of a longer one no more is kept, since it is too long, whatever follows.
+const FILE_MOST: usize = 65536;
 
-// A byte more than there are lies: a list that fills the room is too long, whatever follows.
-const LIES_ROOM: usize = LIES + 1;
+// The same of the lies.
+const LIES_MOST: usize = LIES + 1;
 
-// As many bytes are passed over at once.
-const PART: usize = 4096;
+// The question load, which load.rt answers.
+const LOAD: u8 = 14;
 
-// Says why the run ends. It answers false: there is no next case.
-fn stop(err: Stderr, why: &[u8]) -> io::Result<bool> {
-    err.write_all(why)?;
-    Ok(false)
+// The other questions.
+#[derive(Clone, Copy)]
+enum Question {
+    X1,
+    X2,
+    Pair,
+    Track,
+    Point,
+    Coordinate,
+    Record,
+    Routes(Engine),
+    Header1,
+    Header2,
+    Degrees,
+    PointDegrees,
+    Ahead,
+    X1Version1,
 }
 
-// The same, where the input ends too early.
-fn stop_inside(err: Stderr) -> io::Result<bool> {
-    stop(err, b"yardbatch: the input ends inside a case\n")
+// Why the run ends before its input does.
+#[derive(Debug, Drop)]
+enum Stop {
+    InsideCase,
+    UnknownQuestion,
+    TooManyLies,
+    LongList,
+    LargeRoom,
+    InsideCall,
+    UnknownCall,
+    LongCall,
+    // reading, or writing what the case answers, failed, or there was no memory
+    Failed(io::Error),
 }
 
-// Reads until the room is full or the input ends. It answers how many bytes then stand at the front of the room.
-fn read_full(input: &mut impl Read, room: &mut [u8]) -> io::Result<usize>
-    ensures { IfOk result (λ n. n ≤ length room.new) }
-{
-    let mut got = 0;
-    while got < room.len() {
-        let n = input.read(&mut room[got..])?;
-        if n == 0 {
-            break;
+impl fmt::Display for Stop {
+    fn fmt<W: fmt::Write>(&self, f: &mut fmt::Formatter<W>) -> fmt::Result {
+        match self {
+            Stop::InsideCase => f.write_str("the input ends inside a case"),
+            Stop::UnknownQuestion => f.write_str("unknown question"),
+            Stop::TooManyLies => f.write_str("a case has more lies than bytes"),
+            Stop::LongList => write!(
+                f,
+                "a list takes more words than the {MOST_ROOM} that this program has room for"
+            ),
+            Stop::LargeRoom => f.write_str("a case has a room of more than 65536 bytes"),
+            Stop::InsideCall => f.write_str("the calls of a case end inside a call"),
+            Stop::UnknownCall => {
+                f.write_str("an unknown call, or an opening of other than 20 bytes")
+            }
+            Stop::LongCall => f.write_str("a call has more than 131072 bytes"),
+            Stop::Failed(e) => write!(f, "{e}"),
         }
-        got += n;
     }
-    Ok(got)
 }
 
-// Passes over n bytes of the input, no more than a part. It answers whether they were there.
-fn part_passed_over(input: &mut impl Read, n: usize) -> io::Result<bool>
-    requires { n ≤ 4096 }
-{
-    let mut part = [0u8; PART];
-    let got = read_full(input, &mut part[..n])?;
-    Ok(n <= got)
-}
-
-// Passes over n bytes of the input. It answers whether they were there.
-fn passed_over(input: &mut impl Read, n: usize) -> io::Result<bool> {
-    let mut left = n;
-    while 0 < left {
-        let part = least(left, PART);
-        if !part_passed_over(input, part)? {
-            return Ok(false);
+impl From<io::Error> for Stop {
+    fn from(e: io::Error) -> Stop {
+        match e.kind() {
+            ErrorKind::UnexpectedEof => Stop::InsideCase,
+            _ => Stop::Failed(e),
         }
-        left -= part;
     }
-    Ok(true)
 }
 
-// Reads a file of n bytes, of which there is room for some, and passes over the others. It answers whether all its bytes were there.
-fn read_file(input: &mut impl Read, room: &mut [u8], n: usize) -> io::Result<bool> {
-    let kept = room.len();
-    let got = read_full(input, room)?;
-    if got < kept {
-        return Ok(false);
+impl From<AllocError> for Stop {
+    fn from(e: AllocError) -> Stop {
+        Stop::Failed(io::Error::from(e))
     }
-    if n < kept {
-        return Ok(false);
-    }
-    passed_over(input, n - kept)
 }
 
-// The list of routes of a case that lends as many words, by an engine. It answers the number of the answer.
-fn listed(out: Stdout, engine: Engine, head: &[u8], f: &[u8], words: usize) -> usize {
-    let start = u32_at(head, NUMBERS);
-    let limit = u32_at(head, NUMBERS + NUMBER);
-    let budget = u32_at(head, NUMBERS + 2 * NUMBER);
-    listings::routes(out, engine, f, start, limit, budget, words)
+// What stands before the files of a case.
+#[derive(Drop)]
+struct Head {
+    bytes: Vec<u8>,
 }
 
-// Answers the question routes, by an engine. It answers whether it could.
-fn routes_answered(
-    out: Stdout,
-    err: Stderr,
-    engine: Engine,
-    head: &[u8],
-    f: &[u8],
-) -> io::Result<bool> {
-    let words = u32_at(head, NUMBERS + 3 * NUMBER);
-    let number = listed(out, engine, head, f, words);
-    if number == NO_ROOM && MOST_ROOM < words {
-        return stop(
-            err,
-            b"yardbatch: a list takes more words than the 65535 that this program has room for\n",
-        );
+impl Head {
+    // Reads the next one; none where the input has ended.
+    fn read(rt: HostRuntime) -> Result<Option<Head>, Stop> {
+        let mut bytes = Vec::new(rt.alloc());
+        match rt.stdin().take(HEAD as u64).read_to_end(&mut bytes)? {
+            0 => Ok(None),
+            HEAD => Ok(Some(Head { bytes })),
+            _ => Err(Stop::InsideCase),
+        }
     }
-    Ok(true)
+
+    // The code of the question.
+    fn code(&self) -> u8 {
+        byte_at(&self.bytes, 0) as u8
+    }
+
+    fn numbers(&self) -> [usize; 4] {
+        [
+            u32_at(&self.bytes, NUMBERS),
+            u32_at(&self.bytes, NUMBERS + NUMBER),
+            u32_at(&self.bytes, NUMBERS + 2 * NUMBER),
+            u32_at(&self.bytes, NUMBERS + 3 * NUMBER),
+        ]
+    }
+
+    fn first_length(&self) -> usize {
+        u32_at(&self.bytes, FIRST_LENGTH)
+    }
+
+    fn second_length(&self) -> usize {
+        u32_at(&self.bytes, SECOND_LENGTH)
+    }
 }
 
-// Answers a question about a whole file or a pair, and says whether it is one.
-fn file_answered(out: Stdout, question: usize, first: &[u8], second: &[u8]) -> bool {
-    if question == X1 {
-        answers::x1(out, first);
-        return true;
+impl TryFrom<u8> for Question {
+    type Error = Stop;
+
+    fn try_from(code: u8) -> Result<Self, Stop> {
+        match code {
+            1 => Ok(Question::X1),
+            2 => Ok(Question::X2),
+            3 => Ok(Question::Pair),
+            4 => Ok(Question::Track),
+            5 => Ok(Question::Point),
+            6 => Ok(Question::Coordinate),
+            7 => Ok(Question::Record),
+            8 => Ok(Question::Routes(Engine::First)),
+            9 => Ok(Question::Header1),
+            10 => Ok(Question::Header2),
+            11 => Ok(Question::Routes(Engine::Second)),
+            12 => Ok(Question::Degrees),
+            13 => Ok(Question::PointDegrees),
+            15 => Ok(Question::Ahead),
+            16 => Ok(Question::X1Version1),
+            _ => Err(Stop::UnknownQuestion),
+        }
     }
-    if question == X2 {
-        answers::x2(out, first);
-        return true;
-    }
-    if question == PAIR {
-        answers::pair(out, first, second);
-        return true;
-    }
-    if question == HEADER1 {
-        answers::header1(out, first);
-        return true;
-    }
-    if question == HEADER2 {
-        answers::header2(out, first);
-        return true;
-    }
-    if question == X1_VERSION_1 {
-        answers::x1_version_1(out, first);
-        return true;
-    }
-    false
 }
 
-// Answers a question about what a file holds, by its numbers, and says whether it is one.
-fn part_answered(out: Stdout, question: usize, head: &[u8], first: &[u8]) -> bool {
-    let a = u32_at(head, NUMBERS);
-    let b = u32_at(head, NUMBERS + NUMBER);
-    if question == TRACK {
-        answers::track(out, first, a);
-        return true;
+// Passes over n bytes of the input.
+fn pass_over(rt: HostRuntime, n: usize) -> Result<(), Stop> {
+    let passed = io::copy(&mut rt.stdin().take(n as u64), &mut io::sink())?;
+    if passed < n as u64 {
+        return Err(Stop::InsideCase);
     }
-    if question == POINT {
-        answers::point(out, first, a, b);
-        return true;
-    }
-    if question == COORDINATE {
-        answers::coordinate(out, first, a, b);
-        return true;
-    }
-    if question == RECORD {
-        answers::record(out, first, a);
-        return true;
-    }
-    if question == DEGREES {
-        answers::degrees(out, first, a, b);
-        return true;
-    }
-    if question == POINT_DEGREES {
-        answers::point_degrees(out, first, a, b);
-        return true;
-    }
-    false
+    Ok(())
 }
 
-// Answers the question ahead.
-fn ahead_answered(out: Stdout, head: &[u8], first: &[u8], second: &[u8], lies: &[u8]) {
-    let offset = u32_at(head, NUMBERS);
-    let link = u32_at(head, NUMBERS + NUMBER);
-    let room = u32_at(head, NUMBERS + 3 * NUMBER);
-    answers::ahead(out, first, second, offset, link, lies, room);
+// Reads a file of n bytes. The first of them are kept, as many as are asked for, and the others passed over.
+fn read_file(rt: HostRuntime, n: usize, most: usize) -> Result<Vec<u8>, Stop> {
+    let mut kept = vec![in rt.alloc(); 0u8; n.min(most)]?;
+    rt.stdin().read_exact(&mut kept)?;
+    pass_over(rt, n - n.min(most))?;
+    Ok(kept)
 }
 
-// Answers the question of a case. It answers whether it could.
-fn answered(
-    out: Stdout,
-    err: Stderr,
-    head: &[u8],
+// Answers a question about the files and the lies of a case.
+fn answer_question(
+    rt: HostRuntime,
+    question: Question,
+    numbers: [usize; 4],
     first: &[u8],
     second: &[u8],
     lies: &[u8],
-) -> io::Result<bool> {
-    let question = byte_at(head, 0);
-    if question == ROUTES {
-        return routes_answered(out, err, Engine::First, head, first);
-    }
-    if question == ROUTES2 {
-        return routes_answered(out, err, Engine::Second, head, first);
-    }
-    if question == AHEAD {
-        ahead_answered(out, head, first, second, lies);
-        return Ok(true);
-    }
-    if file_answered(out, question, first, second) {
-        return Ok(true);
-    }
-    if part_answered(out, question, head, first) {
-        return Ok(true);
-    }
-    stop(err, b"yardbatch: unknown question\n")
+) -> Result<(), Stop> {
+    let out = rt.stdout();
+    let [a, b, c, room] = numbers;
+    match question {
+        Question::X1 => answers::x1(out, first),
+        Question::X2 => answers::x2(out, first),
+        Question::Pair => answers::pair(out, first, second),
+        Question::Track => answers::track(out, first, a),
+        Question::Point => answers::point(out, first, a, b),
+        Question::Coordinate => answers::coordinate(out, first, a, b),
+        Question::Record => answers::record(out, first, a),
+        Question::Routes(engine) => listed(
+            listings::routes(out, engine, first, a, b, c, room),
+            room,
+        )?,
+        Question::Header1 => answers::header1(out, first),
+        Question::Header2 => answers::header2(out, first),
+        Question::Degrees => answers::degrees(out, first, a, b),
+        Question::PointDegrees => answers::point_degrees(out, first, a, b),
+        Question::Ahead => answers::ahead(out, first, second, a, b, lies, room),
+        Question::X1Version1 => answers::x1_version_1(out, first),
+    };
+    Ok(())
 }
 
-// Reads the files and the lies of a case, of n, m and k bytes, and answers it. It answers whether there may be a next case.
-fn case_in(
-    input: &mut impl Read,
-    out: Stdout,
-    err: Stderr,
-    head: &[u8],
-    first: &mut [u8],
-    n: usize,
-    second: &mut [u8],
-    m: usize,
-    lies: &mut [u8],
-    k: usize,
-) -> io::Result<bool> {
-    if !read_file(input, first, n)? {
-        return stop_inside(err);
+// The number of an answer to routes, unless it says that there is no room where the case lends more words than are here.
+fn listed(number: usize, room: usize) -> Result<usize, Stop> {
+    if number == NO_ROOM && MOST_ROOM < room {
+        return Err(Stop::LongList);
     }
-    if !read_file(input, second, m)? {
-        return stop_inside(err);
-    }
-    if !read_file(input, lies, k)? {
-        return stop_inside(err);
-    }
-    if !answered(out, err, head, first, second, lies)? {
-        return Ok(false);
-    }
-    out.write_all(b"\n")?;
-    Ok(true)
+    Ok(number)
 }
 
-// The same, with room for the two files and the lies, where the second file has m bytes and there are k lies.
-fn case_with(
-    input: &mut impl Read,
-    out: Stdout,
-    err: Stderr,
-    head: &[u8],
-    m: usize,
-    k: usize,
-) -> io::Result<bool> {
-    let mut first = [0u8; ROOM];
-    let mut second = [0u8; ROOM];
-    let mut lies = [0u8; LIES_ROOM];
-    let n = u32_at(head, FIRST_LENGTH);
-    let a = least(n, ROOM);
-    let b = least(m, ROOM);
-    let c = least(k, LIES_ROOM);
-    case_in(
-        input,
-        out,
-        err,
-        head,
-        &mut first[..a],
-        n,
-        &mut second[..b],
-        m,
-        &mut lies[..c],
-        k,
-    )
+// Answers a case about files. The lies stand at the end of its second byte string.
+fn answer_files(rt: HostRuntime, head: &Head) -> Result<(), Stop> {
+    let question = Question::try_from(head.code());
+    let numbers = head.numbers();
+    let lies = match question {
+        Ok(Question::Ahead) => numbers[2],
+        _ => 0,
+    };
+    let Some(bytes) = head.second_length().checked_sub(lies) else {
+        return Err(Stop::TooManyLies);
+    };
+    let first = read_file(rt, head.first_length(), FILE_MOST)?;
+    let second = read_file(rt, bytes, FILE_MOST)?;
+    let lies = read_file(rt, lies, LIES_MOST)?;
+    answer_question(rt, question?, numbers, &first, &second, &lies)?;
+    rt.stdout().write_all(b"\n")?;
+    Ok(())
 }
 
-// How many lies stand at the end of the second byte string of a case.
-fn lies_of(head: &[u8]) -> usize {
-    if byte_at(head, 0) == AHEAD {
-        return u32_at(head, NUMBERS + 2 * NUMBER);
-    }
-    0
-}
-
-// Answers the case that begins with a head. It answers whether there may be a next case.
-fn case_of(input: &mut impl Read, out: Stdout, err: Stderr, head: &[u8]) -> io::Result<bool> {
-    if byte_at(head, 0) == LOAD {
-        return load::case_of(input, out, err, head);
-    }
-    let bytes = u32_at(head, SECOND_LENGTH);
-    let lies = lies_of(head);
-    if bytes < lies {
-        return stop(err, b"yardbatch: a case has more lies than bytes\n");
-    }
-    case_with(input, out, err, head, bytes - lies, lies)
-}
-
-// Reads and answers a case. It answers whether there may be a next one.
-fn next_case(input: &mut impl Read, out: Stdout, err: Stderr) -> io::Result<bool> {
-    let mut head = [0u8; HEAD];
-    let got = read_full(input, &mut head)?;
-    if got == 0 {
-        return Ok(false);
-    }
-    if got < HEAD {
-        return stop_inside(err);
-    }
-    case_of(input, out, err, &head)
-}
-
-// A proved loop has to end, and nothing says that the input does: it stops after as many cases as no run has.
-fn main(rt: HostRuntime) -> io::Result<()> {
-    let mut input = rt.stdin();
+// Answers every case of the input. A proved loop has to end, and nothing says that the input does: it stops after as many cases as no run has.
+fn answer_all(rt: HostRuntime) -> Result<(), Stop> {
+    // Stays (3): nothing says that a `while let` ends, since nothing says that the input does.
     for _ in 0..u64::MAX {
-        if !next_case(&mut input, rt.stdout(), rt.stderr())? {
+        let Some(head) = Head::read(rt)? else {
             break;
+        };
+        if head.code() == LOAD {
+            load::answer(rt, &head)?;
+        } else {
+            answer_files(rt, &head)?;
         }
     }
     Ok(())
+}
+
+fn main(rt: HostRuntime) -> io::Result<()> {
+    match answer_all(rt) {
+        Ok(()) => Ok(()),
+        Err(Stop::Failed(e)) => Err(e),
+        Err(stop) => eprintln!(rt; "yardbatch: {stop}"),
+    }
 }

@@ -4,19 +4,20 @@
 // off is handed on as it came, and an input that ends inside a length is a piece of no bytes: the loader refuses both.
 #![tactic(auto)]
 
-ghost use Rattle.std.specs.Prelude.{◌≡◌, ◌≤◌, length, IfOk};
+ghost use Rattle.std.specs.Prelude.{◌≡◌};
 
 use decimal::number_in;
 use loading::refusals::{finishing_refused, opening_refused, piece_refused};
-use loading::said::{say, say_number, wrong, wrong_word};
-use octets::{least, less, u32_at};
+use loading::said::{wrong, wrong_word};
+use octets::u32_at;
 use std::env::FillError;
-use std::io;
 use std::io::{Read, Stderr, Stdout};
 use std::rt::Env;
-use transfer::opening::nothing_opened;
+use std::{fmt, io};
+use transfer::finishing::finish;
+use transfer::opening::{nothing_opened, opening};
+use transfer::pieces::piece;
 use transfer::{Identity, State};
-use verdict::Verdict;
 
 // The program's name, for what it says.
 const NAME: [u8; 8] = *b"yardload";
@@ -34,30 +35,32 @@ const TRAILER: usize = 5;
 
 const WORDS: usize = 6;
 
-// A number of the command is at most this; the longest word that may be one; and what stands for a word that is none.
-const NUMBER_MOST: u32 = 0xFFFF_FFFF;
-
+// The longest word that may be a number.
+// Stays (6): the library's `env::args` gives no word where one of them is no UTF-8, and what is wrong is said with the word as it was given.
 const NUMBER_ROOM: usize = 32;
-
-const NO_NUMBER: usize = 0x1_0000_0000;
 
 // A byte more than the longest file is the room that the file is gathered in.
 const FILE_ROOM: usize = 65536;
 
 // How many bytes a piece may have here, and how many stand before it, which are its length.
-const PIECE_ROOM: usize = 131072;
+const PIECE_MOST: usize = 131072;
 
 const LENGTH: usize = 4;
 
-// How far a run has come: the loader's state, how many pieces there were, how many of them were taken, how many bytes of a piece that cannot be
-// held are still to be passed over, and whether the input may go on.
+// What stands next in the input: a piece, as far as the input has it, or one of so many bytes that cannot be held.
+#[derive(Drop)]
+enum Next {
+    Piece(Vec<u8>),
+    Long(usize),
+}
+
+// How far a run has come: the identity that was asked for, the loader's state, how many pieces there were, and how many of them were taken.
 #[derive(Clone, Copy)]
 struct Run {
+    identity: Identity,
     state: State,
     pieces: usize,
     taken: usize,
-    left: usize,
-    more: bool,
 }
 
 // What became of the file.
@@ -68,280 +71,148 @@ enum End {
     Nothing,
 }
 
-// Room for a piece. The contract says how much it is, which is all that lending it needs.
-fn piece_room() -> [u8; PIECE_ROOM]
-    ensures { 131072 ≡ length result }
-{
-    [0; PIECE_ROOM]
-}
-
-// ---- standard error
-
-// A piece that is longer than there is room for.
-fn long_line(err: Stderr, number: usize, n: usize) {
-    say(err, b"piece ");
-    say_number(err, number);
-    say(err, b" has ");
-    say_number(err, n);
-    say(err, b" bytes, more than this program holds\n");
-}
-
-// What became of the file, as the end of a line.
-fn say_end(err: Stderr, end: End) {
-    match end {
-        End::Printed => say(err, b", file printed\n"),
-        End::PrintedInPart => say(err, b", file not printed whole\n"),
-        End::Nothing => say(err, b", nothing printed\n"),
+impl fmt::Display for End {
+    fn fmt<W: fmt::Write>(&self, f: &mut fmt::Formatter<W>) -> fmt::Result {
+        f.write_str(match self {
+            End::Printed => "file printed",
+            End::PrintedInPart => "file not printed whole",
+            End::Nothing => "nothing printed",
+        })
     }
-}
-
-// The last line: how many pieces were taken, how many bytes have come, and what became of the file.
-fn end_line(err: Stderr, taken: usize, pieces: usize, due: usize, total: usize, end: End) {
-    say(err, b"end: ");
-    say_number(err, taken);
-    say(err, b" of ");
-    say_number(err, pieces);
-    say(err, b" pieces taken, ");
-    say_number(err, due);
-    say(err, b" of ");
-    say_number(err, total);
-    say(err, b" bytes");
-    say_end(err, end);
 }
 
 // ---- pieces
 
-// Reads until the room is full or the input ends. It answers how many bytes then stand at the front of the room.
-fn read_full(input: &mut impl Read, room: &mut [u8]) -> io::Result<usize>
-    ensures { IfOk result (λ n. n ≤ length room.new) }
-{
-    let mut got = 0;
-    while got < room.len() {
-        let n = input.read(&mut room[got..])?;
-        if n == 0 {
-            break;
-        }
-        got += n;
-    }
-    Ok(got)
-}
-
-// The run with one piece more, which is refused or cannot be held; of that so many bytes are to be passed over.
-fn not_taken(run: Run, left: usize) -> Run {
-    let state = run.state;
-    Run {
-        state,
-        pieces: run.pieces.wrapping_add(1),
-        taken: run.taken,
-        left,
-        more: true,
-    }
-}
-
-// The run with one piece more, which is taken, and the state after it.
-fn taken(run: Run, state: State) -> Run {
-    Run {
-        state,
-        pieces: run.pieces.wrapping_add(1),
-        taken: run.taken.wrapping_add(1),
-        left: 0,
-        more: true,
-    }
-}
-
-// Hands a piece to the loader. It is said where it is refused.
-fn handed(err: Stderr, run: Run, piece: &[u8], room: &mut [u8]) -> Run {
-    let step = transfer::pieces::piece(run.state, piece, room);
-    let verdict = step.verdict;
-    match verdict {
-        Verdict::Accepted => taken(run, step.state),
-        Verdict::Refused(fault) => {
-            piece_refused(err, run.pieces.wrapping_add(1), fault);
-            not_taken(run, 0)
-        }
-    }
-}
-
-// Says that a piece of n bytes cannot be held.
-fn not_held(err: Stderr, run: Run, n: usize) -> Run {
-    long_line(err, run.pieces.wrapping_add(1), n);
-    not_taken(run, n)
-}
-
-// Passes over bytes of a piece that cannot be held, as many as there is room for at once.
-fn passed_over(input: &mut impl Read, run: Run, piece: &mut [u8]) -> io::Result<Run> {
-    let part = least(run.left, piece.len());
-    let got = read_full(input, &mut piece[..part])?;
-    let state = run.state;
-    Ok(Run {
-        state,
-        pieces: run.pieces,
-        taken: run.taken,
-        left: less(run.left, part),
-        more: got == part,
-    })
-}
-
-// The run where the input has ended.
-fn ended(run: Run) -> Run {
-    let state = run.state;
-    Run {
-        state,
-        pieces: run.pieces,
-        taken: run.taken,
-        left: 0,
-        more: false,
-    }
-}
-
-// Reads a piece that has just the room that it takes, as far as the input has it, and hands it on.
-fn read_piece(
-    input: &mut impl Read,
-    err: Stderr,
-    run: Run,
-    piece: &mut [u8],
-    room: &mut [u8],
-) -> io::Result<Run> {
-    let got = read_full(input, piece)?;
-    Ok(handed(err, run, &piece[..got], room))
-}
-
-// Reads the next piece, with its length, or passes over more of the one before it.
-fn next(
-    input: &mut impl Read,
-    err: Stderr,
-    run: Run,
-    piece: &mut [u8],
-    room: &mut [u8],
-) -> io::Result<Run> {
-    if 0 < run.left {
-        return passed_over(input, run, piece);
-    }
-    let mut length = [0u8; LENGTH];
-    let got = read_full(input, &mut length)?;
-    if got == 0 {
-        return Ok(ended(run));
-    }
-    if got < LENGTH {
-        return Ok(handed(err, run, &length[..0], room));
+// What stands next in the input; none where it has ended. One that ends inside a length is a piece of no bytes.
+fn read_next(input: &mut impl Read, rt: HostRuntime) -> io::Result<Option<Next>> {
+    let mut length = Vec::new(rt.alloc());
+    match input.take(LENGTH as u64).read_to_end(&mut length)? {
+        0 => return Ok(None),
+        LENGTH => {}
+        _ => return Ok(Some(Next::Piece(Vec::new(rt.alloc())))),
     }
     let n = u32_at(&length, 0);
-    if piece.len() < n {
-        return Ok(not_held(err, run, n));
+    if PIECE_MOST < n {
+        return Ok(Some(Next::Long(n)));
     }
-    read_piece(input, err, run, &mut piece[..n], room)
+    let mut piece = Vec::new(rt.alloc());
+    input.take(n as u64).read_to_end(&mut piece)?;
+    Ok(Some(Next::Piece(piece)))
 }
 
-// Hands on every piece of the input. A proved loop has to end, and nothing says that the input does: it stops after as many pieces as no run has.
-fn gathered(
-    input: &mut impl Read,
-    err: Stderr,
-    state: State,
-    piece: &mut [u8],
-    room: &mut [u8],
-) -> io::Result<Run> {
-    let mut run = Run {
-        state,
-        pieces: 0,
-        taken: 0,
-        left: 0,
-        more: true,
-    };
-    for _ in 0..u64::MAX {
-        if !run.more {
-            break;
+impl Run {
+    // Hands the next piece to the loader. It is said where it is refused.
+    fn hand(&mut self, err: Stderr, bytes: &[u8], room: &mut [u8]) {
+        self.pieces = self.pieces.wrapping_add(1);
+        let step = piece(self.state, bytes, room);
+        match step.verdict {
+            Ok(()) => {
+                self.state = step.state;
+                self.taken = self.taken.wrapping_add(1);
+            }
+            Err(fault) => piece_refused(err, self.pieces, fault),
         }
-        run = next(input, err, run, piece, room)?;
     }
-    Ok(run)
+
+    // Passes over the next piece, which has so many bytes, and says that it cannot be held.
+    fn pass_over(&mut self, input: &mut impl Read, err: Stderr, n: usize) -> io::Result<()> {
+        self.pieces = self.pieces.wrapping_add(1);
+        let number = self.pieces;
+        let _ = println!(err; "piece {number} has {n} bytes, more than this program holds");
+        io::copy(&mut input.take(n as u64), &mut io::sink())?;
+        Ok(())
+    }
+
+    // Hands on every piece of the input. A proved loop has to end, and nothing says that the input does: it stops after as many pieces as no run
+    // has.
+    fn gather(&mut self, rt: HostRuntime, room: &mut [u8]) -> io::Result<()> {
+        let mut input = rt.stdin();
+        // Stays (3): nothing says that a `while let` ends, since nothing says that the input does.
+        for _ in 0..u64::MAX {
+            match read_next(&mut input, rt)? {
+                None => break,
+                Some(Next::Piece(bytes)) => self.hand(rt.stderr(), &bytes, room),
+                Some(Next::Long(n)) => self.pass_over(&mut input, rt.stderr(), n)?,
+            }
+        }
+        Ok(())
+    }
+
+    // Says how many pieces were taken, how many bytes have come, and what became of the file.
+    fn say(self, err: Stderr, end: End) {
+        let _ = println!(err;
+            "end: {} of {} pieces taken, {} of {} bytes, {end}",
+            self.taken, self.pieces, self.state.due, self.identity.total
+        );
+    }
 }
 
 // ---- the file
 
 // Prints the file where finishing is accepted. It is said where it is refused.
 fn printed(out: Stdout, err: Stderr, state: State, room: &[u8]) -> End {
-    let verdict = transfer::finishing::finish(state, room);
+    let verdict = finish(state, room);
     let identity = state.identity;
     let total = identity.total;
     match verdict {
-        Verdict::Accepted => {
+        Ok(()) => {
             if out.write_all(&room[..total]).is_ok() {
                 End::Printed
             } else {
                 End::PrintedInPart
             }
         }
-        Verdict::Refused(fault) => {
+        Err(fault) => {
             finishing_refused(err, fault);
             End::Nothing
         }
     }
 }
 
-// Loads the file of a transfer that is opened.
-fn load(
-    input: &mut impl Read,
-    out: Stdout,
-    err: Stderr,
-    state: State,
-    room: &mut [u8],
-) -> io::Result<()> {
-    let mut piece = piece_room();
-    let run = gathered(input, err, state, &mut piece, room)?;
-    let last = run.state;
-    let identity = last.identity;
-    let end = printed(out, err, last, room);
-    end_line(err, run.taken, run.pieces, last.due, identity.total, end);
-    Ok(())
-}
-
 // Opens a transfer and loads its file. It is said where the opening is refused, and then nothing is read.
-fn opened(input: &mut impl Read, out: Stdout, err: Stderr, identity: Identity) -> io::Result<()> {
-    let mut room = [0u8; FILE_ROOM];
-    let step = transfer::opening::opening(nothing_opened(), identity, room.len());
-    let verdict = step.verdict;
-    match verdict {
-        Verdict::Accepted => load(input, out, err, step.state, &mut room),
-        Verdict::Refused(fault) => {
-            opening_refused(err, fault);
-            end_line(err, 0, 0, 0, identity.total, End::Nothing);
-            Ok(())
+fn load(rt: HostRuntime, identity: Identity) -> io::Result<()> {
+    let mut room = vec![in rt.alloc(); 0u8; FILE_ROOM]?;
+    let step = opening(nothing_opened(), identity, room.len());
+    let mut run = Run {
+        identity,
+        state: step.state,
+        pieces: 0,
+        taken: 0,
+    };
+    let end = match step.verdict {
+        Ok(()) => {
+            run.gather(rt, &mut room)?;
+            printed(rt.stdout(), rt.stderr(), run.state, &room)
         }
-    }
+        Err(fault) => {
+            opening_refused(rt.stderr(), fault);
+            End::Nothing
+        }
+    };
+    run.say(rt.stderr(), end);
+    Ok(())
 }
 
 // ---- the command
 
 // How many words the command has, the program's own name being the first of them.
+// Stays (2): in each program that counts them; a public function of a library is determined by its input (crate promises), and these are none.
 fn word_count(rt: HostRuntime) -> usize {
-    for i in 0..usize::MAX {
-        if let Err(FillError::NotPresent) = rt.arg(i, &mut []) {
-            return i;
-        }
-    }
-    usize::MAX
+    (0..usize::MAX)
+        .take_while(|i| !matches!(rt.arg(*i, &mut []), Err(FillError::NotPresent)))
+        .count()
 }
 
 // The number that a word of the command is. It is said where it is none.
-fn number(rt: HostRuntime, i: usize) -> usize {
+fn number(rt: HostRuntime, i: usize) -> Option<usize> {
     let mut word = [0u8; NUMBER_ROOM];
     if let Ok(n) = rt.arg(i, &mut word) {
-        let found = number_in(&word[..n], NUMBER_MOST);
-        if found < NO_NUMBER {
-            return found;
+        if let Ok(found) = u32::try_from(number_in(&word[..n], u32::MAX)) {
+            return Some(found as usize);
         }
     }
     wrong_word(rt, &NAME, b"no number below 4294967296:", i);
-    NO_NUMBER
-}
-
-// Whether each number of an identity is one.
-fn is_given(i: Identity) -> bool {
-    (i.station < NO_NUMBER)
-        & (i.kind < NO_NUMBER)
-        & (i.version < NO_NUMBER)
-        & (i.total < NO_NUMBER)
-        & (i.trailer < NO_NUMBER)
+    None
 }
 
 fn main(rt: HostRuntime) -> io::Result<()> {
@@ -353,15 +224,23 @@ fn main(rt: HostRuntime) -> io::Result<()> {
         );
         return Ok(());
     }
-    let identity = Identity {
-        station: number(rt, STATION),
-        kind: number(rt, KIND),
-        version: number(rt, VERSION),
-        total: number(rt, TOTAL),
-        trailer: number(rt, TRAILER),
-    };
-    if is_given(identity) {
-        opened(&mut rt.stdin(), rt.stdout(), rt.stderr(), identity)?;
+    let numbers = [STATION, KIND, VERSION, TOTAL, TRAILER].map(|i| number(rt, i));
+    if let [
+        Some(station),
+        Some(kind),
+        Some(version),
+        Some(total),
+        Some(trailer),
+    ] = numbers
+    {
+        let identity = Identity {
+            station,
+            kind,
+            version,
+            total,
+            trailer,
+        };
+        load(rt, identity)?;
     }
     Ok(())
 }

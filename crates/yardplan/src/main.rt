@@ -3,23 +3,22 @@
 // is said on standard error.
 #![tactic(auto)]
 
-ghost use Rattle.std.specs.Prelude.{◌≡◌, ◌≤◌, length, IfOk, IfSome};
-ghost use Rattle.plan_reading.specs.ReadPlan.{plan_read, named_by, named_in};
+ghost use Rattle.std.specs.Prelude.{◌≡◌, ◌≤◌, length};
+ghost use Rattle.std.specs.Iterator.{YieldsFirstRef, at_most};
+ghost use Rattle.plan_reading.specs.ReadPlan.{lines_in, plan_read, named_by, named_in};
 
 use decimal::number_in;
-use octets::{byte_at, least, less};
 use plan_lines::{Slip, length_before};
-use plan_question::{Compared, MOST_ROOM, PlanAnswer};
-use plan_reading::{NO_START, Reading, Said, take};
+use plan_question::{Compared, MOST_ROOM};
+use plan_reading::{Reading, Said, take};
 use plan_routes::{is_apart, route_end};
 use route_question::Engine;
 use std::env::FillError;
 use std::fs::File;
 use std::io::{Read, Stderr, Stdout};
 use std::rt::Env;
-use std::{fs, io, str};
-use text::{head, line, write, write_number};
-use verdict::Fault;
+use std::{fmt, fs, str};
+use verdict::{Fault, answer_number, answer_place};
 
 // Where the words of the command stand, the program's own name being the first of them, and how many there may be before the one that picks
 // the second engine.
@@ -38,7 +37,7 @@ const WORDS_LEAST: usize = 3;
 const WORDS_MOST: usize = 6;
 
 // The last word of a command, after both files, where the second engine is to list the routes.
-const SECOND_ENGINE: [u8; 7] = *b"routes2";
+const SECOND_ENGINE: &[u8] = b"routes2";
 
 // What a limit, a budget and a room are that the command leaves out.
 const LIMIT_LEFT_OUT: usize = 0;
@@ -47,28 +46,45 @@ const BUDGET_LEFT_OUT: usize = 65535;
 
 const ROOM_LEFT_OUT: usize = 65535;
 
-// The longest word that is shown, and that may name a file.
+// The longest word that is shown, and that may name a file; and the longest that may be a number.
 const WORD_ROOM: usize = 4096;
-
-// A number of the command is at most this; the longest word that may be one; and what stands for a word that is none.
-const NUMBER_MOST: u32 = 0xFFFF_FFFF;
 
 const NUMBER_ROOM: usize = 32;
 
-const NO_NUMBER: usize = 0x1_0000_0000;
+// How far a file is read: a byte more than the longest, since a file that has that is too long, whatever follows; and a byte further, so that it is
+// told where reading fails there.
+const FILE_MOST: u64 = 65537;
 
-// A byte more than the longest file, and a byte more than the longest plan: what fills its room is too long, whatever follows.
-const FILE_ROOM: usize = 65536;
+// How far a plan is read, for the same reasons, and how long it may be.
+const PLAN_MOST: u64 = 1048578;
 
-const PLAN_ROOM: usize = 1048577;
-
-// Room for the words of every plan: a route of n offsets takes n + 1 words, and with the end of its line at least 2 * n bytes; n is 2 or more.
-const PLAN_WORDS: usize = 1048577;
+const PLAN_LONGEST: usize = 1048576;
 
 // How many starts there may be: a start is an offset.
 const STARTS: usize = 65536;
 
-const LINE_END: u8 = 0x0A;
+const LINE_END: u8 = b'\n';
+
+// The lines of a text, one after the other.
+#[derive(Drop)]
+struct Lines<'a>(&'a [u8]);
+
+impl<'a> Iterator for Lines<'a> {
+    type Item = &'a [u8];
+
+    ghost next_gives = { YieldsFirstRef (λ s. lines_in s.0.now) };
+
+    ghost remaining = { λ s. at_most (length s.0.now) };
+
+    fn next(&mut self) -> Option<&'a [u8]> {
+        if self.0.is_empty() {
+            return None;
+        }
+        let (line, rest) = self.0.split_at(length_before(self.0, LINE_END));
+        self.0 = &rest[rest.len().min(1)..];
+        Some(line)
+    }
+}
 
 // What the routes are asked with.
 #[derive(Clone, Copy)]
@@ -79,81 +95,96 @@ struct Question {
     room: usize,
 }
 
-// Room for the words of a plan, and for its text. The contracts say how much it is, which is all that lending it needs.
-fn plan_words() -> [u16; PLAN_WORDS]
-    ensures { 1048577 ≡ length result }
-{
-    [0; PLAN_WORDS]
+// What is wrong with the command, and with which word of it; or with the plan.
+#[derive(Clone, Copy)]
+enum Wrong {
+    // too few or too many words
+    Count,
+    Number(usize),
+    // more words for the list than there are
+    Room,
+    NotOpened(usize),
+    NotRead(usize),
+    PlanLong,
+    // no memory for the words of the plan
+    Memory,
+    NoStart,
 }
 
-fn plan_room() -> [u8; PLAN_ROOM]
-    ensures { 1048577 ≡ length result }
-{
-    [0; PLAN_ROOM]
+impl fmt::Display for Wrong {
+    fn fmt<W: fmt::Write>(&self, f: &mut fmt::Formatter<W>) -> fmt::Result {
+        match self {
+            Wrong::Count => f.write_str(
+                "too few or too many words; it is asked by yardplan FILE PLAN [LIMIT [BUDGET [ROOM]]] [routes2]",
+            ),
+            Wrong::Number(_) => f.write_str("no number below 4294967296:"),
+            Wrong::Room => write!(
+                f,
+                "more words than the {MOST_ROOM} that this program has room for:"
+            ),
+            Wrong::NotOpened(_) => f.write_str("cannot open the file"),
+            Wrong::NotRead(_) => f.write_str("cannot read the file"),
+            Wrong::PlanLong => write!(f, "the plan is longer than {PLAN_LONGEST} bytes"),
+            Wrong::Memory => f.write_str("no memory for the plan"),
+            Wrong::NoStart => f.write_str("the plan names no start"),
+        }
+    }
 }
 
 // ---- standard error
 
-// Some text.
-fn say(err: Stderr, text: &[u8]) {
-    let _ = err.write_all(text);
-}
-
-// What is wrong with the command.
-fn wrong(err: Stderr, why: &[u8]) {
-    say(err, b"yardplan: ");
-    say(err, why);
-    say(err, b"\n");
-}
-
-// What is wrong with a word of it.
-fn wrong_word(rt: HostRuntime, why: &[u8], i: usize) {
+// Shows a word of the command, in quotes.
+// Stays (2): in each program that shows one; a public function of a library is determined by its input (crate promises), and these are none.
+fn show(rt: HostRuntime, i: usize) {
     let mut word = [0u8; WORD_ROOM];
     let n = rt.arg(i, &mut word).unwrap_or(0);
-    say(rt.stderr(), b"yardplan: ");
-    say(rt.stderr(), why);
-    say(rt.stderr(), b" '");
-    say(rt.stderr(), &word[..n]);
-    say(rt.stderr(), b"'\n");
+    let err = rt.stderr();
+    let _ = err.write_all(b" '");
+    let _ = err.write_all(&word[..n]);
+    let _ = err.write_all(b"'");
+}
+
+// Says what is wrong, and with which word.
+fn say(rt: HostRuntime, wrong: Wrong) {
+    let err = rt.stderr();
+    let _ = print!(err; "yardplan: {wrong}");
+    match wrong {
+        Wrong::Number(i) | Wrong::NotOpened(i) | Wrong::NotRead(i) => show(rt, i),
+        Wrong::Room => show(rt, ROOM),
+        Wrong::Count | Wrong::PlanLong | Wrong::Memory | Wrong::NoStart => {}
+    }
+    let _ = err.write_all(b"\n");
 }
 
 // What is wrong with a line of the plan.
-fn wrong_line(err: Stderr, number: usize, why: &[u8]) {
-    say(err, b"yardplan: line ");
-    let _ = print!(err; "{number}");
-    say(err, b" of the plan: ");
-    say(err, why);
-    say(err, b"\n");
-}
-
-// The same, by what it is.
-fn slip_line(err: Stderr, number: usize, slip: Slip) {
+fn slip_text(slip: Slip) -> &'static str {
     match slip {
-        Slip::From => wrong_line(err, number, b"'from' takes one offset from 0 to 65535"),
-        Slip::Word => wrong_line(err, number, b"a word is no offset from 0 to 65535"),
-        Slip::Few => wrong_line(err, number, b"a route has at least 2 offsets"),
-        Slip::Many => wrong_line(err, number, b"a route has at most 512 offsets"),
-        Slip::Elsewhere => wrong_line(
-            err,
-            number,
-            b"the route does not start at the offset of the 'from' line above it",
-        ),
-        Slip::Again => wrong_line(err, number, b"the route stands in an earlier line"),
-        Slip::NoRoom => wrong_line(err, number, b"there is no room for the route"),
+        Slip::From => "'from' takes one offset from 0 to 65535",
+        Slip::Word => "a word is no offset from 0 to 65535",
+        Slip::Few => "a route has at least 2 offsets",
+        Slip::Many => "a route has at most 512 offsets",
+        Slip::Elsewhere => "the route does not start at the offset of the 'from' line above it",
+        Slip::Again => "the route stands in an earlier line",
+        Slip::NoRoom => "there is no room for the route",
     }
 }
 
 // ---- the plan
 
 // Names the start that a line names, or says what is wrong with the line.
-fn tell(err: Stderr, number: usize, said: Said, named: &mut [bool; STARTS])
+fn tell(err: Stderr, number: usize, said: Result<Said, Slip>, named: &mut [bool; STARTS])
     ensures { named.new ≡ named_by said named.old }
 {
     match said {
-        Said::Nothing => {}
-        Said::Start(start) => named[start as usize] = true,
-        Said::Route(start) => named[start as usize] = true,
-        Said::Wrong(slip) => slip_line(err, number, slip),
+        Ok(said) => match said {
+            Said::Nothing => {}
+            Said::Start(start) => named[usize::from(start)] = true,
+            Said::Route(start) => named[usize::from(start)] = true,
+        },
+        Err(slip) => {
+            let why = slip_text(slip);
+            let _ = println!(err; "yardplan: line {number} of the plan: {why}");
+        }
     }
 }
 
@@ -165,19 +196,13 @@ fn read_plan(err: Stderr, text: &[u8], plan: &mut [u16], named: &mut [bool; STAR
     ensures upper_bound { result ≤ length plan.new }
 {
     let mut r = Reading {
-        start: NO_START,
+        start: None,
         words: 0,
     };
-    let mut lines = 0;
-    let mut at = 0;
-    while at < text.len() {
-        let end = at + length_before(&text[at..], LINE_END);
-        let taken = take(&text[at..end], r, plan);
-        let said = taken.said;
-        lines += 1;
-        tell(err, lines, said, named);
+    for (k, line) in Lines(text).enumerate() {
+        let taken = take(line, r, plan);
+        tell(err, k + 1, taken.said, named);
         r = taken.reading;
-        at = end + 1;
     }
     r.words
 }
@@ -185,269 +210,183 @@ fn read_plan(err: Stderr, text: &[u8], plan: &mut [u16], named: &mut [bool; STAR
 // ---- standard output
 
 // A route after its word, on a line.
-fn route_line(out: Stdout, name: &[u8], route: &[u16]) {
-    write(out, name);
+fn route_line(out: Stdout, name: &str, route: &[u16]) {
+    let _ = print!(out; "{name}");
     for offset in route {
-        write(out, b" ");
-        write_number(out, *offset as usize);
+        let _ = print!(out; " {offset}");
     }
-    write(out, b"\n");
+    let _ = println!(out);
 }
 
-// Of the routes in some words those that are from a start and do not stand among others, or all but those; a line for each.
-fn route_lines(out: Stdout, name: &[u8], words: &[u16], start: usize, others: &[u16], apart: bool) {
-    let mut at = 0;
-    while at < words.len() {
-        let end = route_end(words, at);
-        let route = &words[at + 1..end];
-        if is_apart(route, start, others) == apart {
+// Of the routes in some words those that are picked, a line for each.
+fn route_lines<F: Fn(&[u16]) -> bool>(out: Stdout, name: &str, words: &[u16], picks: F)
+    requires { F.IsAlwaysCallable picks }
+{
+    let mut rest = words;
+    // Stays (3): an iterator of plan_routes would be public, and what it hands out, a reference, has no theorem NAME_determined.
+    while !rest.is_empty() {
+        let (first, after) = rest.split_at(route_end(rest, 0));
+        let route = &first[1..];
+        if picks(route) {
             route_line(out, name, route);
         }
-        at = end;
+        rest = after;
     }
 }
 
-// How list and plan differ, and the routes of both, those that are missing and those that are extra.
-fn differing_lines(out: Stdout, c: Compared, start: usize, plan: &[u16], list: &[u16]) {
-    write(out, b" differs both ");
-    write_number(out, less(c.routes, c.extra));
-    write(out, b" missing ");
-    write_number(out, c.missing);
-    line(out, b" extra", c.extra);
-    route_lines(out, b"both", list, start, plan, false);
-    route_lines(out, b"missing", plan, start, list, true);
-    route_lines(out, b"extra", list, start, plan, true);
-}
-
-// What a list and the plan are to each other.
+// What a list and the plan are to each other: where they differ, the routes of both, those that are missing and those that are extra.
 fn compared_lines(out: Stdout, c: Compared, start: usize, plan: &[u16], list: &[u16]) {
-    if c.missing == 0 && c.extra == 0 {
-        write(out, b" agrees ");
-        write_number(out, c.routes);
-        write(out, b" routes\n")
-    } else {
-        differing_lines(out, c, start, plan, list)
+    let Compared {
+        routes,
+        missing,
+        extra,
+        ..
+    } = c;
+    if missing == 0 && extra == 0 {
+        let _ = println!(out; " agrees {routes} routes");
+        return;
     }
+    let both = routes.saturating_sub(extra);
+    let _ = println!(out; " differs both {both} missing {missing} extra {extra}");
+    route_lines(out, "both", list, |route| !is_apart(route, start, plan));
+    route_lines(out, "missing", plan, |route| is_apart(route, start, list));
+    route_lines(out, "extra", list, |route| is_apart(route, start, plan));
 }
 
 // Why routes are refused.
 fn refused_line(out: Stdout, fault: Fault) {
-    let reason = fault.reason;
-    line(out, b" refused", reason.number());
+    let number = fault.number();
+    let _ = println!(out; " refused {number}");
 }
 
 // What is answered of a start, with the words that are lent for the list.
 fn answer_lines(out: Stdout, f: &[u8], start: usize, q: Question, plan: &[u16], list: &mut [u16]) {
-    let by = q.engine;
-    match plan_question::compare(by, f, start, q.limit, q.budget, plan, list) {
-        PlanAnswer::Compared(c) => {
-            let n = c.words;
-            compared_lines(out, c, start, plan, &list[..n])
-        }
-        PlanAnswer::Refused(fault) => refused_line(out, fault),
+    match plan_question::compare(q.engine, f, start, q.limit, q.budget, plan, list) {
+        Ok(c) => compared_lines(out, c, start, plan, &list[..c.words]),
+        Err(fault) => refused_line(out, fault),
     }
 }
 
 // The routes from a start beside the plan.
 fn start_lines(out: Stdout, f: &[u8], start: usize, q: Question, plan: &[u16]) {
-    write(out, b"from ");
-    write_number(out, start);
+    let _ = print!(out; "from {start}");
     let mut list = [0u16; MOST_ROOM];
-    let room = least(q.room, MOST_ROOM);
-    answer_lines(out, f, start, q, plan, &mut list[..room]);
+    answer_lines(out, f, start, q, plan, &mut list[..q.room.min(MOST_ROOM)]);
 }
 
-// The same from each start that is named. It answers whether one is.
-fn every_start(out: Stdout, f: &[u8], q: Question, plan: &[u16], named: &[bool; STARTS]) -> bool {
-    let mut some = false;
-    for start in 0..STARTS {
-        if named[start] {
-            some = true;
-            start_lines(out, f, start, q, plan);
-        }
+// Compares an X.2 file with a plan, from each start that the plan names.
+fn compare(rt: HostRuntime, f: &[u8], text: &[u8], q: Question) -> Result<(), Wrong> {
+    let out = rt.stdout();
+    let fault = x2_verdict::verdict_of(f).err();
+    let _ = println!(out; "verdict {} {}", answer_number(fault), answer_place(fault));
+    if PLAN_LONGEST < text.len() {
+        return Err(Wrong::PlanLong);
     }
-    some
-}
-
-// Compares an X.2 file with a plan, with room for the words of its routes.
-fn compare_with(
-    out: Stdout,
-    err: Stderr,
-    f: &[u8],
-    text: &[u8],
-    q: Question,
-    plan: &mut [u16],
-    named: &mut [bool; STARTS],
-) {
-    let words = read_plan(err, text, plan, named);
-    if !every_start(out, f, q, &plan[..words], named) {
-        wrong(err, b"the plan names no start");
-    }
-}
-
-// Compares an X.2 file with a plan.
-fn compare(out: Stdout, err: Stderr, f: &[u8], text: &[u8], q: Question) {
-    let v = x2_verdict::verdict_of(f);
-    head(out, b"verdict", v.number(), v.place());
-    if PLAN_ROOM <= text.len() {
-        wrong(err, b"the plan is longer than 1048576 bytes");
-        return;
-    }
+    // Stays (6): the marks of the starts are what the definition named_after and the contract of read_plan speak of.
     let mut named = [false; STARTS];
-    let mut plan = plan_words();
-    compare_with(out, err, f, text, q, &mut plan, &mut named);
+    // There is a word for each byte: a route of n offsets, 2 or more, takes n + 1 words, and its line has 2n - 1 bytes or more and its end, if it
+    // is not the last.
+    let mut plan = vec![in rt.alloc(); 0u16; text.len()].map_err(|_| Wrong::Memory)?;
+    let words = read_plan(rt.stderr(), text, &mut plan, &mut named);
+    for (start, _) in named.iter().enumerate().filter(|(_, named)| **named) {
+        start_lines(out, f, start, q, &plan[..words]);
+    }
+    if named.contains(&true) {
+        Ok(())
+    } else {
+        Err(Wrong::NoStart)
+    }
 }
 
 // ---- the command
 
 // How many words the command has, the program's own name being the first of them.
+// Stays (2): in each program that counts them; a public function of a library is determined by its input (crate promises), and these are none.
 fn word_count(rt: HostRuntime) -> usize {
-    for i in 0..usize::MAX {
-        if let Err(FillError::NotPresent) = rt.arg(i, &mut []) {
-            return i;
-        }
-    }
-    usize::MAX
+    (0..usize::MAX)
+        .take_while(|i| !matches!(rt.arg(*i, &mut []), Err(FillError::NotPresent)))
+        .count()
 }
 
-// Whether two texts are the same.
-fn is_same(a: &[u8], b: &[u8]) -> bool {
-    for k in 0..b.len() {
-        if byte_at(a, k) != byte_at(b, k) {
-            return false;
-        }
-    }
-    a.len() == b.len()
-}
-
-// The engine that the last of the words picks, if it stands after both files.
-fn engine(rt: HostRuntime, words: usize) -> Engine {
+// The engine that the last of the words picks, if it stands after both files; and how many words there are before the one that picks it.
+fn picked(rt: HostRuntime, words: usize) -> (Engine, usize) {
     if words <= WORDS_LEAST {
-        return Engine::First;
+        return (Engine::First, words);
     }
     let mut word = [0u8; NUMBER_ROOM];
     match rt.arg(words - 1, &mut word) {
-        Ok(n) if is_same(&word[..n], &SECOND_ENGINE) => Engine::Second,
-        _ => Engine::First,
-    }
-}
-
-// The words before the one that picks the engine.
-fn words_before(engine: Engine, words: usize) -> usize {
-    match engine {
-        Engine::First => words,
-        Engine::Second => less(words, 1),
+        Ok(n) if &word[..n] == SECOND_ENGINE => (Engine::Second, words - 1),
+        _ => (Engine::First, words),
     }
 }
 
 // The number that a word of the command is, and what it is where that word is none of the first so many. It is said where the word is no
 // number.
-fn number(rt: HostRuntime, words: usize, i: usize, left_out: usize) -> usize {
+fn number(rt: HostRuntime, words: usize, i: usize, left_out: usize) -> Option<usize> {
     if words <= i {
-        return left_out;
+        return Some(left_out);
     }
     let mut word = [0u8; NUMBER_ROOM];
     if let Ok(n) = rt.arg(i, &mut word) {
-        let found = number_in(&word[..n], NUMBER_MOST);
-        if found < NO_NUMBER {
-            return found;
+        if let Ok(found) = u32::try_from(number_in(&word[..n], u32::MAX)) {
+            return Some(found as usize);
         }
     }
-    wrong_word(rt, b"no number below 4294967296:", i);
-    NO_NUMBER
+    say(rt, Wrong::Number(i));
+    None
+}
+
+// What the routes are asked with, where each number of the command is one.
+fn asked_with(rt: HostRuntime, engine: Engine, words: usize) -> Option<Question> {
+    let limit = number(rt, words, LIMIT, LIMIT_LEFT_OUT);
+    let budget = number(rt, words, BUDGET, BUDGET_LEFT_OUT);
+    let room = number(rt, words, ROOM, ROOM_LEFT_OUT);
+    Some(Question {
+        engine,
+        limit: limit?,
+        budget: budget?,
+        room: room?,
+    })
 }
 
 // Opens the file that a word names.
+// Stays (2): in each program that opens one; a public function of a library is determined by its input (crate promises), and a file is none.
 fn opened(rt: HostRuntime, i: usize) -> Option<File> {
     let mut word = [0u8; WORD_ROOM];
     let n = rt.arg(i, &mut word).ok()?;
-    let path = str::from_utf8(&word[..n]).ok()?;
-    fs::open(&rt, path).ok()
+    fs::open(&rt, str::from_utf8(&word[..n]).ok()?).ok()
 }
 
-// Whether a file can be read further or has ended, and reading it does not fail.
-fn reads_on(file: &mut impl Read) -> bool {
-    let mut next = [0u8; 1];
-    file.read(&mut next).is_ok()
-}
-
-// Reads until the room is full or the input ends. It answers how many bytes then stand at the front of the room.
-fn read_full(input: &mut impl Read, room: &mut [u8]) -> io::Result<usize>
-    ensures { IfOk result (λ n. n ≤ length room.new) }
-{
-    let mut got = 0;
-    while got < room.len() {
-        let n = input.read(&mut room[got..])?;
-        if n == 0 {
-            break;
-        }
-        got += n;
-    }
-    Ok(got)
-}
-
-// Reads the file that a word names, as far as there is room, and says it where it cannot be read.
-fn read_file(rt: HostRuntime, i: usize, room: &mut [u8]) -> Option<usize>
-    ensures { IfSome result (λ n. n ≤ length room.new) }
-{
-    let Some(mut file) = opened(rt, i) else {
-        wrong_word(rt, b"cannot open the file", i);
-        return None;
-    };
-    match read_full(&mut file, room) {
-        Ok(n) if reads_on(&mut file) => Some(n),
-        _ => {
-            wrong_word(rt, b"cannot read the file", i);
-            None
-        }
+// Reads the file that a word names, no further than so many bytes.
+// Stays (2): in each program that reads one; a public function of a library is determined by its input (crate promises), and a file is none.
+fn read(rt: HostRuntime, i: usize, most: u64) -> Result<Vec<u8>, Wrong> {
+    let file = opened(rt, i).ok_or(Wrong::NotOpened(i))?;
+    let mut bytes = Vec::new(rt.alloc());
+    match file.take(most).read_to_end(&mut bytes) {
+        Ok(_) => Ok(bytes),
+        Err(_) => Err(Wrong::NotRead(i)),
     }
 }
 
 // Compares the files that the command names.
-fn compare_files(rt: HostRuntime, q: Question) {
-    let mut file = [0u8; FILE_ROOM];
-    let Some(n) = read_file(rt, FILE, &mut file) else {
-        return;
-    };
-    let mut plan = plan_room();
-    let Some(m) = read_file(rt, PLAN, &mut plan) else {
-        return;
-    };
-    compare(rt.stdout(), rt.stderr(), &file[..n], &plan[..m], q);
-}
-
-// The same, once the numbers of the command are numbers.
-fn command(rt: HostRuntime, engine: Engine, words: usize) {
-    let q = Question {
-        engine: engine,
-        limit: number(rt, words, LIMIT, LIMIT_LEFT_OUT),
-        budget: number(rt, words, BUDGET, BUDGET_LEFT_OUT),
-        room: number(rt, words, ROOM, ROOM_LEFT_OUT),
-    };
-    if q.limit == NO_NUMBER || q.budget == NO_NUMBER || q.room == NO_NUMBER {
-        return;
+fn command(rt: HostRuntime) -> Result<(), Wrong> {
+    let (engine, words) = picked(rt, word_count(rt));
+    if words < WORDS_LEAST || WORDS_MOST < words {
+        return Err(Wrong::Count);
     }
+    let Some(q) = asked_with(rt, engine, words) else {
+        return Ok(());
+    };
     if MOST_ROOM < q.room {
-        wrong_word(
-            rt,
-            b"more words than the 65535 that this program has room for:",
-            ROOM,
-        );
-        return;
+        return Err(Wrong::Room);
     }
-    compare_files(rt, q);
+    let f = read(rt, FILE, FILE_MOST)?;
+    let text = read(rt, PLAN, PLAN_MOST)?;
+    compare(rt, &f, &text, q)
 }
 
 fn main(rt: HostRuntime) {
-    let given = word_count(rt);
-    let picked = engine(rt, given);
-    let words = words_before(picked, given);
-    if words < WORDS_LEAST || WORDS_MOST < words {
-        wrong(
-            rt.stderr(),
-            b"too few or too many words; it is asked by yardplan FILE PLAN [LIMIT [BUDGET [ROOM]]] [routes2]",
-        );
-        return;
+    if let Err(wrong) = command(rt) {
+        say(rt, wrong);
     }
-    command(rt, picked, words);
 }

@@ -1,5 +1,4 @@
 -- `checksum::entry` meets its contract: it is what a right table says of the row and the byte.
-use borrow.Author.Rules.{rules}
 use Rattle.checksum.specs.inner.Table.{RightTable}
 use Rattle.checksum.proofs.entry.Goals as goal
 

@@ -1,6 +1,5 @@
 -- `checksum::with_tables` meets its contract. The tables' rule is tests that the prover computes, at `by-table-requires`.
 use mathlib.Core.Path.{refl}
-use borrow.Author.Rules.{rules}
 use Rattle.checksum.specs.Checksum.{step, bit_step, bit_steps, byte_step}
 use Rattle.checksum.proofs.Entries.{right_tables}
 use Rattle.checksum.proofs.with_tables.Goals as goal

@@ -1,19 +1,11 @@
 -- The rule of the tables by which the code takes a byte or four bytes in one step, and sixteen in one turn; no reader of the checksum need
 -- know it. `empty_steps` counts down how many empty bytes are still to enter.
-use Rattle.std.specs.Prelude.{◌≡◌, List, ℕ, zero, suc, ◌+◌, ◌-◌, ◌*◌, ◌%◌, ◌^◌, ◌<◌, get_or}
+use Rattle.std.specs.Prelude.{◌≡◌, List, ℕ, zero, suc, ◌+◌, ◌*◌, ◌^◌, ◌<◌, get_or}
 use Rattle.checksum.specs.Checksum.{byte_step}
 
 -- four bytes as one number, the first byte highest
 abbrev pub word_of : ℕ → ℕ → ℕ → ℕ → ℕ
 word_of a b c d = a * 2 ^ 24 + b * 2 ^ 16 + c * 2 ^ 8 + d
-
--- how many of n bytes enter in whole turns
-abbrev pub in_turns : ℕ → ℕ
-in_turns n = n - n % 16
-
--- how many of n bytes enter in whole fours
-abbrev pub in_fours : ℕ → ℕ
-in_fours n = n - n % 4
 
 -- n empty bytes enter
 unfoldable pub empty_steps : ℕ → ℕ → ℕ

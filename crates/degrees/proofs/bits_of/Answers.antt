@@ -1,22 +1,15 @@
--- `degrees::bits_of` meets its contract. A NaN, and nothing else, differs from itself.
-use mathlib.Core.Path.{◌≡◌, sym, subst, ap, ◌∙◌}
-use mathlib.Core.Bool.{false, not}
-use lib.Dec.{T}
-use lib.Ieee as Ieee
+-- `degrees::bits_of` meets its contract: all that is no number has the same bits.
+use mathlib.Core.Path.{◌≡◌, refl, sym, ◌∙◌}
+use mathlib.Core.Bool.{true, false≢true}
 use lib.Ieee.{Float, nan, inf, fin, binary64, is_nan, to_bits}
-use lib.Ieee.Compare.{differs_from_itself, nan_differs}
-use borrow.Author.Rules.{rules}
+use Prim.Native.Nat.{ℕ}
 use Rattle.degrees.proofs.bits_of.Goals as goal
 
-is_number : (x : Float) → Ieee.ne x x ≡ false → T (not (is_nan x))
-unfolding Ieee.ne is_nan
-is_number nan e = subst T (sym nan_differs ∙ e) tt
-is_number (inf s) e = tt
-is_number (fin s m d) e = tt
+no_number : (x : Float) → is_nan x ≡ true → ◌≡◌ {A = ℕ} 9221120237041090560 (to_bits binary64 x)
+unfolding is_nan to_bits
+no_number nan e = refl
+no_number (inf s) e = absurd (false≢true e)
+no_number (fin s m d) e = absurd (false≢true e)
 
-pub returns-then-x : goal.returns-then-x
-unfolding to_bits
-returns-then-x c = sym (ap (to_bits binary64) (differs_from_itself c.args.x (subst T (sym c.if-x.true) tt)))
-
-pub float_to_bits-result : goal.float_to_bits-result
-float_to_bits-result c = is_number c.args.x c.if-x.false
+pub returns-then-is_nan : goal.returns-then-is_nan
+returns-then-is_nan c = no_number c.args.x (sym c.is_nan.ensures.value ∙ c.if-is_nan.true)

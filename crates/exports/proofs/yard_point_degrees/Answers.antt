@@ -1,11 +1,8 @@
 -- `exports::yard_point_degrees` meets its contract.
 use Rattle.c_values.specs.Degrees.{degrees_laid}
-use Rattle.exports.proofs.Ways.{given_shown}
+use Rattle.exports.proofs.Ways.{given_shown, named_value_out_after}
 use borrow.Author.Rules.{rules}
 use Rattle.exports.proofs.yard_point_degrees.Goals as goal
-
-named_value_out_after : {T0 T1 : Type 0} → T0 × T1 → record { value : T0; out_after : T1 }
-named_value_out_after p = record { value = p.0; out_after = p.1 }
 
 pub returns : goal.returns
 returns c = named_value_out_after (given_shown degrees_laid c.point_degrees.ensures _ (c.show_degrees.ensures.value, c.show_degrees.ensures.out_after))

@@ -1,8 +1,7 @@
 -- `exports::yard_routes` meets its contract.
 use mathlib.Core.Path.{ap, ◌∙◌}
 use Rattle.route_walks.specs.Lent.{room_of}
-use Rattle.route_lister.specs.declared.RoutesAnswer.{RoutesAnswer}
-use Rattle.route_lister.specs.Answered.{routes_answer}
+use Rattle.route_lister.specs.Answered.{RoutesAnswer, routes_answer}
 use Rattle.route_question.specs.Routes.{routes_asked}
 use Rattle.c_values.specs.Shown.{shown, leaves}
 use Rattle.exports.proofs.Ways.{scrap_shown, scrap_leaves, scrap_words, listed_words}

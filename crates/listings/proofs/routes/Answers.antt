@@ -13,8 +13,10 @@ numbered f start limit budget n m e same = e ∙ ap (λ (x : ℕ). answer_number
 halved : (n k m : ℕ) → 2 * k ≡ n → k ≡ m → n / 2 ≡ m
 halved n k m e same = omega arith
 
-pub slice_bounds-answered-end : goal.slice_bounds-answered-end
-slice_bounds-answered-end c = sym (length-take-le _ _ (omega arith))
+pub slice_bounds-lent-end : goal.slice_bounds-lent-end
+slice_bounds-lent-end c = sym (length-take-le _ _ (omega arith))
 
 pub returns : goal.returns
-returns c = numbered _ _ _ _ _ _ c.answered.ensures (halved _ _ _ (sym (length-take-le _ _ (omega arith))) c.least-lent.ensures)
+returns c =
+    let asked = c.number.ensures ∙ ap (λ a. answer_number (routes_answer a)) c.routes_by-answer.ensures.value in
+    numbered _ _ _ _ _ _ asked (halved _ _ _ (sym (length-take-le _ _ (omega arith))) c.min-words.ensures)

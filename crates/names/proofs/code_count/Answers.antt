@@ -1,6 +1,6 @@
 -- `names::code_count` meets its contract. The loop's invariant: no code that was passed begins with a zero.
-use Prim.Native.Nat.{ℕ, ◌*◌, ◌-◌, ◌≤◌, ◌<◌}
-use mathlib.Core.Path.{◌≡◌, sym, ◌∙◌}
+use Prim.Native.Nat.{◌*◌}
+use mathlib.Core.Path.{sym, ◌∙◌}
 use native.Mathlib.Omega.{arith}
 use borrow.Author.Count.{below_more}
 use Rattle.names.specs.Names.{byte_after, code_count}
@@ -22,4 +22,4 @@ pub returns : goal.returns
 unfolding code_count
 returns c = let a = c.args in
     let h = c.loop-n in
-    counted (λ k. byte_after a.f.now a.place (2 * k)) 8 h.n h.invariant.0 h.invariant.1 (λ l. absurd (omega arith))
+    counted (λ k. byte_after a.f.now a.place (2 * k)) 8 8 (omega arith) (λ k l. h.invariant.1 k (omega (arith, c.loop-n-test.false))) (λ l. absurd (omega arith))

@@ -1,15 +1,8 @@
 -- `names::code_count` meets its contract. The loop's invariant: no code that was passed begins with a zero.
-use Prim.Native.Nat.{ℕ, ◌*◌, ◌-◌, ◌≤◌, ◌<◌}
-use mathlib.Core.Path.{◌≡◌, sym, ◌∙◌}
-use native.Mathlib.Omega.{arith}
-use borrow.Author.Count.{below_more}
-use Rattle.names.specs.Names.{byte_after, code_count}
-use Rattle.names.proofs.Counts.{counted}
-use borrow.Author.Rules.{rules}
+use Prim.Native.Nat.{ℕ, ◌*◌, ◌≤◌, ◌<◌}
+use mathlib.Core.Path.{◌≡◌}
+use Rattle.names.specs.Names.{byte_after}
 use Rattle.names.proofs.code_count.Given as goal
 
 abbrev pub invariant-loop-n : goal.invariant-loop-n
 invariant-loop-n l = (l.n ≤ 8) × ((k : ℕ) → k < l.n → byte_after l.f l.place (2 * k) ≡ 0 → ⊥)
-
-abbrev pub decreases-loop-n : goal.decreases-loop-n
-decreases-loop-n l = 8 - l.n

@@ -1,11 +1,8 @@
 -- `names::codes` meets its contract. The loop's invariant: what was found, and the test of the pairs from the k-th on, make the test of them all.
-use Prim.Native.Nat.{◌-◌}
-use mathlib.Core.Path.{◌≡◌, refl, sym, ◌∙◌}
+use mathlib.Core.Path.{refl, sym, ◌∙◌}
 use mathlib.Core.Bool.{◌&&◌}
-use Rattle.verdict.specs.Facts.{every, test}
-use Rattle.names.specs.Names.{numbers, code_at, codes}
+use Rattle.names.specs.Names.{code_at, codes}
 use Rattle.names.proofs.Counts.{each_step, each_stop}
-use borrow.Author.Rules.{rules}
 use Rattle.names.proofs.codes.Goals as goal
 
 pub loop-k-init : goal.loop-k-init

@@ -1,6 +1,5 @@
 -- `names::cut_field` meets its contract. Each element is what `octet` ensures.
 use Rattle.names.specs.Written.{field_at}
-use borrow.Author.Rules.{rules}
 use Rattle.names.proofs.cut_field.Goals as goal
 
 pub returns : goal.returns

@@ -1,7 +1,11 @@
--- `names::is_name` meets its contract: the number says whether there are enough bytes.
+-- `names::is_name` meets its contract: the name says whether there are enough bytes.
+use mathlib.Core.Path.{sym, ◌∙◌}
+use Rattle.std.specs.Prelude.{Some, None}
 use Rattle.names.proofs.Spelling.{told_enough}
-use borrow.Author.Rules.{rules}
 use Rattle.names.proofs.is_name.Goals as goal
 
-pub returns : goal.returns
-returns c = told_enough _ _ _ _ c.count_at-n.ensures
+pub returns-in-Some : goal.returns-in-Some
+returns-in-Some c = told_enough _ _ _ (Some _) (sym c.in-Some.is ∙ c.name_in.ensures)
+
+pub returns-in-None : goal.returns-in-None
+returns-in-None c = told_enough _ _ _ None (sym c.in-None.is ∙ c.name_in.ensures)

@@ -1,10 +1,6 @@
--- `names::name_in` meets its contract: the number says what the 8 bytes are.
-use Rattle.names.proofs.Spelling.{told_name, told_none}
-use borrow.Author.Rules.{rules}
+-- `names::name_in` meets its contract: the bytes that were taken out are those of the file, with 0 past its end.
+use Rattle.names.proofs.Spelling.{cut_naming}
 use Rattle.names.proofs.name_in.Goals as goal
 
-pub returns-then-n-lt-NONE : goal.returns-then-n-lt-NONE
-returns-then-n-lt-NONE c = told_name _ _ _ c.count_at-n.ensures c.if-n-lt-NONE.true
-
-pub returns : goal.returns
-returns c = told_none _ _ _ c.count_at-n.ensures c.if-n-lt-NONE.false
+pub returns-then-inside-lt-OBJECT_BYTES : goal.returns-then-inside-lt-OBJECT_BYTES
+returns-then-inside-lt-OBJECT_BYTES c = cut_naming _ _ _ _ c.cut_field-field.ensures c.spelt.ensures

@@ -1,13 +1,12 @@
 -- `names::spelt` meets its contract. The loop's invariant: n of the first k bytes are a name's, and `ok`, `before` and `spaced` say what
 -- the k bytes are (`Spelt`).
-use Prim.Native.Nat.{◌+◌, ◌-◌, ◌≤◌}
+use Prim.Native.Nat.{◌+◌}
 use mathlib.Core.Path.{refl}
 use mathlib.Core.Bool.{◌&&◌}
 use native.Mathlib.Omega.{arith}
 use lib.Dec.{leb, eqb}
 use lib.ListN.{get_or}
-use Rattle.names.proofs.Spelling.{Spelt, lettered, byte_tests, at_most_one, one_more, spelt_name, spelt_none}
-use borrow.Author.Rules.{rules}
+use Rattle.names.proofs.Spelling.{lettered, byte_tests, at_most_one, one_more, spelt_name, spelt_none}
 use Rattle.names.proofs.spelt.Goals as goal
 
 pub loop-k-init : goal.loop-k-init

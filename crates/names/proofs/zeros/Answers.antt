@@ -1,8 +1,6 @@
 -- `names::zeros` meets its contract. The loop's invariant: only zeros were passed.
-use Prim.Native.Nat.{ℕ, ◌-◌, ◌≤◌, ◌<◌}
-use mathlib.Core.Path.{◌≡◌, ◌∙◌}
+use mathlib.Core.Path.{◌∙◌}
 use borrow.Author.Count.{below_more}
-use Rattle.names.specs.Names.{byte_after}
 use Rattle.names.proofs.Spelling.{byte-is, zeros_stop, zeros_end}
 use borrow.Author.Rules.{rules}
 use Rattle.names.proofs.zeros.Goals as goal

@@ -1,7 +1,6 @@
 -- `octets::byte_after` meets its contract.
 use native.Mathlib.Omega.{arith}
 use Rattle.octets.proofs.Reading.{past}
-use borrow.Author.Rules.{rules}
 use Rattle.octets.proofs.byte_after.Goals as goal
 
 pub returns-then-s-at : goal.returns-then-s-at

@@ -1,7 +1,6 @@
 -- `octets::byte_at` meets its contract.
 use native.Mathlib.Omega.{arith}
 use Rattle.octets.proofs.Reading.{past}
-use borrow.Author.Rules.{rules}
 use Rattle.octets.proofs.byte_at.Goals as goal
 
 pub returns : goal.returns

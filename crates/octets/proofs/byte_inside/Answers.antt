@@ -1,14 +1,6 @@
 -- `octets::byte_inside` meets its contract.
-use native.Mathlib.Omega.{arith}
 use Rattle.octets.proofs.Reading.{one}
-use borrow.Author.Rules.{rules}
 use Rattle.octets.proofs.byte_inside.Goals as goal
 
-pub bounds-s-at : goal.bounds-s-at
-bounds-s-at c = search rules
-
-pub overflow_cast-result : goal.overflow_cast-result
-overflow_cast-result c = omega (arith, c.shared_slice_known-1.given c.args.at)
-
 pub returns : goal.returns
-returns c = one _ _ (c.shared_slice_known-1.given c.args.at).fits
+returns c = one _ _ (c.type_inv.s c.args.at).fits

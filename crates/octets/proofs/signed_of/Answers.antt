@@ -1,20 +1,13 @@
 -- `octets::signed_of` meets its contract.
 use Prim.Native.Nat.{◌+◌, ◌-◌, ◌^◌, ◌<◌}
-use mathlib.Core.Path.{sym, ap, ◌∙◌, subst⁻¹}
+use mathlib.Core.Path.{sym, ap, ◌∙◌}
 use native.Mathlib.Omega.{arith}
 use lib.IntN.{ℤ}
 use mir.Syntax.{w64}
-use mir.Val.{to_z, of_z, SFits}
+use mir.Val.{to_z, of_z}
 use mir.Facts.{to_z_pos, to_z-neg}
 use Rattle.octets.proofs.Signs.{minus, low, high}
-use borrow.Author.Rules.{rules}
 use Rattle.octets.proofs.signed_of.Goals as goal
-
-pub overflow_sub-result-else-n-half-2 : goal.overflow_sub-result-else-n-half-2
-overflow_sub-result-else-n-half-2 c = let a = c.args in
-    let m = a.half + a.half - 1 - a.n in
-    let h : m < 2 ^ 63 = omega arith in
-    subst⁻¹ (SFits w64) (minus m h) (record { sfits = h })
 
 pub returns-then-n-half : goal.returns-then-n-half
 returns-then-n-half c = let a = c.args in

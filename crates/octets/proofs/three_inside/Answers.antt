@@ -1,6 +1,5 @@
 -- `octets::three_inside` meets its contract.
 use Rattle.octets.proofs.Reading.{more}
-use borrow.Author.Rules.{rules}
 use Rattle.octets.proofs.three_inside.Goals as goal
 
 pub returns : goal.returns

@@ -1,7 +1,6 @@
 -- `octets::u24_at` meets its contract.
 use native.Mathlib.Omega.{arith}
 use Rattle.octets.proofs.Reading.{short}
-use borrow.Author.Rules.{rules}
 use Rattle.octets.proofs.u24_at.Goals as goal
 
 pub returns : goal.returns

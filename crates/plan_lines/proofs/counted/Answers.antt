@@ -1,20 +1,19 @@
--- `plan_lines::counted` meets its contract. The loop's invariant: `count` words stand before `at`, and `offsets` says whether all of them are
--- offsets.
-use Prim.Native.Nat.{◌-◌}
-use native.Mathlib.Omega.{arith}
-use borrow.Author.Rules.{rules}
-use lib.ListN.{length}
-use Rattle.plan_lines.proofs.WordsIn.{Before, before_past, before_word, before_end}
+-- `plan_lines::counted` meets its contract.
+use Rattle.std.proofs.Common.{rules, sym, arith, ◌∙◌, ap, length}
+use Rattle.plan_lines.proofs.Says.{count_stop, count_more, count_end}
 use Rattle.plan_lines.proofs.counted.Goals as goal
 
-pub loop-at-init : goal.loop-at-init
-loop-at-init c = record { within = search rules; fewer = search rules; counted = search rules; tested = search rules }
+pub returns-in_err-offset : goal.returns-in_err-offset
+returns-in_err-offset c = rw c.from_residual.ensures (count_stop _ _ c.loop-word.invariant.tested _ _ c.in-Some.ensures.steps (sym c.in_err-offset.was ∙ c.offset.ensures))
 
-pub loop-at-preserved-then-bytes-eq0 : goal.loop-at-preserved-then-bytes-eq0
-loop-at-preserved-then-bytes-eq0 c = before_past _ _ _ _ _ c.loop-at.invariant c.word_length-bytes.ensures.value c.if-bytes-eq0.true c.loop-at-test.true
-
-pub loop-at-preserved : goal.loop-at-preserved
-loop-at-preserved c = before_word _ _ _ _ _ c.loop-at.invariant c.word_length-bytes.ensures.value (omega arith) c.if-bytes-eq0.false _ c.is_offset-offsets.ensures
+pub loop-word-preserved : goal.loop-word-preserved
+loop-word-preserved c =
+    let e = c.in-Some.ensures.steps in
+    record {
+      bound = let g = (c.in-Some.ensures.goes.on (search rules)).2 in omega (arith, c.loop-word.invariant.bound);
+      counted = omega (arith, c.loop-word.invariant.counted, ap length e);
+      tested = count_more _ _ c.loop-word.invariant.tested _ _ e _ (sym c.in_ok-offset.was ∙ c.offset.ensures);
+    }
 
 pub returns : goal.returns
-returns c = before_end _ _ _ _ c.loop-at.invariant c.loop-at-test.false
+returns c = count_end _ _ c.loop-word.invariant.tested _ c.in-None.ensures.steps.0 c.loop-word.invariant.counted

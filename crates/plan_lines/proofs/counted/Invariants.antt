@@ -1,14 +1,11 @@
--- `plan_lines::counted` meets its contract. The loop's invariant: `count` words stand before `at`, and `offsets` says whether all of them are
--- offsets.
-use Prim.Native.Nat.{◌-◌}
-use native.Mathlib.Omega.{arith}
-use borrow.Author.Rules.{rules}
-use lib.ListN.{length}
-use Rattle.plan_lines.proofs.WordsIn.{Before, before_past, before_word, before_end}
+-- `plan_lines::counted` meets its contract. The loop's invariant: the words passed are offsets, so that those that are left say how many there are.
+use Rattle.std.proofs.Common.{◌≡◌, ◌+◌, ◌≤◌, length}
+use Rattle.plan_lines.specs.Lines.{words_in, all_offsets}
 use Rattle.plan_lines.proofs.counted.Given as goal
 
-abbrev pub invariant-loop-at : goal.invariant-loop-at
-invariant-loop-at l = Before l.text l.at l.count l.offsets
-
-abbrev pub decreases-loop-at : goal.decreases-loop-at
-decreases-loop-at l = length l.text - l.at
+abbrev pub invariant-loop-word : goal.invariant-loop-word
+invariant-loop-word l = record {
+  bound : l.count + length l.word-iterator.0.now ≤ length l.text;
+  counted : length (words_in l.text) ≡ l.count + length (words_in l.word-iterator.0.now);
+  tested : all_offsets (words_in l.text) ≡ all_offsets (words_in l.word-iterator.0.now);
+}

@@ -1,17 +1,29 @@
 -- `plan_lines::from_line` meets its contract.
-use borrow.Author.Rules.{rules}
-use Rattle.plan_lines.proofs.Says.{from_word, from_count, from_first}
+use Rattle.std.proofs.Common.{◌∙◌, sym}
+use Rattle.std.proofs.lemmas.Result.{err_from_is_err_and}
+use Rattle.plan_lines.proofs.Says.{ok_or_none, ok_or_some, from_none, from_word, from_more, from_one}
 use Rattle.plan_lines.proofs.from_line.Goals as goal
 
-pub returns-then-not-words : goal.returns-then-not-words
-returns-then-not-words c = from_word _ _ c.counted-words.ensures c.if-not-words.true
+pub returns-in_err-word : goal.returns-in_err-word
+returns-in_err-word c =
+    let p = err_from_is_err_and c.from_residual.result c.from_residual.ensures.1 in
+    let o = ok_or_none _ _ _ _ c.ok_or.ensures.value c.in_err-word.was in
+    rw (p.1, p.2, o.1) (from_none _ (rw o.0 at c.next.ensures.steps).0)
 
-pub returns-then-words-ne1 : goal.returns-then-words-ne1
-returns-then-words-ne1 c = from_count _ _ c.counted-words.ensures c.if-words-ne1.true
+pub returns-in_err-start : goal.returns-in_err-start
+returns-in_err-start c =
+    let p = err_from_is_err_and c.from_residual-in_err-start.result c.from_residual-in_err-start.ensures.1 in
+    let n = ok_or_some _ _ _ _ c.ok_or.ensures.value c.in_ok-word.was in
+    let o = ok_or_none _ _ _ _ c.ok_or-2.ensures.value c.in_err-start.was in
+    rw (p.1, p.2, o.1) (from_word _ _ _ (rw n at c.next.ensures.steps) (sym o.0 ∙ c.offset.ensures))
 
-pub overflow_cast-start : goal.overflow_cast-start
-overflow_cast-start c = let f = from_first c.args.text.now c.blanks-at.result c.word_length-bytes.result c.blanks-at.ensures.value c.word_length-bytes.ensures.value c.counted-words.result c.counted-words.ensures c.if-not-words.false c.if-words-ne1.false c.number_in-start.result c.number_in-start.ensures in
-    search rules
+pub returns-in-None : goal.returns-in-None
+returns-in-None c =
+    let n = ok_or_some _ _ _ _ c.ok_or.ensures.value c.in_ok-word.was in
+    let o = ok_or_some _ _ _ _ c.ok_or-2.ensures.value c.in_ok-start.was in
+    from_one _ _ _ (rw n at c.next.ensures.steps) _ (sym o ∙ c.offset.ensures) c.in-None.ensures.steps.0
 
-pub returns : goal.returns
-returns c = (from_first _ _ _ c.blanks-at.ensures.value c.word_length-bytes.ensures.value _ c.counted-words.ensures c.if-not-words.false c.if-words-ne1.false _ c.number_in-start.ensures).1
+pub returns-in-Some : goal.returns-in-Some
+returns-in-Some c =
+    let n = ok_or_some _ _ _ _ c.ok_or.ensures.value c.in_ok-word.was in
+    from_more _ _ _ (rw n at c.next.ensures.steps) _ _ c.in-Some.ensures.steps

@@ -1,15 +1,8 @@
--- `plan_lines::store` meets its contract. The loop's invariant: the offsets of the n words that stand before `at` are stored, and there is room
--- for those of the others.
-use Prim.Native.Nat.{◌-◌}
-use native.Mathlib.Omega.{arith}
-use borrow.Author.Rules.{rules}
-use mathlib.Core.Path.{refl}
-use lib.ListN.{length}
-use Rattle.plan_lines.proofs.Stores.{Stored, stored_past, word_room, word_most, stored_word, stored_end}
+-- `plan_lines::store` meets its contract. The loop's invariant: what the words that are left store makes the same of `out` as what all words store
+-- makes of it as it was, and there is room for them.
+use Rattle.plan_lines.specs.Lines.{words_in}
+use Rattle.plan_lines.proofs.Stores.{Stored}
 use Rattle.plan_lines.proofs.store.Given as goal
 
-abbrev pub invariant-loop-at : goal.invariant-loop-at
-invariant-loop-at l = Stored l.text l.initial.out l.at l.n l.out
-
-abbrev pub decreases-loop-at : goal.decreases-loop-at
-decreases-loop-at l = length l.text - l.at
+abbrev pub invariant-loop-k : goal.invariant-loop-k
+invariant-loop-k l = Stored (words_in l.text) (words_in l.k-iterator.iter.0.now) l.fn.out l.k-iterator.count l.out

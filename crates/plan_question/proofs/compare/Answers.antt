@@ -6,7 +6,6 @@ use lib.Seq.{length-take-le}
 use Rattle.route_walks.specs.Lent.{word_size}
 use Rattle.plan_question.specs.Compared.{most_room}
 use Rattle.plan_question.proofs.Ways.{answer_with, words_with}
-use borrow.Author.Rules.{rules}
 use Rattle.plan_question.proofs.compare.Goals as goal
 
 -- the room in the n bytes of k words
@@ -20,8 +19,8 @@ pub slice_bounds-answered-end : goal.slice_bounds-answered-end
 slice_bounds-answered-end c = sym (length-take-le _ _ (omega arith))
 
 pub answered-requires : goal.answered-requires
-answered-requires c = inside _ _ _ (sym (length-take-le _ _ (omega arith))) c.least-lent.ensures
+answered-requires c = inside _ _ _ (sym (length-take-le _ _ (omega arith))) c.min-lent.ensures
 
 pub returns : goal.returns
-returns c = let k = halved _ _ _ (sym (length-take-le _ _ (omega arith))) c.least-lent.ensures in
+returns c = let k = halved _ _ _ (sym (length-take-le _ _ (omega arith))) c.min-lent.ensures in
     record { value = answer_with _ _ _ _ _ _ k _ _ c.answered.ensures.value; list_after = words_with _ _ _ _ _ _ k _ _ c.answered.ensures.list_after }

@@ -7,7 +7,6 @@ use lib.ListN.{length, take, drop}
 use lib.Seq.{length-take-le}
 use Rattle.plan_question.specs.inner.Words.{words_in}
 use Rattle.plan_question.proofs.Ways.{counts_are}
-use borrow.Author.Rules.{rules}
 use Rattle.plan_question.proofs.counted.Goals as goal
 
 pub slice_bounds-listed-end-2 : goal.slice_bounds-listed-end-2

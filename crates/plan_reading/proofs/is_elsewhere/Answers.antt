@@ -1,17 +1,17 @@
 -- `plan_reading::is_elsewhere` meets its contract.
-use native.Mathlib.Omega.{arith}
-use borrow.Author.Rules.{rules}
-use Rattle.plan_reading.proofs.Cases.{none_holds, no_objects, by_first}
+use Rattle.std.proofs.Common.{refl}
+use Rattle.plan_routes.proofs.Among.{no_start, first_start}
+use Rattle.plan_reading.specs.Reading.{is_elsewhere}
 use Rattle.plan_reading.proofs.is_elsewhere.Goals as goal
 
-pub returns-then-start-eq-NO_START : goal.returns-then-start-eq-NO_START
-returns-then-start-eq-NO_START c = none_holds _ _ c.if-start-eq-NO_START.true
+pub returns-in-None-default : goal.returns-in-None-default
+unfolding is_elsewhere
+returns-in-None-default c = rw c.in-None-default.is-0 refl
 
-pub returns-then-route-eq0 : goal.returns-then-route-eq0
-returns-then-route-eq0 c = no_objects _ _ c.if-start-eq-NO_START.false c.if-route-eq0.true
+pub returns-in-Some-empty : goal.returns-in-Some-empty
+unfolding is_elsewhere
+returns-in-Some-empty c = rw (c.in-Some-empty.is-0, no_start c.args.route.now c.in-Some-empty.field-0-0 c.in-Some-empty.len_below) refl
 
-pub overflow_cast-result : goal.overflow_cast-result
-overflow_cast-result c = omega (arith, c.shared_slice_known-1.given 0)
-
-pub returns : goal.returns
-returns c = by_first _ _ c.if-start-eq-NO_START.false c.if-route-eq0.false
+pub returns-in-Some-len1-up : goal.returns-in-Some-len1-up
+unfolding is_elsewhere
+returns-in-Some-len1-up c = rw (c.in-Some-len1-up.is-0, first_start c.args.route.now c.in-Some-len1-up.start c.in-Some-len1-up.len_at_least, c.from.ensures) refl

@@ -2,7 +2,6 @@
 use native.Mathlib.Omega.{arith}
 use mathlib.Core.Path.{refl, sym}
 use lib.Seq.{length-take-le}
-use borrow.Author.Rules.{rules}
 use Rattle.plan_reading.proofs.Cases.{elsewhere, again, full, taken}
 use Rattle.plan_reading.proofs.take_route.Goals as goal
 
@@ -16,11 +15,11 @@ pub slice_bounds-stands-end-2 : goal.slice_bounds-stands-end-2
 slice_bounds-stands-end-2 c = sym (length-take-le _ _ (omega arith))
 
 pub returns-then-stands : goal.returns-then-stands
-returns-then-stands c = named_value_plan_after (again _ _ _ _ _ c.is_elsewhere.ensures c.if-is_elsewhere.false _ c.least-at.ensures _ c.stands.ensures c.if-stands.true c.wrong-then-stands.ensures)
+returns-then-stands c = named_value_plan_after (again _ _ _ _ _ c.is_elsewhere.ensures c.if-is_elsewhere.false _ c.min-at.ensures _ c.stands.ensures c.if-stands.true c.wrong-then-stands.ensures)
 
 pub returns-then-plan-at : goal.returns-then-plan-at
-returns-then-plan-at c = named_value_plan_after (full _ _ _ _ _ c.is_elsewhere.ensures c.if-is_elsewhere.false _ c.least-at.ensures _ c.stands.ensures c.if-stands.false c.if-plan-at.true c.wrong-then-plan-at.ensures)
+returns-then-plan-at c = named_value_plan_after (full _ _ _ _ _ c.is_elsewhere.ensures c.if-is_elsewhere.false _ c.min-at.ensures _ c.stands.ensures c.if-stands.false c.if-plan-at.true c.wrong-then-plan-at.ensures)
 
 pub returns : goal.returns
 returns c = let a = c.args in
-    named_value_plan_after (taken a.route.now a.r a.plan.now _ _ c.is_elsewhere.ensures c.if-is_elsewhere.false _ c.least-at.ensures _ c.stands.ensures c.if-stands.false _ c.if-plan-at.false c.put.ensures refl)
+    named_value_plan_after (taken a.route.now a.r a.plan.now _ _ c.is_elsewhere.ensures c.if-is_elsewhere.false _ c.min-at.ensures _ c.stands.ensures c.if-stands.false _ c.if-plan-at.false c.put.ensures refl)

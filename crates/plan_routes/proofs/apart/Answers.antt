@@ -1,31 +1,12 @@
--- `plan_routes::apart` meets its contract. The loop's invariant: n are apart among the routes before `at`, so all that are apart are n and those
--- among the routes from `at` on; and a route has a word at least, so n is at most `at`.
-use mathlib.Core.Path.{◌≡◌, ap}
-use Prim.Native.Nat.{ℕ, ◌+◌, ◌-◌, ◌≤◌}
-use native.Mathlib.Omega.{arith}
-use mathlib.Core.List.{List}
-use lib.ListN.{length, drop}
-use Rattle.plan_routes.specs.Routes.{routes_in, apart}
-use Rattle.plan_routes.proofs.Words.{next_route, none_left}
-use Rattle.plan_routes.proofs.Among.{one_more, no_more}
-use borrow.Author.Rules.{rules}
+-- `plan_routes::apart` meets its contract.
+use Rattle.std.proofs.Common.{◌∙◌, rules, tests}
+use Rattle.std.proofs.lemmas.Iterator.Consumers.{YieldsList-from_first, YieldsList-at, YieldsList-from_filter, count_from_yields_List}
+use Rattle.plan_routes.specs.Routes.{routes_in, is_apart}
+use Rattle.plan_routes.proofs.Among.{apart_filter}
 use Rattle.plan_routes.proofs.apart.Goals as goal
 
-pub loop-at-preserved-then-is_apart : goal.loop-at-preserved-then-is_apart
-loop-at-preserved-then-is_apart c = let words = c.args.words.now in
-    let e = next_route words _ _ c.loop-at-test.true c.route_end-end.ensures in
-    let m = one_more _ _ _ e _ _ _ c.is_apart.ensures c.if-is_apart.true in
-    (search rules, search rules, omega arith)
-
-pub loop-at-preserved : goal.loop-at-preserved
-loop-at-preserved c = let words = c.args.words.now in
-    let e = next_route words _ _ c.loop-at-test.true c.route_end-end.ensures in
-    let m = no_more _ _ _ e _ _ _ c.is_apart.ensures c.if-is_apart.false in
-    (search rules, search rules, omega arith)
-
 pub returns : goal.returns
-unfolding apart
-returns c = let l = c.loop-at in
+returns c =
     let a = c.args in
-    let none = ap (λ (rs : List (List ℕ)). apart rs a.start (routes_in a.others.now)) (none_left a.words.now l.at (omega arith)) in
-    omega arith
+    count_from_yields_List c.filter.result _ c.count.ensures.ran (YieldsList-from_filter _ (λ r. is_apart r a.start (routes_in a.others.now)) (YieldsList-at c.filter.ensures.source (YieldsList-from_first (λ x. x.now) (λ s. routes_in s.0.now) {s = record { 0 = a.words }} (routes_in a.words.now) cc)) c.filter.ensures.closure (λ x b q k. search (rules, tests)))
+    ∙ apart_filter (routes_in a.words.now) a.start (routes_in a.others.now)

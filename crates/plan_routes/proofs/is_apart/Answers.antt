@@ -1,17 +1,18 @@
 -- `plan_routes::is_apart` meets its contract.
-use native.Mathlib.Omega.{arith}
-use Rattle.plan_routes.proofs.Among.{no_objects, from_elsewhere, from_start}
-use borrow.Author.Rules.{rules}
+use Rattle.std.proofs.Common.{refl}
+use borrow.Author.Tests.{eq-eqb, ne_eqb}
+use Rattle.plan_routes.proofs.Among.{no_start, first_start}
 use Rattle.plan_routes.proofs.is_apart.Goals as goal
 
-pub returns-then-route-eq0 : goal.returns-then-route-eq0
-returns-then-route-eq0 c = no_objects _ _ _ c.if-route-eq0.true
+pub returns-in-empty : goal.returns-in-empty
+returns-in-empty c = rw (no_start c.args.route.now c.args.start c.in-empty.len_below) refl
 
-pub overflow_cast-route : goal.overflow_cast-route
-overflow_cast-route c = omega (arith, c.shared_slice_known-3-1.given 0)
+pub returns-then-from-start : goal.returns-then-from-start
+returns-then-from-start c =
+    let s = first_start c.args.route.now c.args.start c.in-len1-up.len_at_least in
+    rw (s, ← c.from.ensures, eq-eqb _ _ c.if-from-start.true, c.stands.ensures) refl
 
-pub returns-then-route-start : goal.returns-then-route-start
-returns-then-route-start c = from_elsewhere _ _ _ c.if-route-eq0.false c.if-route-start.true
-
-pub returns : goal.returns
-returns c = from_start _ _ _ _ c.if-route-eq0.false c.if-route-start.false c.stands.ensures
+pub returns-else-from-start : goal.returns-else-from-start
+returns-else-from-start c =
+    let s = first_start c.args.route.now c.args.start c.in-len1-up.len_at_least in
+    rw (s, ← c.from.ensures, ne_eqb _ _ c.if-from-start.false) refl

@@ -1,10 +1,9 @@
--- `rounding::coordinate` meets its contract: inside the limits it finds the coordinate in two steps, else it says `Outside`.
-use borrow.Author.Rules.{rules}
+-- `rounding::coordinate` meets its contract: inside the limits it finds the coordinate in two steps, else it answers none.
 use mathlib.Core.Path.{sym, ap, ap₂, ◌∙◌}
 use native.Mathlib.Omega.{arith}
 use lib.IntN.{ℤ, nat_abs}
 use Rattle.octets.proofs.Signs.{kept, read}
-use Rattle.rounding.specs.declared.Way.TheVariants.{At}
+use Rattle.std.specs.Prelude.{Some}
 use Rattle.rounding.specs.Way.{farthest, way_of}
 use Rattle.rounding.proofs.Ends.{exact_size}
 use Rattle.rounding.proofs.Answers.{limits, found, outside}
@@ -22,7 +21,7 @@ nearest-requires c = let a = c.args in
 
 pub returns-then-inside : goal.returns-then-inside
 returns-then-inside c = let a = c.args in
-    ap At (kept c.nearest.result c.nearest.type_inv)
+    ap Some (kept c.nearest.result c.nearest.type_inv)
     ∙ found (read a.y0) (read a.y1) a.t a.den
     (sym c.inside.ensures ∙ c.if-inside.true)
     (kept c.exact.result c.exact.type_inv ∙ c.exact.ensures)

@@ -1,13 +1,6 @@
 -- `rounding::exact` meets its contract: each of its four steps is right (proofs/Steps.antt, 'the exact coordinate').
-use borrow.Author.Rules.{rules}
-use Rattle.rounding.proofs.Steps.{fit, reads, start, rise, part, exact}
+use Rattle.rounding.proofs.Steps.{fit, reads, part, exact}
 use Rattle.rounding.proofs.exact.Goals as goal
-
-pub overflow_mul-result : goal.overflow_mul-result
-overflow_mul-result c = fit (start c.requires)
-
-pub overflow_sub-result : goal.overflow_sub-result
-overflow_sub-result c = fit (rise c.requires)
 
 pub overflow_mul-result-2 : goal.overflow_mul-result-2
 overflow_mul-result-2 c = fit (part c.requires)

@@ -1,5 +1,4 @@
 -- `rounding::inside` meets its contract: its test is the definition's, with the distances that `octets::distance` gives.
-use borrow.Author.Rules.{rules}
 use mathlib.Core.Path.{ap, ◌∙◌}
 use lib.IntN.{nat_abs}
 use Rattle.octets.proofs.Signs.{kept}

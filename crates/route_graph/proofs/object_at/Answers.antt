@@ -1,15 +1,7 @@
 -- `route_graph::object_at` meets its contract.
-use mathlib.Core.Path.{◌∙◌, ap}
-use borrow.Author.Rules.{rules}
-use Rattle.x2_records.specs.declared.Kind.{Kind}
-use Rattle.x2_records.specs.declared.Links.{Links}
-use Rattle.x2_records.specs.Records.{link_fields}
-use Rattle.route_graph.specs.Objects.{view_of, view_at, object_at}
+use Rattle.route_graph.specs.Objects.{object_at}
 use Rattle.route_graph.proofs.object_at.Goals as goal
 
 pub returns : goal.returns
-unfolding object_at view_at
-returns c = let a = c.args in
-    c.view.ensures
-    ∙ ap (λ (x : Links). view_of a.f.now a.at x) c.links.ensures
-    ∙ ap (λ (k : Kind). view_of a.f.now a.at (link_fields k a.at)) c.kind_at-k.ensures
+unfolding object_at
+returns c = simp (c.record_at.ensures, c.kind_at.ensures, c.from.ensures)

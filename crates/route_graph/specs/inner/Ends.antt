@@ -1,6 +1,6 @@
 -- The object at a place, told by three numbers of a layout: where the boundaries, the turnouts and the plain objects end. For every layout it
 -- is the object that the layout tells (`same_objects` of proofs/Ends).
-use Rattle.std.specs.Prelude.{ℕ, cond, List, ltb}
+use Rattle.std.specs.Prelude.{ℕ, max, cond, List, ltb}
 use Rattle.x2_records.specs.declared.Kind.{Kind}
 use Rattle.x2_records.specs.declared.Kind.TheVariants as kind
 use Rattle.x2_layout.specs.declared.Layout.{Layout}
@@ -8,15 +8,11 @@ use Rattle.route_graph.specs.declared.Object.{Object}
 use Rattle.route_graph.specs.declared.regions.Ends.{Ends}
 use Rattle.route_graph.specs.Objects.{view_at}
 
--- the later of two places
-unfoldable pub later : ℕ → ℕ → ℕ
-later a b = cond (ltb a b) b a
-
 unfoldable pub ends_of : Layout → Ends
 ends_of l = record {
-  boundaries = later l.ends l.turnouts;
+  boundaries = max l.ends l.turnouts;
   turnouts = l.balises;
-  plain = later (later l.signals l.joints) l.sidings;
+  plain = max (max l.signals l.joints) l.sidings;
 }
 
 -- both kinds of boundary have their link at the same place, and so have all plain objects

@@ -2,12 +2,6 @@
 use Rattle.std.specs.Prelude.{ℕ, ◌≤◌, ◌<◌, ◌≡◌, Bool, true, false, ◌⊎◌, List}
 use Rattle.route_walks.specs.Walks.{has}
 
--- r is the lesser of a and b
-pub record Lesser (a b r : ℕ) : Type 0 where
-  pub first : r ≤ a
-  pub second : r ≤ b
-  pub one : (r ≡ a) ⊎ (r ≡ b)
-
 -- the walk p opens another by the link `to`
 pub record Opens (p : List ℕ) (to left walks budget : ℕ) : Type 0 where
   pub named : to ≡ 0 → ⊥

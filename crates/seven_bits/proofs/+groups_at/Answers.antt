@@ -1,8 +1,5 @@
 -- `seven_bits::groups_at` meets its contract. It ends since the groups that are left become fewer.
 use mathlib.Core.Path.{sym, ◌∙◌}
-use Prim.Native.Nat.{ℕ, ◌<◌}
-use native.Mathlib.Omega.{arith}
-use borrow.Author.Rules.{rules}
 use Rattle.seven_bits.proofs.Groups.{at_past, read_none, read-last, read_more}
 use Rattle.seven_bits.proofs.+groups_at.Goals as goal
 
@@ -14,12 +11,6 @@ returns-then-s-at t c = c.bad_number-then-s-at.ensures ∙ sym (at_past _ _ _ c.
 
 pub returns-then-b-lt-GROUP_VALUES : goal.returns-then-b-lt-GROUP_VALUES
 returns-then-b-lt-GROUP_VALUES t c = c.found_number.ensures ∙ read-last _ _ _ _ c.if-left-eq0.false c.if-s-at.false c.byte_at-b.ensures c.if-b-lt-GROUP_VALUES.true
-
-pub groups_at-rest-requires : goal.groups_at-rest-requires
-groups_at-rest-requires t c = (omega arith, tt)
-
-pub join-requires : goal.join-requires
-join-requires t c = omega (arith, c.byte_at-b.ensures.below)
 
 pub returns : goal.returns
 returns t c = let rest = c.groups_at-rest.ensures in

@@ -1,9 +1,4 @@
 -- `seven_bits::put_groups` meets its contract. It ends since the groups that are left become fewer.
-use mathlib.Core.Path.{◌∙◌}
-use Prim.Native.Nat.{ℕ, ◌<◌}
-use native.Mathlib.Omega.{arith}
-use lib.ListN.{length-set}
-use borrow.Author.Rules.{rules}
 use Rattle.seven_bits.proofs.Groups.{put_none, put_last, put_more}
 use Rattle.seven_bits.proofs.+put_groups.Goals as goal
 
@@ -15,9 +10,6 @@ returns-then-left-eq0 t c = named_next_stored (put_none _ _ _ _ c.if-left-eq0.tr
 
 pub returns-then-v-lt-GROUP_VALUES : goal.returns-then-v-lt-GROUP_VALUES
 returns-then-v-lt-GROUP_VALUES t c = named_next_stored (put_last _ _ _ _ c.if-left-eq0.false c.requires c.if-v-lt-GROUP_VALUES.true)
-
-pub put_groups-requires : goal.put_groups-requires
-put_groups-requires t c = (omega arith, simp length-set (omega arith))
 
 pub returns : goal.returns
 returns t c = named_next_stored (put_more _ _ _ _ c.if-left-eq0.false c.requires _ _ c.if-v-lt-GROUP_VALUES.false (c.put_groups.ensures.next, c.put_groups.ensures.stored))

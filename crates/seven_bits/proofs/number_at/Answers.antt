@@ -1,5 +1,4 @@
 -- `seven_bits::number_at` meets its contract.
-use borrow.Author.Rules.{rules}
 use Rattle.seven_bits.specs.Numbers.{number_at}
 use Rattle.seven_bits.proofs.number_at.Goals as goal
 

@@ -1,7 +1,6 @@
 -- `transfer::identity_of` meets its contract: each number is read at its place.
 use Rattle.envelope.specs.Header.{header_in}
 use Rattle.transfer.specs.Calls.{identity_of}
-use borrow.Author.Rules.{rules}
 use Rattle.transfer.proofs.identity_of.Goals as goal
 
 pub returns : goal.returns

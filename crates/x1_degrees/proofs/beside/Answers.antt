@@ -12,7 +12,6 @@ use Rattle.x1_questions.specs.Coordinate.{CoordinateRange}
 use Rattle.x1_degrees.specs.declared.Surveyed.{Surveyed}
 use Rattle.x1_degrees.specs.Questions.{surveyed_at}
 use Rattle.x1_degrees.proofs.Narrow.{wide, narrow, narrow_is}
-use borrow.Author.Rules.{rules}
 use Rattle.x1_degrees.proofs.beside.Goals as goal
 
 module _ (c : Coordinate) (r : CoordinateRange c) where

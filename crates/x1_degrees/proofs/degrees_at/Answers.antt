@@ -2,7 +2,6 @@
 use mathlib.Core.Path.{ap, ◌∙◌}
 use Rattle.x1_degrees.specs.Questions.{with_degrees, degrees_asked}
 use Rattle.x1_degrees.proofs.Questions.{coordinate_ranged}
-use borrow.Author.Rules.{rules}
 use Rattle.x1_degrees.proofs.degrees_at.Goals as goal
 
 pub with_degrees-requires : goal.with_degrees-requires

@@ -2,7 +2,6 @@
 use mathlib.Core.Path.{ap, ◌∙◌}
 use Rattle.x1_degrees.specs.Questions.{with_degrees, point_degrees_of}
 use Rattle.x1_degrees.proofs.Questions.{point_ranged}
-use borrow.Author.Rules.{rules}
 use Rattle.x1_degrees.proofs.point_degrees.Goals as goal
 
 pub with_degrees-requires : goal.with_degrees-requires

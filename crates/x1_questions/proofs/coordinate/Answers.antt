@@ -7,12 +7,11 @@ use Rattle.x1_records.proofs.Whole.{size_positive}
 use Rattle.x1_layout.specs.Layout.{structure_of, size_of}
 use Rattle.x1_lookup.proofs.Lookup.{verdict_obeys}
 use Rattle.verdict.proofs.Questions.{own_fault}
-use Rattle.x1_questions.specs.declared.answers.CoordinateAnswer.TheVariants as answer
+use Rattle.std.specs.Prelude.{Err}
 use Rattle.x1_questions.specs.Questions.{coordinate_asked}
 use Rattle.x1_questions.specs.inner.Requires.{TrackObeys}
 use Rattle.x1_questions.proofs.Stretches.{found_obeys}
 use Rattle.x1_questions.proofs.Questions.{no_track, along_track}
-use borrow.Author.Rules.{rules}
 use Rattle.x1_questions.proofs.coordinate.Goals as goal
 
 -- the size as it is read
@@ -21,15 +20,15 @@ sized f e size z o = let p = size_positive (structure_of f) in (omega arith, sub
 
 pub returns-in_default : goal.returns-in_default
 unfolding coordinate_asked
-returns-in_default c = own_fault answer.Refused _ _ _ c.verdict_of-v.ensures c.in_default.is c.fault.ensures _
+returns-in_default c = own_fault Err _ _ _ c.verdict_of-v.ensures c.unwrap_err.ensures _
 
 pub returns-in_default-found : goal.returns-in_default-found
-returns-in_default-found c = no_track c.args.f.now c.args.number _ c.verdict_of-v.ensures c.in-Accepted.is c.find_track-found.ensures c.in_default-found.is c.refusal.ensures
+returns-in_default-found c = no_track c.args.f.now c.args.number _ c.verdict_of-v.ensures c.in-Ok.is c.find_track-found.ensures c.in_default-found.is c.refusal.ensures
 
 pub coordinate_at-requires : goal.coordinate_at-requires
 coordinate_at-requires c = let a = c.args in
-    let o = (verdict_obeys a.f.now).0 (sym c.verdict_of-v.ensures ∙ c.in-Accepted.is) in
-    sized _ _ _ c.size_of.ensures (found_obeys a.f.now o a.number _ (sym c.find_track-found.ensures ∙ c.in-At.is))
+    let o = (verdict_obeys a.f.now).0 (sym c.verdict_of-v.ensures ∙ c.in-Ok.is) in
+    sized _ _ _ c.size_of.ensures (found_obeys a.f.now o a.number _ (sym c.find_track-found.ensures ∙ c.in-Some.is))
 
 pub returns : goal.returns
-returns c = along_track c.args.f.now c.args.number _ c.verdict_of-v.ensures c.in-Accepted.is c.find_track-found.ensures c.in-At.is c.size_of.ensures c.coordinate_at.ensures
+returns c = along_track c.args.f.now c.args.number _ c.verdict_of-v.ensures c.in-Ok.is c.find_track-found.ensures c.in-Some.is c.size_of.ensures c.coordinate_at.ensures

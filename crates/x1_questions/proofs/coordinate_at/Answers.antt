@@ -2,7 +2,6 @@
 use mathlib.Core.Path.{sym, ◌∙◌}
 use Rattle.x1_questions.proofs.Stretches.{on_found_lem}
 use Rattle.x1_questions.proofs.Questions.{beyond_end, no_stretch, along_stretch}
-use borrow.Author.Rules.{rules}
 use Rattle.x1_questions.proofs.coordinate_at.Goals as goal
 
 pub returns-then-number_of-x : goal.returns-then-number_of-x
@@ -13,7 +12,7 @@ returns-in_default c = no_stretch _ _ _ _ c.number_of.ensures.is c.if-number_of-
 
 pub coordinate_on-requires : goal.coordinate_on-requires
 coordinate_on-requires c = let a = c.args in
-    on_found_lem a.f.now a.size a.e c.requires.0 c.requires.1 a.x _ (sym c.find_stretch-stretch.ensures ∙ c.in-At.is)
+    on_found_lem a.f.now a.size a.e c.requires.0 c.requires.1 a.x _ (sym c.find_stretch-stretch.ensures ∙ c.in-Some.is)
 
 pub returns : goal.returns
-returns c = along_stretch _ _ _ _ c.number_of.ensures.is c.if-number_of-x.false c.find_stretch-stretch.ensures c.in-At.is c.coordinate_on.ensures
+returns c = along_stretch _ _ _ _ c.number_of.ensures.is c.if-number_of-x.false c.find_stretch-stretch.ensures c.in-Some.is c.coordinate_on.ensures

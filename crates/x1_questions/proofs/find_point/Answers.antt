@@ -1,6 +1,5 @@
 -- `x1_questions::find_point` meets its contract. The point is no further than its track's last one, and so stands in the file.
 use Rattle.x1_questions.proofs.Questions.{sought_no_track, sought_none, sought_there, point_in_file}
-use borrow.Author.Rules.{rules}
 use Rattle.x1_questions.proofs.find_point.Goals as goal
 
 pub returns-then-number_of-track : goal.returns-then-number_of-track

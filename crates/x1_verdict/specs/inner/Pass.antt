@@ -2,9 +2,8 @@
 -- it.
 use Rattle.std.specs.Prelude.{ℕ, ◌+◌, ◌-◌, ◌^◌, ◌≤◌, ◌<◌, ◌≡◌, true, length}
 use mathlib.Core.List.{List, flat_map}
-use Rattle.verdict.specs.declared.Judged.{Judged}
-use Rattle.verdict.specs.declared.Judged.TheVariants.{Accepted}
-use Rattle.verdict.specs.Facts.{Fact, all_tests, judge}
+use Rattle.std.specs.Prelude.{Result, Ok, Err}
+use Rattle.verdict.specs.Facts.{Fact, all_tests, first_fault}
 use Rattle.verdict.specs.Walk.{starts_from}
 use Rattle.tables.specs.Table.{field_place, value_of}
 use Rattle.x1_records.specs.Places.{entry_size, position_most}
@@ -52,13 +51,13 @@ pub record RoomyInside (f : List ℕ) (e : ℕ) (t : Frame) : Type 0 where
 
 -- the fields of the points from one place on and before another obey
 pub record FieldsPassed (f : List ℕ) (size from p : ℕ) : Type 0 where
-  pub so : judge Accepted (fields_from f size p) ≡ judge Accepted (fields_from f size from)
+  pub so : first_fault (fields_from f size p) ≡ first_fault (fields_from f size from)
 
 -- the points of the entry at e after its first one and before p agree, and obey by their fields if the last of their positions, which rise,
 -- is not above the limit
 pub record LaterPassed (f : List ℕ) (size e p : ℕ) : Type 0 where
   pub fields : value_of f (p - size) position ≤ position_most → FieldsPassed f size (first_of f e + size) p
-  pub agrees : (v : Judged) → judge v (points_from f size e p) ≡ judge v (points_from f size e (first_of f e + size))
+  pub agrees : first_fault (points_from f size e p) ≡ first_fault (points_from f size e (first_of f e + size))
   pub after : first_of f e + size ≤ p
   pub small : p < 2 ^ 17
 
@@ -70,14 +69,20 @@ pub record TrackPassed (f : List ℕ) (size e due next : ℕ) : Type 0 where
 -- the tracks before the entry at e agree, and the fields of the points before `due` obey
 pub record Passing (f : List ℕ) (size e due : ℕ) : Type 0 where
   pub fields : FieldsPassed f size (points_at f) due
-  pub agrees : (v : Judged) → judge v (tracks_from f size e) ≡ judge v (agreement_facts f size)
+  pub agrees : first_fault (tracks_from f size e) ≡ first_fault (agreement_facts f size)
+
+-- how far the pass came: over all tracks, whose points end where the next ones were due; or to the entry of the first one that does not pass, before
+-- which each agrees
+abbrev pub Reached : List ℕ → ℕ → Result ℕ ℕ → Type 0
+Reached f size (Ok due) = Passing f size (points_at f) due
+Reached f size (Err e) = first_fault (tracks_from f size e) ≡ first_fault (agreement_facts f size)
 
 -- so do all tracks, and the fields of all points
 pub record TracksPassed (f : List ℕ) (size : ℕ) : Type 0 where
-  pub fields : Accepted ≡ judge Accepted (flat_map (point_fields f) (all_points f size))
-  pub agrees : Accepted ≡ judge Accepted (agreement_facts f size)
+  pub fields : (Ok tt) ≡ first_fault (flat_map (point_fields f) (all_points f size))
+  pub agrees : (Ok tt) ≡ first_fault (agreement_facts f size)
 
 -- so do all fields
 pub record AllPassed (f : List ℕ) (size : ℕ) : Type 0 where
-  pub fields : Accepted ≡ judge Accepted (field_facts f size)
-  pub agrees : Accepted ≡ judge Accepted (agreement_facts f size)
+  pub fields : (Ok tt) ≡ first_fault (field_facts f size)
+  pub agrees : (Ok tt) ≡ first_fault (agreement_facts f size)

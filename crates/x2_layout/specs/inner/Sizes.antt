@@ -1,7 +1,6 @@
 -- The balises of a group: the size of one, tested, and how far a loop over them is.
 use Rattle.std.specs.Prelude.{ℕ, ◌+◌, ◌≤◌, ◌≡◌, Bool, ◌&&◌, List, leb}
-use Rattle.verdict.specs.declared.Judged.{Judged}
-use Rattle.verdict.specs.Facts.{test, judge}
+use Rattle.verdict.specs.Facts.{test, first_fault}
 use Rattle.x2_records.specs.Places.{balise_size}
 use Rattle.x2_layout.specs.Groups.{right_size, walk_layout}
 
@@ -9,7 +8,7 @@ use Rattle.x2_layout.specs.Groups.{right_size, walk_layout}
 abbrev pub balise_fits : ℕ → ℕ → ℕ → Bool
 balise_fits at n until = leb (at + balise_size) until && (test (right_size n) && leb (at + n) until)
 
--- The balises from `from` to `at` obey: the facts of the balises from `at` on give the verdict that the facts of those from `from` on give.
+-- The balises from `from` to `at` obey: the facts of the balises from `at` on have the first fault that the facts of those from `from` on have.
 pub record Passed (f : List ℕ) (until from at : ℕ) : Type 0 where
   pub onward : from ≤ at
-  pub so : (v : Judged) (next : ℕ) → judge v (walk_layout f at until next) ≡ judge v (walk_layout f from until next)
+  pub so : (next : ℕ) → first_fault (walk_layout f at until next) ≡ first_fault (walk_layout f from until next)

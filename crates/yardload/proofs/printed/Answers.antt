@@ -5,5 +5,5 @@ use Rattle.yardload.proofs.printed.Goals as goal
 
 pub slice_bounds-write_all-end : goal.slice_bounds-write_all-end
 slice_bounds-write_all-end c =
-    let is_whole = ended _ _ (sym c.finish-verdict.ensures ∙ c.in-Accepted.is) in
+    let is_whole = ended _ _ (sym c.finish-verdict.ensures ∙ c.in-Ok.is) in
     sym (length-take-le _ _ is_whole.roomy)

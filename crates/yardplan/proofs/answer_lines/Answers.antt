@@ -4,7 +4,7 @@ use Rattle.plan_question.proofs.Fits.{words_fit}
 use Rattle.yardplan.proofs.answer_lines.Goals as goal
 
 pub slice_bounds-compared_lines-end : goal.slice_bounds-compared_lines-end
-slice_bounds-compared_lines-end c = words_fit _ _ _ _ _ _ _ _ _ c.compare.ensures.value c.in-Compared.is c.compare.ensures.list_after
+slice_bounds-compared_lines-end c = words_fit _ _ _ _ _ _ _ _ _ c.compare.ensures.value c.in-Ok.is c.compare.ensures.list_after
 
-pub slice_bounds-compared_lines-end-in-Compared : goal.slice_bounds-compared_lines-end-in-Compared
-slice_bounds-compared_lines-end-in-Compared c = sym (length-take-le _ _ (words_fit _ _ _ _ _ _ _ _ _ c.compare.ensures.value c.in-Compared.is c.compare.ensures.list_after))
+pub slice_bounds-compared_lines-end-in-Ok : goal.slice_bounds-compared_lines-end-in-Ok
+slice_bounds-compared_lines-end-in-Ok c = sym (length-take-le _ _ (words_fit _ _ _ _ _ _ _ _ _ c.compare.ensures.value c.in-Ok.is c.compare.ensures.list_after))

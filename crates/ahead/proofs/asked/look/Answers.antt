@@ -1,7 +1,6 @@
 -- `ahead::asked::look` meets its contract: one law for each way out.
 use mathlib.Core.Path.{ap, ◌∙◌}
 use native.Mathlib.Omega.{arith}
-use borrow.Author.Rules.{rules}
 use Rattle.route_walks.specs.Lent.{lays}
 use Rattle.ahead.specs.Seen.{Seen, sight_of}
 use Rattle.ahead.proofs.Answering.{not_named, is_offset, seen-is, asked_is, not_asked, no_room, listed}

@@ -1,34 +1,19 @@
 -- `ahead::list::follow` meets its contract. The loop's invariant: the first n of the path are listed, and what follows them by the link `to` is all
 -- that follows.
-use mathlib.Core.Path.{sym, ap, ◌∙◌}
-use Prim.Native.Nat.{◌-◌}
-use native.Mathlib.Omega.{arith}
-use lib.ListN.{length-set}
-use lib.Seq.{length-take-le}
+use mathlib.Core.Path.{ap, ◌∙◌}
 use borrow.Author.Rules.{rules}
 use Rattle.route_graph.specs.declared.Object.{Object}
 use Rattle.route_graph.specs.Objects.{object_at}
 use Rattle.ahead.specs.Ways.{way_of}
-use Rattle.ahead.specs.Ahead.{objects_most}
-use Rattle.ahead.proofs.Looking.{Looking, stood, begins, no_link, repeated, full, stops, goes_on_lem, ended_so}
+use Rattle.ahead.proofs.Looking.{stood, begins, no_link, repeated, full, stops, goes_on_lem, ended_so}
 use Rattle.ahead.proofs.list.follow.Goals as goal
 
 pub loop-to-init : goal.loop-to-init
 loop-to-init c = let a = c.args in
-    begins (object_at a.g.now a.l) a.lies.now a.passed a.first a.path.now c.requires
-
-pub shape_of-path-then-to-eq0 : goal.shape_of-path-then-to-eq0
-shape_of-path-then-to-eq0 c = c.loop-to.invariant.room ∙ sym c.requires
+    begins (object_at a.g.now a.l) a.lies.now a.passed a.first a.path.now (search rules)
 
 pub returns-then-to-eq0 : goal.returns-then-to-eq0
 returns-then-to-eq0 c = ended_so _ _ _ _ c.ends.ensures (no_link _ _ _ _ _ _ _ _ c.loop-to.invariant c.if-to-eq0.true)
-
-pub slice_bounds-stands_in-end-in-loop-to : goal.slice_bounds-stands_in-end-in-loop-to
-slice_bounds-stands_in-end-in-loop-to c = let h = c.loop-to in
-    sym (length-take-le h.n h.path (omega (arith, h.invariant.small, h.invariant.room)))
-
-pub shape_of-path-then-passed-to : goal.shape_of-path-then-passed-to
-shape_of-path-then-passed-to c = c.loop-to.invariant.room ∙ sym c.requires
 
 pub returns-then-passed-to : goal.returns-then-passed-to
 returns-then-passed-to c = let h = c.loop-to in
@@ -36,29 +21,22 @@ returns-then-passed-to c = let h = c.loop-to in
     let again = stood a.passed h.to _ _ c.stands_in.ensures in
     ended_so _ _ _ _ c.ends-then-passed-to.ensures (repeated _ _ _ _ _ _ _ _ h.invariant c.if-to-eq0.false _ again c.if-passed-to.true)
 
-pub shape_of-path-then-n-eq-OBJECTS_MOST : goal.shape_of-path-then-n-eq-OBJECTS_MOST
-shape_of-path-then-n-eq-OBJECTS_MOST c = c.loop-to.invariant.room ∙ sym c.requires
-
 pub returns-then-n-eq-OBJECTS_MOST : goal.returns-then-n-eq-OBJECTS_MOST
 returns-then-n-eq-OBJECTS_MOST c = let h = c.loop-to in
     let a = c.args in
     let again = stood a.passed h.to _ _ c.stands_in.ensures in
     ended_so _ _ _ _ c.ends-then-n-eq-OBJECTS_MOST.ensures (full _ _ _ _ _ _ _ _ h.invariant c.if-to-eq0.false _ again c.if-passed-to.false c.if-n-eq-OBJECTS_MOST.true)
 
-pub shape_of-path-in-Stops : goal.shape_of-path-in-Stops
-shape_of-path-in-Stops c = let h = c.loop-to in
-    length-set h.path h.n h.to ∙ h.invariant.room ∙ sym c.requires
-
-pub returns-in-Stops : goal.returns-in-Stops
-returns-in-Stops c = let h = c.loop-to in
+pub returns-in-Err : goal.returns-in-Err
+returns-in-Err c = let h = c.loop-to in
     let a = c.args in
-    let way = c.way_of-way.ensures ∙ ap (λ (o : Object). way_of o h.from a.lies.now) c.object_at.ensures in
+    let way = c.way_of.ensures ∙ ap (λ (o : Object). way_of o h.from a.lies.now) c.object_at.ensures in
     let again = stood a.passed h.to _ _ c.stands_in.ensures in
-    ended_so _ _ _ _ c.ends-in-Stops.ensures (stops _ _ _ _ _ _ _ _ h.invariant c.if-to-eq0.false _ again c.if-passed-to.false c.if-n-eq-OBJECTS_MOST.false _ way _ c.in-Stops.is)
+    ended_so _ _ _ _ c.ends-in-Err.ensures (stops _ _ _ _ _ _ _ _ h.invariant c.if-to-eq0.false _ again c.if-passed-to.false c.if-n-eq-OBJECTS_MOST.false _ way _ c.in-Err.is)
 
 pub loop-to-preserved : goal.loop-to-preserved
 loop-to-preserved c = let h = c.loop-to in
     let a = c.args in
-    let way = c.way_of-way.ensures ∙ ap (λ (o : Object). way_of o h.from a.lies.now) c.object_at.ensures in
+    let way = c.way_of.ensures ∙ ap (λ (o : Object). way_of o h.from a.lies.now) c.object_at.ensures in
     let again = stood a.passed h.to _ _ c.stands_in.ensures in
-    goes_on_lem _ _ _ _ _ _ _ _ h.invariant c.if-to-eq0.false _ again c.if-passed-to.false c.if-n-eq-OBJECTS_MOST.false _ way _ c.in-On.is
+    goes_on_lem _ _ _ _ _ _ _ _ h.invariant c.if-to-eq0.false _ again c.if-passed-to.false c.if-n-eq-OBJECTS_MOST.false _ way _ c.in-Ok.is

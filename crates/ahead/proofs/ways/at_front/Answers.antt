@@ -1,16 +1,16 @@
 -- `ahead::ways::at_front` meets its contract.
-use borrow.Author.Tests.{eq-eqb, ne_eqb}
+use Rattle.std.proofs.Common.{rules}
 use Rattle.ahead.specs.Ways.{front_of}
 use Rattle.ahead.proofs.ways.at_front.Goals as goal
 
-pub returns-then-lie-eq-NORMAL : goal.returns-then-lie-eq-NORMAL
+pub returns-in-Normal : goal.returns-in-Normal
 unfolding front_of
-returns-then-lie-eq-NORMAL c = simp (eq-eqb _ _ c.if-lie-eq-NORMAL.true)
+returns-in-Normal c = search rules
 
-pub returns-then-lie-eq-REVERSE : goal.returns-then-lie-eq-REVERSE
+pub returns-in-Reverse : goal.returns-in-Reverse
 unfolding front_of
-returns-then-lie-eq-REVERSE c = simp (ne_eqb _ _ c.if-lie-eq-NORMAL.false, eq-eqb _ _ c.if-lie-eq-REVERSE.true)
+returns-in-Reverse c = search rules
 
-pub returns : goal.returns
+pub returns-in-Unknown : goal.returns-in-Unknown
 unfolding front_of
-returns c = simp (ne_eqb _ _ c.if-lie-eq-NORMAL.false, ne_eqb _ _ c.if-lie-eq-REVERSE.false)
+returns-in-Unknown c = search rules

@@ -1,12 +1,12 @@
 -- `ahead::ways::at_leg` meets its contract.
-use borrow.Author.Tests.{eq-eqb, ne_eqb}
 use Rattle.ahead.specs.Ways.{trail_of}
+use Rattle.ahead.proofs.Legs.{same_byte}
 use Rattle.ahead.proofs.ways.at_leg.Goals as goal
 
-pub returns-then-lie-against : goal.returns-then-lie-against
+pub returns-then-eq : goal.returns-then-eq
 unfolding trail_of
-returns-then-lie-against c = simp (eq-eqb _ _ c.if-lie-against.true)
+returns-then-eq c = simp (same_byte, ← c.eq.ensures, c.if-eq.true)
 
 pub returns : goal.returns
 unfolding trail_of
-returns c = simp (ne_eqb _ _ c.if-lie-against.false)
+returns c = simp (same_byte, ← c.eq.ensures, c.if-eq.false)

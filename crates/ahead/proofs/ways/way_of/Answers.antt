@@ -1,5 +1,4 @@
 -- `ahead::ways::way_of` meets its contract.
-use borrow.Author.Rules.{rules}
 use Rattle.ahead.proofs.Legs.{way_boundary, way_plain, way_turnout, way_nothing}
 use Rattle.ahead.proofs.ways.way_of.Goals as goal
 

@@ -4,10 +4,10 @@ use Rattle.c_values.proofs.Numbers.{value_read}
 use borrow.Author.Rules.{rules}
 use Rattle.c_values.proofs.values.height_words.Goals as goal
 
-pub returns-in-Decimetres : goal.returns-in-Decimetres
+pub returns-in-Some : goal.returns-in-Some
 unfolding word_of
-returns-in-Decimetres c = simp (value_read c.in-Decimetres.z c.in-Decimetres.known_told-1-own.given.0.1 _ c.signed_word.ensures, c.in-Decimetres.is)
+returns-in-Some c = simp (value_read c.in-Some.z c.in-Some.known_told-1-own.given.0.1 _ c.signed_word.ensures, c.in-Some.is)
 
-pub returns-in-NoHeight : goal.returns-in-NoHeight
+pub returns-in-None : goal.returns-in-None
 unfolding word_of
-returns-in-NoHeight c = simp c.in-NoHeight.is
+returns-in-None c = simp c.in-None.is

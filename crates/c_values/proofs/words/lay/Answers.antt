@@ -10,18 +10,17 @@ use borrow.Author.Rules.{rules}
 use Rattle.c_values.proofs.words.lay.Goals as goal
 
 pub loop-i-init : goal.loop-i-init
-loop-i-init c = (search rules, refl, refl)
+loop-i-init c = (refl, refl)
 
 pub loop-i-preserved : goal.loop-i-preserved
 loop-i-preserved c = let words = c.args.words.now in
     let e = c.put_word.ensures in (
-      search rules,
-      lay_length words _ _ c.loop-i.i e ∙ c.loop-i.invariant.1,
-      lay_more words _ _ c.loop-i.i (omega arith) e ∙ c.loop-i.invariant.2,
+      lay_length words _ _ c.loop-i.i e ∙ c.loop-i.invariant.0,
+      lay_more words _ _ c.loop-i.i (omega arith) e ∙ c.loop-i.invariant.1,
     )
 
 pub shape_of-out : goal.shape_of-out
-shape_of-out c = c.loop-i.invariant.1
+shape_of-out c = c.loop-i.invariant.0
 
 pub returns : goal.returns
-returns c = lay_stop c.args.words.now _ _ c.loop-i.i c.loop-i-test.false c.loop-i.invariant.2
+returns c = lay_stop c.args.words.now _ _ _ (omega arith) c.loop-i.invariant.1

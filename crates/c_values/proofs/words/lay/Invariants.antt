@@ -10,7 +10,4 @@ use borrow.Author.Rules.{rules}
 use Rattle.c_values.proofs.words.lay.Given as goal
 
 abbrev pub invariant-loop-i : goal.invariant-loop-i
-invariant-loop-i l = (l.i ≤ length l.words) × (length l.out ≡ length l.initial.out) × (sets l.out (value_size * l.i) (laid_bytes (drop l.i l.words)) ≡ sets l.initial.out 0 (laid_bytes l.words))
-
-abbrev pub decreases-loop-i : goal.decreases-loop-i
-decreases-loop-i l = length l.words - l.i
+invariant-loop-i l = (length l.out ≡ length l.initial.out) × (sets l.out (value_size * l.i) (laid_bytes (drop l.i l.words)) ≡ sets l.initial.out 0 (laid_bytes l.words))

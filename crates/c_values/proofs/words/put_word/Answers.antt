@@ -1,21 +1,15 @@
--- `c_values::words::put_word` meets its contract: four stores one after the other.
-use mathlib.Core.Path.{refl}
+-- `c_values::words::put_word` meets its contract: the four bytes are copied to the place.
+use Prim.Native.Nat.{◌+◌, ◌-◌}
+use mathlib.Core.Path.{◌≡◌, refl}
 use native.Mathlib.Omega.{arith}
-use lib.ListN.{length-set}
+use lib.ListN.{length}
 use Rattle.c_values.specs.Words.{word_bytes}
-use Rattle.c_values.proofs.Laid.{four}
+use Rattle.c_values.proofs.Laid.{copied}
 use borrow.Author.Rules.{rules}
 use Rattle.c_values.proofs.words.put_word.Goals as goal
 
-pub bounds-out-at-2 : goal.bounds-out-at-2
-bounds-out-at-2 c = rw length-set (omega arith)
-
-pub bounds-out-at-3 : goal.bounds-out-at-3
-bounds-out-at-3 c = rw (length-set, length-set) (omega arith)
-
-pub bounds-out-at-4 : goal.bounds-out-at-4
-bounds-out-at-4 c = rw (length-set, length-set, length-set) (omega arith)
-
 pub returns : goal.returns
 unfolding word_bytes
-returns c = let a = c.args in four a.out.now a.at a.word _ _ _ _ refl
+returns c = let a = c.args in
+    let k : (a.at + 4) - a.at ≡ 4 = omega arith in
+    rw (k, c.copy_from_slice.ensures.after, c.to_le_bytes.ensures) (copied a.out.now (word_bytes a.word) a.at 4 refl (omega (arith, c.requires)))

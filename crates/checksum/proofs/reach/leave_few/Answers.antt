@@ -1,15 +1,9 @@
 -- `checksum::reach::leave_few` meets its contract: the lead is passed on, then all bytes but the last, and `few_is` says what is left.
-use mathlib.Core.Path.{sym}
 use Prim.Native.Nat.{ℕ, ◌-◌}
 use native.Mathlib.Omega.{arith}
 use lib.ListN.{length}
-use lib.Seq.{length-take-le}
 use Rattle.checksum.proofs.Row.{few_is}
-use borrow.Author.Rules.{rules}
 use Rattle.checksum.proofs.reach.leave_few.Goals as goal
-
-pub slice_bounds-pass_all-end : goal.slice_bounds-pass_all-end
-slice_bounds-pass_all-end c = sym (length-take-le _ _ (omega arith))
 
 pub returns : goal.returns
 returns c = let s = c.args.s.now in

@@ -1,21 +1,16 @@
--- `checksum::reach::pass_all` meets its contract. The loop's invariant: the bytes of s before the place i have been passed on.
-use Prim.Native.Nat.{◌+◌, ◌-◌, ◌≤◌}
-use native.Mathlib.Omega.{arith}
-use lib.ListN.{length, take}
-use Rattle.checksum.specs.inner.Reach.{Passes}
-use Rattle.checksum.proofs.Row.{passes_none, passes_on, passes-end}
-use borrow.Author.Rules.{rules}
+-- `checksum::reach::pass_all` meets its contract. The loop's invariant: the blocks before this one have been passed on.
+use Rattle.std.proofs.Common.{◌≡◌, ◌*◌, ◌/◌, ◌∙◌, ℕ, ap, sym, length, drop, arith}
+use Rattle.checksum.proofs.Row.{passes_none, passes_on, passes_all}
 use Rattle.checksum.proofs.reach.pass_all.Goals as goal
 
-pub loop-i-init : goal.loop-i-init
-loop-i-init c = (search rules, passes_none _ c.args.s.now)
+pub loop-block-init : goal.loop-block-init
+loop-block-init c = passes_none _ c.args.s.now
 
-pub loop-i-preserved : goal.loop-i-preserved
-loop-i-preserved c = let s = c.args.s.now in
-    let i = c.loop-i.i in
-    (search rules, passes_on _ _ _ s i (i + 2048 - i) (i + 2048) (omega arith) c.loop-i.invariant.1 c.pass_part.ensures)
+pub loop-block-preserved : goal.loop-block-preserved
+loop-block-preserved c =
+    passes_on 2048 _ c.loop-block.block-index _ _ _ _ _ c.as_chunks.ensures.front (omega arith) c.loop-block.invariant c.pass_part.ensures
 
 pub returns : goal.returns
-returns c = let s = c.args.s.now in
-    let i = c.loop-i.i in
-    passes-end _ _ _ s i (length s - i) (omega arith) c.loop-i.invariant.1 c.pass_part-2.ensures
+returns c = let l = c.loop-block in
+    let all : l.block-index ≡ length c.args.s.now / 2048 = omega (arith, c.as_chunks.ensures.front_len) in
+    passes_all _ _ _ c.args.s.now _ (l.block-index * 2048) (c.as_chunks.ensures.back ∙ ap (λ (k : ℕ). drop (k * 2048) c.args.s.now) (sym all)) l.invariant c.pass_part-2.ensures

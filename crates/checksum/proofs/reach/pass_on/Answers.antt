@@ -1,17 +1,14 @@
 -- `checksum::reach::pass_on` meets its contract. The loop's invariant: the bytes of s before the place k are in the row.
-use Prim.Native.Nat.{◌-◌, ◌≤◌}
-use native.Mathlib.Omega.{arith}
-use lib.ListN.{length}
-use Rattle.checksum.proofs.Row.{After, after_none, after_on, after_all}
-use borrow.Author.Rules.{rules}
+use Rattle.std.proofs.Common.{arith}
+use Rattle.checksum.proofs.Row.{after_none, after_on, after_all}
 use Rattle.checksum.proofs.reach.pass_on.Goals as goal
 
 pub loop-k-init : goal.loop-k-init
-loop-k-init c = (search rules, after_none _ c.args.s.now)
+loop-k-init c = after_none _ c.args.s.now
 
 pub loop-k-preserved : goal.loop-k-preserved
 loop-k-preserved c = let l = c.loop-k in
-    (search rules, after_on _ _ _ l.k _ (omega arith) (omega arith) c.brought.ensures l.invariant.1)
+    after_on _ _ _ l.k _ (omega arith) (omega arith) c.brought.ensures l.invariant
 
 pub returns : goal.returns
-returns c = after_all _ _ _ c.loop-k.k (omega arith) c.loop-k.invariant.1
+returns c = after_all _ _ _ c.loop-k.k (omega arith) c.loop-k.invariant

@@ -1,5 +1,4 @@
 -- `checksum::reach::pass_part` meets its contract: the bytes are passed on, and the row is moved by as many places.
-use borrow.Author.Rules.{rules}
 use Rattle.checksum.proofs.Row.{passes}
 use Rattle.checksum.proofs.reach.pass_part.Goals as goal
 

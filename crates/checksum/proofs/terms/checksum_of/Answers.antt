@@ -1,5 +1,4 @@
 -- `checksum::terms::checksum_of` meets its contract: the start value is the definition's.
-use borrow.Author.Rules.{rules}
 use Rattle.checksum.specs.Checksum.{checksum_of}
 use Rattle.checksum.proofs.terms.checksum_of.Goals as goal
 

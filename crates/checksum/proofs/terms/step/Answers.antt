@@ -1,6 +1,5 @@
 -- `checksum::terms::step` meets its contract: `by_terms` says that the terms alone are left to be taken off.
 use native.Mathlib.Omega.{arith}
-use borrow.Author.Rules.{rules}
 use Rattle.checksum.proofs.Plain.{by_terms}
 use Rattle.checksum.proofs.terms.step.Goals as goal
 

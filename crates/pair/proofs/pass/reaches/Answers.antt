@@ -5,12 +5,6 @@ use Rattle.pair.proofs.Passing.{found_reaches}
 use borrow.Author.Rules.{rules}
 use Rattle.pair.proofs.pass.reaches.Goals as goal
 
-pub returns-then-f-e : goal.returns-then-f-e
-returns-then-f-e c = λ e. absurd (true≢false (sym e))
-
 pub returns-else-f-e : goal.returns-else-f-e
 returns-else-f-e c = let a = c.args in
-    λ e. found_reaches a.f.now a.position c.in-At.is c.number_of.ensures.is e
-
-pub returns-in-Absent : goal.returns-in-Absent
-returns-in-Absent c = λ e. absurd (true≢false (sym e))
+    λ e. found_reaches a.f.now a.position c.in-Some.is c.number_of.ensures.is e

@@ -5,4 +5,4 @@ use Rattle.route_graph.proofs.regions.ends_of.Goals as goal
 
 pub returns : goal.returns
 unfolding ends_of
-returns c = simp (c.later_of-2.ensures, c.later_of.ensures, c.later_of-before_joints.ensures)
+returns c = search rules

@@ -1,16 +1,7 @@
 -- `route_graph::object_in` meets its contract.
-use mathlib.Core.Path.{◌∙◌, ap}
-use borrow.Author.Rules.{rules}
-use Rattle.x2_records.specs.declared.Kind.{Kind}
-use Rattle.x2_records.specs.declared.Links.{Links}
-use Rattle.x2_records.specs.Records.{link_fields}
-use Rattle.route_graph.specs.Objects.{view_of, view_at}
 use Rattle.route_graph.specs.inner.Ends.{object_in}
 use Rattle.route_graph.proofs.regions.object_in.Goals as goal
 
 pub returns : goal.returns
-unfolding object_in view_at
-returns c = let a = c.args in
-    c.view.ensures
-    ∙ ap (λ (x : Links). view_of a.f.now a.at x) c.links.ensures
-    ∙ ap (λ (k : Kind). view_of a.f.now a.at (link_fields k a.at)) c.kind_in-k.ensures
+unfolding object_in
+returns c = simp (c.record_at.ensures, c.kind_in.ensures, c.from.ensures)

@@ -1,17 +1,15 @@
 -- `route_lister::settled` meets its contract.
-use mathlib.Core.Path.{◌∙◌}
-use borrow.Author.Rules.{rules}
 use borrow.Author.Tests.{lt-ltb, le-ltb}
 use Rattle.route_lister.specs.Answered.{judged}
 use Rattle.route_lister.proofs.asked.settled.Goals as goal
 
 pub returns-then-budget-counted : goal.returns-then-budget-counted
 unfolding judged
-returns-then-budget-counted c = c.refused.ensures ∙ simp (lt-ltb _ _ c.if-budget-counted.true)
+returns-then-budget-counted c = simp (c.refusal.ensures, lt-ltb _ _ c.if-budget-counted.true)
 
 pub returns-then-room-counted : goal.returns-then-room-counted
 unfolding judged
-returns-then-room-counted c = c.refused-then-room-counted.ensures ∙ simp (le-ltb _ _ c.if-budget-counted.false, lt-ltb _ _ c.if-room-counted.true)
+returns-then-room-counted c = simp (c.refusal-then-room-counted.ensures, le-ltb _ _ c.if-budget-counted.false, lt-ltb _ _ c.if-room-counted.true)
 
 pub returns : goal.returns
 unfolding judged

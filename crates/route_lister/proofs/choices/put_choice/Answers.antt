@@ -1,5 +1,4 @@
 -- `route_lister::put_choice` meets its contract.
-use borrow.Author.Rules.{rules}
 use Rattle.route_lister.proofs.Opening.{one_put}
 use Rattle.route_lister.proofs.choices.put_choice.Goals as goal
 

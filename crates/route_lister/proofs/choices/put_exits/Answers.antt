@@ -1,5 +1,4 @@
 -- `route_lister::put_exits` meets its contract: a boundary and what is no object are left by no link.
-use borrow.Author.Rules.{rules}
 use Rattle.route_graph.specs.Ways.{exits_of}
 use Rattle.route_lister.proofs.Opening.{none_put}
 use Rattle.route_lister.proofs.choices.put_exits.Goals as goal

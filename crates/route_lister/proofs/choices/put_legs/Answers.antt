@@ -1,6 +1,5 @@
 -- `route_lister::put_legs` meets its contract.
 use native.Mathlib.Omega.{arith}
-use borrow.Author.Rules.{rules}
 use borrow.Author.Tests.{eq-eqb, ne_eqb}
 use Rattle.route_graph.specs.Ways.{legs_of}
 use Rattle.route_lister.proofs.Opening.{put_more}

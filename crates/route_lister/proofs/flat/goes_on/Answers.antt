@@ -1,5 +1,4 @@
 -- `route_lister::goes_on` meets its contract.
-use borrow.Author.Rules.{rules}
 use borrow.Author.Tests.{eq-eqb, ne_eqb, lt-ltb, le-ltb}
 use Rattle.route_lister.specs.inner.Choices.{goes_on}
 use Rattle.route_lister.proofs.flat.goes_on.Goals as goal

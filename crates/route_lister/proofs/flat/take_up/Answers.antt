@@ -3,16 +3,13 @@
 use mathlib.Core.Path.{◌≡◌, refl, sym, ◌∙◌}
 use mathlib.Core.Bool.{Bool, true, false, ◌&&◌}
 use mathlib.Core.Logic.{◌⊎◌, inl, inr}
-use Prim.Native.Nat.{ℕ, ◌+◌, ◌-◌, ◌≤◌, ◌<◌}
+use Prim.Native.Nat.{ℕ, ◌≤◌, ◌<◌}
 use native.Mathlib.Omega.{arith}
-use lib.ListN.{get_or, take}
 use lib.Dec.{leb, ltb}
-use borrow.Author.Rules.{rules}
 use borrow.Author.Tests.{ltb-true, ltb-false, leb-true, leb-false}
 use Rattle.verdict.proofs.Orders.{and-true}
-use Rattle.route_graph.specs.inner.Ends.{object_in}
 use Rattle.route_walks.specs.Walks.{walks}
-use Rattle.route_lister.proofs.Course.{Course, goes, course_starts, course_ends, fewer, cut, cut_marked, countable, course_shut, course_more, course_falls}
+use Rattle.route_lister.proofs.Course.{goes, course_starts, course_ends, fewer, cut, cut_marked, countable, course_shut, course_more, course_falls}
 use Rattle.route_lister.proofs.flat.take_up.Goals as goal
 
 -- what the loop's test says
@@ -94,7 +91,7 @@ loop-waiting-smaller-then-goes_on c = let l = c.loop-waiting in
     let g = goes _ _ _ _ (sym c.goes_on.ensures ∙ c.if-goes_on.true) in
     let p = c.push in
     let n = c.count-t in
-    course_falls _ _ _ _ _ _ _ _ _ _ _ _ _ _ l.invariant q.0 _ refl _ k.ensures g q.1 _ _ c.push.ensures.put c.push.ensures.marked _ c.object_of-o.ensures _ _ c.count-t.ensures.counted c.count-t.ensures.stored _ _ _ _ c.put_exits-waiting.ensures
+    course_falls _ _ _ _ _ _ _ _ _ _ _ _ _ _ l.invariant q.0 _ refl _ k.ensures g q.1 _ _ c.push.ensures.put c.push.ensures.marked _ c.object_in-o.ensures _ _ c.count-t.ensures.counted c.count-t.ensures.stored _ _ _ _ c.put_exits-waiting.ensures
 
 pub loop-waiting-preserved-then-goes_on : goal.loop-waiting-preserved-then-goes_on
 loop-waiting-preserved-then-goes_on c = let l = c.loop-waiting in
@@ -103,7 +100,7 @@ loop-waiting-preserved-then-goes_on c = let l = c.loop-waiting in
     let g = goes _ _ _ _ (sym c.goes_on.ensures ∙ c.if-goes_on.true) in
     let p = c.push in
     let n = c.count-t in
-    course_more _ _ _ _ _ _ _ _ _ _ _ _ _ _ l.invariant q.0 _ refl _ k.ensures g q.1 _ _ c.push.ensures.put c.push.ensures.marked _ c.object_of-o.ensures _ _ c.count-t.ensures.counted c.count-t.ensures.stored _ _ _ _ refl c.count-t.auto.out c.put_exits-waiting.ensures
+    course_more _ _ _ _ _ _ _ _ _ _ _ _ _ _ l.invariant q.0 _ refl _ k.ensures g q.1 _ _ c.push.ensures.put c.push.ensures.marked _ c.object_in-o.ensures _ _ c.count-t.ensures.counted c.count-t.ensures.stored _ _ _ _ refl c.count-t.auto.out c.put_exits-waiting.ensures
 
 pub loop-waiting-smaller : goal.loop-waiting-smaller
 loop-waiting-smaller c = let l = c.loop-waiting in

@@ -3,13 +3,11 @@
 -- link gives (`Line` of Turn). Each way out of the code is one law of Turn. In `follow`, h is where the way on is known, l is where the loop has
 -- come, o is that a walk is opened there, p is the push of its last object, and way is how it goes on from there.
 use mathlib.Core.Path.{sym, ap, ◌∙◌}
-use Prim.Native.Nat.{ℕ, ◌+◌, ◌<◌}
 use native.Mathlib.Omega.{arith}
 use borrow.Author.Rules.{rules}
 use Rattle.route_graph.specs.declared.Object.{Object}
-use Rattle.route_graph.specs.inner.Ends.{object_in}
 use Rattle.route_lister.specs.inner.Ways.{way_of}
-use Rattle.route_lister.proofs.Turn.{Line, ready_again, takes_legs, held_twice, line_starts, line_ends, line_arrives, line_forks, line_on, ready_there, as_long}
+use Rattle.route_lister.proofs.Turn.{ready_again, takes_legs, held_twice, line_starts, line_ends, line_arrives, line_forks, line_on, ready_there, as_long}
 use Rattle.route_lister.proofs.lister.+branch_follow.Goals as goal
 
 pub branch-follow-u-requires : goal.branch-follow-u-requires

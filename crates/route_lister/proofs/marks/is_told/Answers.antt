@@ -1,5 +1,4 @@
 -- `route_lister::marks::is_told` meets its contract.
-use borrow.Author.Rules.{rules}
 use Rattle.route_lister.proofs.Marking.{told_none, told_one}
 use Rattle.route_lister.proofs.marks.is_told.Goals as goal
 

@@ -1,6 +1,5 @@
 -- `route_lister::marks::mark_for` meets its contract.
 use mathlib.Core.Path.{sym, ◌∙◌}
-use borrow.Author.Rules.{rules}
 use Rattle.route_lister.proofs.Marking.{mark_kept, mark_new}
 use Rattle.route_lister.proofs.marks.mark_for.Goals as goal
 

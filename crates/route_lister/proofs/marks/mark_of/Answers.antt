@@ -1,5 +1,4 @@
 -- `route_lister::marks::mark_of` meets its contract.
-use borrow.Author.Rules.{rules}
 use Rattle.route_lister.proofs.marks.mark_of.Goals as goal
 
 pub returns : goal.returns

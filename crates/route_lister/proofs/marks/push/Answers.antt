@@ -1,6 +1,5 @@
 -- `route_lister::marks::push` meets its contract.
 use mathlib.Core.Path.{refl}
-use borrow.Author.Rules.{rules}
 use Rattle.route_lister.proofs.Marking.{marked_more}
 use Rattle.route_lister.proofs.marks.push.Goals as goal
 

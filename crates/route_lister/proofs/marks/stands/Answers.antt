@@ -1,7 +1,6 @@
 -- `route_lister::marks::stands` meets its contract: where the mark says no object of the path, none has to be looked at.
 use mathlib.Core.Path.{sym, ◌∙◌}
 use lib.Seq.{length-take-le}
-use borrow.Author.Rules.{rules}
 use Rattle.route_lister.proofs.Marking.{not_told}
 use Rattle.route_lister.proofs.marks.stands.Goals as goal
 

@@ -1,7 +1,6 @@
 -- `transfer::heads::head_of` meets its contract: a number is laid behind the other.
 use mathlib.Core.Path.{refl}
 use Rattle.transfer.proofs.Laying.{none_laid, one_more, all_laid}
-use borrow.Author.Rules.{rules}
 use Rattle.transfer.proofs.heads.head_of.Goals as goal
 
 pub returns : goal.returns

@@ -1,6 +1,5 @@
 -- `transfer::pieces::stated_in` meets its contract: its numbers are read one after the other.
 use Rattle.transfer.proofs.Taking.{read_is}
-use borrow.Author.Rules.{rules}
 use Rattle.transfer.proofs.pieces.stated_in.Goals as goal
 
 pub returns : goal.returns

@@ -5,7 +5,6 @@ use native.Mathlib.Omega.{arith}
 use borrow.Author.Tests.{eq-eqb, ne_eqb}
 use lib.Bits.{bit_or}
 use Rattle.x1_lookup.proofs.Ones.{shl_one}
-use borrow.Author.Rules.{rules}
 use Rattle.x1_lookup.proofs.presence.marked.Goals as goal
 
 pub returns-then-number-j : goal.returns-then-number-j

@@ -5,7 +5,6 @@ use native.Mathlib.Nat.{mod-le, lt_of_le_of_lt}
 use lib.Count.{ones, ones-le}
 use lib.Pow.{pow_pos}
 use Rattle.x1_lookup.proofs.Ones.{shl_one, below_bit}
-use borrow.Author.Rules.{rules}
 use Rattle.x1_lookup.proofs.presence.ones_below.Goals as goal
 
 pub overflow_sub-result : goal.overflow_sub-result

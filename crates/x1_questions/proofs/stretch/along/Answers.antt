@@ -2,13 +2,12 @@
 -- limits rounding always answers.
 use Rattle.rounding.proofs.Answers.{never_outside, given_read}
 use Rattle.x1_questions.proofs.Sums.{summed}
-use borrow.Author.Rules.{rules}
 use Rattle.x1_questions.proofs.stretch.along.Goals as goal
 
 pub returns-in_default : goal.returns-in_default
-returns-in_default c = absurd (never_outside c.requires (summed _ _ _ _ c.sum_of-y0.result c.sum_of-y0.ensures) (summed _ _ _ _ c.sum_of-y1.result c.sum_of-y1.ensures) c.coordinate-way.ensures
+returns-in_default c = absurd (never_outside c.requires (summed _ _ _ _ c.sum_of-y0.result c.sum_of-y0.ensures) (summed _ _ _ _ c.sum_of-y1.result c.sum_of-y1.ensures) c.coordinate.ensures
     c.in_default.is)
 
 pub returns : goal.returns
-returns c = given_read c.requires (summed _ _ _ _ c.sum_of-y0.result c.sum_of-y0.ensures) (summed _ _ _ _ c.sum_of-y1.result c.sum_of-y1.ensures) c.coordinate-way.ensures
-    c.in-At.is
+returns c = given_read c.requires (summed _ _ _ _ c.sum_of-y0.result c.sum_of-y0.ensures) (summed _ _ _ _ c.sum_of-y1.result c.sum_of-y1.ensures) c.coordinate.ensures
+    c.in-Some.is

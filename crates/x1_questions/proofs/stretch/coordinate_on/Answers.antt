@@ -8,7 +8,6 @@ use Rattle.octets.proofs.Signs.{read, kept}
 use Rattle.rounding.specs.Nearest.{coordinate_of}
 use Rattle.x1_questions.specs.declared.answers.Coordinate.{Coordinate}
 use Rattle.x1_questions.specs.Stretch.{position_of, latitude_of, longitude_of, coordinate_on}
-use borrow.Author.Rules.{rules}
 use Rattle.x1_questions.proofs.stretch.coordinate_on.Goals as goal
 
 -- both coordinates as the machine reads them back, from the positions that were read

@@ -1,6 +1,5 @@
 -- `x1_records::Point::height` meets its contract.
 use native.Mathlib.Omega.{arith}
-use borrow.Author.Rules.{rules}
 use borrow.Author.Tests.{lt-leb, le-leb}
 use Rattle.x1_records.specs.Tracks.{height_at}
 use Rattle.x1_records.proofs.Reading.{held}

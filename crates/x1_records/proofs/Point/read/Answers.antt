@@ -1,7 +1,6 @@
 -- `x1_records::Point::read` meets its contract.
 use native.Mathlib.Omega.{arith}
 use Rattle.x1_records.proofs.Reading.{held, point_made}
-use borrow.Author.Rules.{rules}
 use Rattle.x1_records.proofs.Point.read.Goals as goal
 
 pub returns : goal.returns

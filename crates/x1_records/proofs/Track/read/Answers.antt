@@ -1,7 +1,6 @@
 -- `x1_records::Track::read` meets its contract.
 use native.Mathlib.Omega.{arith}
 use Rattle.x1_records.proofs.Reading.{held, track_made}
-use borrow.Author.Rules.{rules}
 use Rattle.x1_records.proofs.Track.read.Goals as goal
 
 pub returns : goal.returns

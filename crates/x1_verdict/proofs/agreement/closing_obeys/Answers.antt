@@ -4,7 +4,6 @@ use Rattle.octets.specs.declared.Width.TheVariants.{Four}
 use Rattle.tables.specs.Table.{field_place}
 use Rattle.x1_records.specs.Rows.{start_latitude, start_longitude, end_latitude, end_longitude}
 use Rattle.x1_verdict.proofs.Starts.{start_handed, start_small}
-use borrow.Author.Rules.{rules}
 use Rattle.x1_verdict.proofs.agreement.closing_obeys.Goals as goal
 
 pub sum_equals-north-requires : goal.sum_equals-north-requires

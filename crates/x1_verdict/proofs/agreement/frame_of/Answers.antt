@@ -1,6 +1,5 @@
 -- `x1_verdict::agreement::frame_of` meets its contract.
 use Rattle.x1_verdict.proofs.Starts.{frame_read}
-use borrow.Author.Rules.{rules}
 use Rattle.x1_verdict.proofs.agreement.frame_of.Goals as goal
 
 pub returns : goal.returns

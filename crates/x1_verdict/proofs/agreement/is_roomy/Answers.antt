@@ -4,7 +4,6 @@ use native.Mathlib.Omega.{arith}
 use lib.IntN.{nat_abs}
 use Rattle.octets.proofs.Signs.{kept}
 use Rattle.x1_verdict.proofs.Starts.{both_inside}
-use borrow.Author.Rules.{rules}
 use Rattle.x1_verdict.proofs.agreement.is_roomy.Goals as goal
 
 pub returns : goal.returns

@@ -2,7 +2,6 @@
 use mathlib.Core.Bool.{and-true}
 use lib.Dec.{ltb}
 use Rattle.x1_verdict.proofs.Checks.{later_tested}
-use borrow.Author.Rules.{rules}
 use Rattle.x1_verdict.proofs.agreement.later_obeys.Goals as goal
 
 pub point_obeys-requires : goal.point_obeys-requires

@@ -1,7 +1,6 @@
 -- `x1_verdict::agreement::number_obeys` meets its contract.
 use mathlib.Core.Path.{sym, ◌∙◌}
 use mathlib.Core.Bool.{and-true}
-use borrow.Author.Rules.{rules}
 use Rattle.x1_verdict.proofs.agreement.number_obeys.Goals as goal
 
 pub returns-then-is_first : goal.returns-then-is_first

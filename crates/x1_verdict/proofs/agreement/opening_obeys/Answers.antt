@@ -5,7 +5,6 @@ use mathlib.Core.Bool.{and-true}
 use native.Mathlib.Omega.{arith}
 use Rattle.tables.specs.Table.{field_place}
 use Rattle.x1_records.specs.Rows.{near}
-use borrow.Author.Rules.{rules}
 use Rattle.x1_verdict.proofs.agreement.opening_obeys.Goals as goal
 
 pub returns : goal.returns

@@ -5,7 +5,6 @@ use Rattle.octets.specs.declared.Width.TheVariants.{Four}
 use Rattle.tables.specs.Table.{field_place}
 use Rattle.x1_records.specs.Rows.{start_latitude, start_longitude}
 use Rattle.x1_verdict.proofs.Starts.{start_handed}
-use borrow.Author.Rules.{rules}
 use Rattle.x1_verdict.proofs.agreement.stay_obeys.Goals as goal
 
 pub returns-then-t : goal.returns-then-t

@@ -6,7 +6,6 @@ use Rattle.octets.proofs.Signs.{kept}
 use Rattle.octets.proofs.Sizes.{minus_fits, minus_read}
 use Rattle.tables.specs.Table.{signed_of}
 use Rattle.x1_verdict.specs.Agreement.{field_row}
-use borrow.Author.Rules.{rules}
 use Rattle.x1_verdict.proofs.agreement.sum_equals.Goals as goal
 
 pub overflow_sub-sum_from : goal.overflow_sub-sum_from

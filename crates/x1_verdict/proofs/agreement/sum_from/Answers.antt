@@ -6,7 +6,6 @@ use lib.IntN.{ℤ, ◌+ℤ◌}
 use lib.Signed.{mag}
 use Rattle.octets.proofs.Signs.{half_most}
 use Rattle.octets.proofs.Sizes.{add-fits, add_read, mag_add}
-use borrow.Author.Rules.{rules}
 use Rattle.x1_verdict.proofs.agreement.sum_from.Goals as goal
 
 pub overflow_add-result : goal.overflow_add-result

@@ -5,7 +5,6 @@ use lib.IntN.{ℤ, nat_abs, ◌+ℤ◌}
 use Rattle.octets.proofs.Signs.{kept}
 use Rattle.tables.specs.Table.{signed_of}
 use Rattle.x1_verdict.specs.Agreement.{field_row}
-use borrow.Author.Rules.{rules}
 use Rattle.x1_verdict.proofs.agreement.sum_lies_within.Goals as goal
 
 pub returns : goal.returns

@@ -5,7 +5,6 @@ use lib.IntN.{ℤ, ◌+ℤ◌}
 use Rattle.tables.specs.Table.{signed_of}
 use Rattle.x1_verdict.specs.Agreement.{field_row}
 use Rattle.x1_verdict.proofs.Starts.{start_handed, start_small, sum_handed}
-use borrow.Author.Rules.{rules}
 use Rattle.x1_verdict.proofs.agreement.sum_of.Goals as goal
 
 pub sum_from-requires : goal.sum_from-requires

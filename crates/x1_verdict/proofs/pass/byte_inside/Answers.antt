@@ -1,7 +1,6 @@
 -- `x1_verdict::pass::byte_inside` meets its contract.
 use native.Mathlib.Omega.{arith}
 use Rattle.octets.proofs.Reading.{one}
-use borrow.Author.Rules.{rules}
 use Rattle.x1_verdict.proofs.pass.byte_inside.Goals as goal
 
 pub overflow_cast-result : goal.overflow_cast-result

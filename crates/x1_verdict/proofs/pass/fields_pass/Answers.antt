@@ -1,6 +1,5 @@
 -- `x1_verdict::pass::fields_pass` meets its contract.
 use Rattle.x1_verdict.proofs.Passing.{fields_passed}
-use borrow.Author.Rules.{rules}
 use Rattle.x1_verdict.proofs.pass.fields_pass.Goals as goal
 
 pub returns : goal.returns

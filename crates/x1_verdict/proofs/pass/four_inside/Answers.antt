@@ -4,7 +4,6 @@ use mathlib.Core.Path.{◌≡◌, subst}
 use native.Mathlib.Omega.{arith}
 use Rattle.octets.specs.Octets.{Is}
 use Rattle.octets.proofs.Reading.{more}
-use borrow.Author.Rules.{rules}
 use Rattle.x1_verdict.proofs.pass.four_inside.Goals as goal
 
 pub returns : goal.returns

@@ -1,6 +1,5 @@
 -- `x1_verdict::pass::frame_inside` meets its contract.
 use Rattle.x1_verdict.proofs.Starts.{frame_read}
-use borrow.Author.Rules.{rules}
 use Rattle.x1_verdict.proofs.pass.frame_inside.Goals as goal
 
 pub returns : goal.returns

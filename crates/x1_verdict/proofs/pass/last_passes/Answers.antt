@@ -2,7 +2,6 @@
 use mathlib.Core.Path.{sym}
 use mathlib.Core.Bool.{true≢false}
 use Rattle.x1_verdict.proofs.Passing.{last_passed}
-use borrow.Author.Rules.{rules}
 use Rattle.x1_verdict.proofs.pass.last_passes.Goals as goal
 
 pub returns-then-f-p : goal.returns-then-f-p

@@ -3,13 +3,9 @@
 use Prim.Native.Nat.{ℕ, ◌+◌, ◌-◌}
 use mathlib.Core.Path.{◌≡◌, ◌∙◌, refl, sym, ap}
 use native.Mathlib.Omega.{arith}
-use borrow.Author.Tests.{not-false}
 use Rattle.tables.specs.Table.{value_of}
 use Rattle.x1_records.specs.Rows.{position}
-use Rattle.x1_verdict.specs.inner.Pass.{LaterPassed}
 use Rattle.x1_verdict.proofs.Passing.{roomy_inside, later_start, later_step}
-use borrow.Author.Rules.{rules}
-use mathlib.Core.Bool.{not}
 use Rattle.x1_verdict.proofs.pass.later_pass.Goals as goal
 
 pub roomy_pass-requires : goal.roomy_pass-requires
@@ -43,7 +39,7 @@ loop-p-preserved c = let point = c.later_passes in
     let a = c.args in
     let back : h.p + a.size - a.size ≡ h.p = omega arith in (
       c.number_of-here.ensures.is ∙ ap (λ (n : ℕ). value_of a.f.now n position) (sym back),
-      later_step a.f.now a.size a.e h.p c.requires.1 (omega (arith, c.loop-p-test.true)) (point.ensures (not-false point.result (ap not c.if-not-later_passes.false))) h.invariant.1,
+      later_step a.f.now a.size a.e h.p c.requires.1 (omega (arith, c.loop-p-test.true)) (point.ensures (c.if-not-later_passes.false)) h.invariant.1,
     )
 
 pub returns : goal.returns

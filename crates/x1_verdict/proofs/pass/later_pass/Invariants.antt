@@ -1,15 +1,10 @@
 -- `x1_verdict::pass::later_pass` meets its contract. The invariant: the points after the first one and before p have passed, and `before` is
 -- the position of the point before p.
-use Prim.Native.Nat.{ℕ, ◌+◌, ◌-◌}
-use mathlib.Core.Path.{◌≡◌, ◌∙◌, refl, sym, ap}
-use native.Mathlib.Omega.{arith}
-use borrow.Author.Tests.{not-false}
+use Prim.Native.Nat.{◌-◌}
+use mathlib.Core.Path.{◌≡◌}
 use Rattle.tables.specs.Table.{value_of}
 use Rattle.x1_records.specs.Rows.{position}
 use Rattle.x1_verdict.specs.inner.Pass.{LaterPassed}
-use Rattle.x1_verdict.proofs.Passing.{roomy_inside, later_start, later_step}
-use borrow.Author.Rules.{rules}
-use mathlib.Core.Bool.{not}
 use Rattle.x1_verdict.proofs.pass.later_pass.Given as goal
 
 abbrev pub invariant-loop-p : goal.invariant-loop-p

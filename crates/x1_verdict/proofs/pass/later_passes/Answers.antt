@@ -1,6 +1,5 @@
 -- `x1_verdict::pass::later_passes` meets its contract.
 use Rattle.x1_verdict.proofs.Passing.{later_passed}
-use borrow.Author.Rules.{rules}
 use Rattle.x1_verdict.proofs.pass.later_passes.Goals as goal
 
 pub returns : goal.returns

@@ -2,17 +2,12 @@
 -- passed, and `before` is the position of the point before p.
 use Prim.Native.Nat.{ℕ, ◌+◌, ◌-◌}
 use mathlib.Core.Path.{◌≡◌, ◌∙◌, sym, ap, subst}
-use mathlib.Core.Bool.{◌||◌}
 use native.Mathlib.Omega.{arith}
-use lib.Dec.{leb}
-use borrow.Author.Tests.{not-false}
 use Rattle.tables.specs.Table.{value_of}
 use Rattle.x1_records.specs.Rows.{position}
 use Rattle.x1_verdict.specs.inner.FirstOff.{Later}
 use Rattle.x1_verdict.specs.inner.Pass.{LaterPassed}
 use Rattle.x1_verdict.proofs.Passing.{later_start, later_step, roomy_passed}
-use borrow.Author.Rules.{rules}
-use mathlib.Core.Bool.{not}
 use Rattle.x1_verdict.proofs.pass.roomy_pass.Goals as goal
 
 pub loop-p-init : goal.loop-p-init
@@ -39,7 +34,7 @@ loop-p-preserved c = let near = c.byte_inside in
     let later : Later a.f.now a.size a.e a.t h.p = record { frame = frame; after = omega (arith, frame.first, h.invariant.1.after); before = test.true } in
     let point =
     roomy_passed a.f.now a.size a.e h.p a.t c.requires.0.roomy later h.before here.result h.invariant.0 here.ensures.is c.if-here-before.false
-    heading.result heading.ensures (not-false _ (ap not c.if-not-heading.false)) near.result near.ensures c.if-byte_inside-gt1.false
+    heading.result heading.ensures (c.if-not-heading.false) near.result near.ensures c.if-byte_inside-gt1.false
     in
     let back : h.p + a.size - a.size ≡ h.p = omega arith in (
       here.ensures.is ∙ ap (λ (n : ℕ). value_of a.f.now n position) (sym back),

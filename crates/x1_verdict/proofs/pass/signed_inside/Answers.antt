@@ -7,7 +7,6 @@ use mir.Val.{SFits}
 use mir.Facts.{to_z_pos, to_z-neg}
 use Rattle.octets.specs.declared.Width.TheVariants.{Four}
 use Rattle.octets.proofs.Signs.{read, minus, low, high, of_number}
-use borrow.Author.Rules.{rules}
 use Rattle.x1_verdict.proofs.pass.signed_inside.Goals as goal
 
 pub overflow_sub-result-else-n-half-2 : goal.overflow_sub-result-else-n-half-2

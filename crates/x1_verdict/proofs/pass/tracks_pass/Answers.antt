@@ -1,18 +1,15 @@
 -- `x1_verdict::pass::tracks_pass` meets its contract.
+use mathlib.Core.Path.{subst}
+use native.Mathlib.Nat.{le_refl}
 use native.Mathlib.Omega.{arith}
-use lib.Dec.{leb}
 use borrow.Author.Tests.{leb-true}
-use Rattle.verdict.proofs.Orders.{and-true}
+use Rattle.x1_layout.specs.Layout.{points_at}
+use Rattle.x1_verdict.specs.inner.Pass.{Reached}
 use Rattle.x1_verdict.proofs.Passing.{passing_all}
-use borrow.Author.Rules.{rules}
 use Rattle.x1_verdict.proofs.pass.tracks_pass.Goals as goal
 
-pub returns : goal.returns
-returns c = λ h.
-    let end = c.end_of in
-    let at = c.points_at in
-    let reached = c.tracks_reached-reached in
+pub returns-in-Ok : goal.returns-in-Ok
+returns-in-Ok c = λ h.
     let a = c.args in
-    let both = and-true (leb at.result reached.result.entry) (leb end.result reached.result.due) h in
-    passing_all a.f.now a.size reached.result.entry reached.result.due (omega (arith, leb-true at.result reached.result.entry both.0, c.points_at.ensures.value))
-    (omega (arith, leb-true end.result reached.result.due both.1, end.ensures)) reached.ensures
+    passing_all a.f.now a.size (points_at a.f.now) _ (le_refl (points_at a.f.now)) (omega (arith, leb-true _ _ h, c.end_of.ensures))
+    (subst (Reached a.f.now a.size) c.in-Ok.is c.tracks_reached.ensures)

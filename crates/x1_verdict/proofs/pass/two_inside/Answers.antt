@@ -1,6 +1,5 @@
 -- `x1_verdict::pass::two_inside` meets its contract.
 use Rattle.octets.proofs.Reading.{more}
-use borrow.Author.Rules.{rules}
 use Rattle.x1_verdict.proofs.pass.two_inside.Goals as goal
 
 pub returns : goal.returns

@@ -1,9 +1,44 @@
--- `x2_fields::fields::all_header` meets its contract. Its parts join by a law of Checks.
-use Rattle.verdict.specs.declared.Judged.TheVariants.{Accepted}
-use Rattle.x2_fields.proofs.Checks.{header_judged}
-use borrow.Author.Rules.{rules}
+-- `x2_fields::fields::all_header` meets its contract: the facts of its parts, one after the other.
+use Rattle.std.proofs.lemmas.Result.{err_from_is_err_and}
+use Rattle.verdict.proofs.Facts.{stops, goes_on}
+use Rattle.x2_fields.specs.inner.Header.{header_facts}
 use Rattle.x2_fields.proofs.fields.all_header.Goals as goal
 
+pub returns-in_err-header_fields : goal.returns-in_err-header_fields
+unfolding header_facts
+returns-in_err-header_fields c = let p = err_from_is_err_and c.from_residual.result c.from_residual.ensures.1 in
+    rw (p.1, p.2)
+    (stops _ _ _ _ c.header_fields.ensures c.in_err-header_fields.was)
+
+pub returns-in_err-entries_fields : goal.returns-in_err-entries_fields
+unfolding header_facts
+returns-in_err-entries_fields c = let p = err_from_is_err_and c.from_residual-in_err-entries_fields.result c.from_residual-in_err-entries_fields.ensures.1 in
+    rw (p.1, p.2)
+    (goes_on _ _ _ _ c.header_fields.ensures c.in_ok-header_fields.was
+    (stops _ _ _ _ c.entries_fields.ensures c.in_err-entries_fields.was))
+
+pub returns-in_err-entries_fields-2 : goal.returns-in_err-entries_fields-2
+unfolding header_facts
+returns-in_err-entries_fields-2 c = let p = err_from_is_err_and c.from_residual-in_err-entries_fields-2.result c.from_residual-in_err-entries_fields-2.ensures.1 in
+    rw (p.1, p.2)
+    (goes_on _ _ _ _ c.header_fields.ensures c.in_ok-header_fields.was
+    (goes_on _ _ _ _ c.entries_fields.ensures c.in_ok-entries_fields.was
+    (stops _ _ _ _ c.entries_fields-2.ensures c.in_err-entries_fields-2.was)))
+
+pub returns-in_err-entries_agree : goal.returns-in_err-entries_agree
+unfolding header_facts
+returns-in_err-entries_agree c = let p = err_from_is_err_and c.from_residual-in_err-entries_agree.result c.from_residual-in_err-entries_agree.ensures.1 in
+    rw (p.1, p.2)
+    (goes_on _ _ _ _ c.header_fields.ensures c.in_ok-header_fields.was
+    (goes_on _ _ _ _ c.entries_fields.ensures c.in_ok-entries_fields.was
+    (goes_on _ _ _ _ c.entries_fields-2.ensures c.in_ok-entries_fields-2.was
+    (stops _ _ _ _ c.entries_agree.ensures c.in_err-entries_agree.was))))
+
 pub returns : goal.returns
-returns c = let a = c.args in
-    header_judged a.f.now Accepted _ _ a.l _ _ _ c.header_fields-w.ensures c.entries_fields-w.ensures c.entries_fields-w-2.ensures c.entries_agree-w.ensures c.entries_agree.ensures
+unfolding header_facts
+returns c =
+    (goes_on _ _ _ _ c.header_fields.ensures c.in_ok-header_fields.was
+    (goes_on _ _ _ _ c.entries_fields.ensures c.in_ok-entries_fields.was
+    (goes_on _ _ _ _ c.entries_fields-2.ensures c.in_ok-entries_fields-2.was
+    (goes_on _ _ _ _ c.entries_agree.ensures c.in_ok-entries_agree.was
+    c.entries_agree-2.ensures))))

@@ -1,11 +1,6 @@
 -- `x2_layout::balises::past_plain` meets its contract. The invariant: the balises before `at` obey.
-use Prim.Native.Nat.{◌-◌, ◌<◌}
 use native.Mathlib.Omega.{arith}
-use borrow.Author.Tests.{eqb-true}
-use Rattle.x2_layout.specs.inner.Bounds.{slice_over}
-use Rattle.x2_layout.specs.inner.Sizes.{Passed}
 use Rattle.x2_layout.proofs.Sizes.{passed_plain}
-use borrow.Author.Rules.{rules}
 use Rattle.x2_layout.proofs.balises.past_plain.Goals as goal
 
 pub loop-at-preserved : goal.loop-at-preserved

@@ -1,15 +1,35 @@
--- `x2_layout::faults::check_layout` meets its contract. Where the tests pass, no fact fails; else its parts join by a law of Checks.
-use Rattle.verdict.proofs.Facts.{tests_passed}
+-- `x2_layout::faults::check_layout` meets its contract. Its parts join one after the other.
+use Rattle.verdict.proofs.Facts.{stops, goes_on}
 use Rattle.x2_layout.specs.Facts.{layout_facts}
-use Rattle.x2_layout.proofs.Checks.{layout_judged}
-use borrow.Author.Rules.{rules}
+use Rattle.std.proofs.lemmas.Result.{err_from_is_err_and}
 use Rattle.x2_layout.proofs.faults.check_layout.Goals as goal
 
-pub returns-then-layout_obeys : goal.returns-then-layout_obeys
-returns-then-layout_obeys c = let a = c.args in
-    tests_passed a.v c.layout_obeys.result (layout_facts a.f.now a.l) c.layout_obeys.ensures c.if-layout_obeys.true
+pub returns-in_err-counts_layout : goal.returns-in_err-counts_layout
+unfolding layout_facts
+returns-in_err-counts_layout c =
+    let p = err_from_is_err_and c.from_residual.result c.from_residual.ensures.1 in
+    rw (p.1, p.2)
+    (stops _ _ _ _ c.counts_layout.ensures c.in_err-counts_layout.was)
+
+pub returns-in_err-offsets_layout : goal.returns-in_err-offsets_layout
+unfolding layout_facts
+returns-in_err-offsets_layout c =
+    let p = err_from_is_err_and c.from_residual-in_err-offsets_layout.result c.from_residual-in_err-offsets_layout.ensures.1 in
+    rw (p.1, p.2)
+    (goes_on _ _ _ _ c.counts_layout.ensures c.in_ok-counts_layout.was
+    (stops _ _ _ _ c.offsets_layout.ensures c.in_err-offsets_layout.was))
+
+pub returns-in_err-offsets_layout-2 : goal.returns-in_err-offsets_layout-2
+unfolding layout_facts
+returns-in_err-offsets_layout-2 c =
+    let p = err_from_is_err_and c.from_residual-in_err-offsets_layout-2.result c.from_residual-in_err-offsets_layout-2.ensures.1 in
+    rw (p.1, p.2)
+    (goes_on _ _ _ _ c.counts_layout.ensures c.in_ok-counts_layout.was
+    (goes_on _ _ _ _ c.offsets_layout.ensures c.in_ok-offsets_layout.was (stops _ _ _ _ c.offsets_layout-2.ensures c.in_err-offsets_layout-2.was)))
 
 pub returns : goal.returns
-returns c = let a = c.args in
-    layout_judged a.f.now a.l a.v _ _ _ _ c.counts_layout-w.ensures c.offsets_layout-w.ensures c.offsets_layout-w-2.ensures
-    (simp (c.check_groups.ensures, c.yard_offsets-o.ensures.value))
+unfolding layout_facts
+returns c =
+    goes_on _ _ _ _ c.counts_layout.ensures c.in_ok-counts_layout.was
+    (goes_on _ _ _ _ c.offsets_layout.ensures c.in_ok-offsets_layout.was
+    (goes_on _ _ _ _ c.offsets_layout-2.ensures c.in_ok-offsets_layout-2.was (simp (c.check_groups.ensures, c.yard_offsets-o.ensures.value))))

@@ -1,27 +1,30 @@
--- `x2_layout::faults::offsets_layout` meets its contract. The invariant: the verdict so far, then the facts of the entries from i on, is the
--- verdict before the loop and then the facts of all entries.
-use Prim.Native.Nat.{◌-◌}
-use mathlib.Core.Path.{◌≡◌, ◌∙◌, refl, sym}
-use mathlib.Core.List.{flat_map}
+-- `x2_layout::faults::offsets_layout` meets its contract. The invariant: the facts of the entries from i on have the first fault of all
+-- entries.
+use mathlib.Core.Path.{◌∙◌, refl, sym}
 use native.Mathlib.Omega.{arith}
-use Rattle.verdict.specs.Facts.{judge}
-use Rattle.verdict.specs.Walk.{starts_from}
-use Rattle.verdict.proofs.Checks.{judge_step, judge_stop}
+use Rattle.verdict.proofs.Checks.{first_stop, checked_over, refused_here}
 use Rattle.x2_layout.specs.Facts.{indexes, offset_layout, offsets_layout}
-use borrow.Author.Rules.{rules}
+use Rattle.std.proofs.lemmas.Result.{err_from_is_err_and}
 use Rattle.x2_layout.proofs.faults.offsets_layout.Goals as goal
 
 pub loop-i-init : goal.loop-i-init
 unfolding offsets_layout indexes
 loop-i-init c = refl
 
+pub returns-in_err-is_number : goal.returns-in_err-is_number
+returns-in_err-is_number c = let a = c.args in
+    let p = err_from_is_err_and c.from_residual.result c.from_residual.ensures.1 in
+    rw (p.1, p.2)
+    (refused_here (λ _. 1) a.count (offset_layout a.f.now a.entries a.due) (λ x. omega arith) c.loop-i.i _ c.loop-i-test.true
+    (simp (c.is_number.ensures, c.place_of-place.ensures)) c.in_err-is_number.was
+    ∙ c.loop-i.invariant)
+
 pub loop-i-preserved : goal.loop-i-preserved
 loop-i-preserved c = let a = c.args in
-    let h = c.loop-i in
-    judge_step (λ _. 1) a.count (offset_layout a.f.now a.entries a.due) (λ x. omega arith) h.w _ h.i _ (omega arith)
-    (simp (c.is_number-w.ensures, c.place_of-place.ensures)) refl
-    ∙ h.invariant
+    checked_over (λ _. 1) a.count (offset_layout a.f.now a.entries a.due) (λ x. omega arith) c.loop-i.i _ c.loop-i-test.true
+    (simp (c.is_number.ensures, c.place_of-place.ensures)) _ c.in_ok-is_number.was refl
+    ∙ c.loop-i.invariant
 
 pub returns : goal.returns
 returns c = let a = c.args in
-    sym (judge_stop (λ _. 1) a.count (offset_layout a.f.now a.entries a.due) _ _ (omega arith)) ∙ c.loop-i.invariant
+    sym (first_stop (λ _. 1) a.count (offset_layout a.f.now a.entries a.due) _ (omega arith)) ∙ c.loop-i.invariant

@@ -1,8 +1,6 @@
 -- `x2_layout::groups::next_group` meets its contract. The invariant: the next nonzero offset from j on, and its field, are those from i on.
-use Prim.Native.Nat.{◌-◌}
-use mathlib.Core.Path.{◌≡◌, ◌∙◌, refl}
+use mathlib.Core.Path.{◌∙◌, refl}
 use native.Mathlib.Omega.{arith}
-use Rattle.x2_layout.specs.Groups.{groups_from, next_start, next_field}
 use Rattle.x2_layout.proofs.Loops.{next-none, next-empty, next_there, field-none, field_empty, field-there}
 use borrow.Author.Rules.{rules}
 use Rattle.x2_layout.proofs.groups.next_group.Goals as goal

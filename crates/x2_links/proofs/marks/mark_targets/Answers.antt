@@ -1,9 +1,7 @@
 -- `x2_links::marks::mark_targets` meets its contract.
-use Prim.Native.Nat.{◌+◌, ◌-◌}
+use Prim.Native.Nat.{◌+◌}
 use native.Mathlib.Omega.{arith}
-use Rattle.x2_links.specs.inner.Marks.{Marking}
 use Rattle.x2_links.proofs.Marking.{marking_none, marking_step, marking_all}
-use borrow.Author.Rules.{rules}
 use Rattle.x2_links.proofs.marks.mark_targets.Goals as goal
 
 pub loop-at-init : goal.loop-at-init

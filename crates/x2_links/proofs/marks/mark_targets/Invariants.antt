@@ -1,9 +1,6 @@
 -- `x2_links::marks::mark_targets` meets its contract.
-use Prim.Native.Nat.{◌+◌, ◌-◌}
-use native.Mathlib.Omega.{arith}
+use Prim.Native.Nat.{◌-◌}
 use Rattle.x2_links.specs.inner.Marks.{Marking}
-use Rattle.x2_links.proofs.Marking.{marking_none, marking_step, marking_all}
-use borrow.Author.Rules.{rules}
 use Rattle.x2_links.proofs.marks.mark_targets.Given as goal
 
 abbrev pub invariant-loop-at : goal.invariant-loop-at

@@ -1,8 +1,6 @@
 -- `x2_links::named::may_name` meets its contract. The loop's invariant: what is found from the record at `at` on is what is found at all.
-use Prim.Native.Nat.{◌-◌}
 use mathlib.Core.Path.{◌≡◌, sym, ◌∙◌}
 use native.Mathlib.Omega.{arith}
-use borrow.Author.Rules.{rules}
 use Rattle.verdict.specs.Facts.{test}
 use Rattle.x2_layout.specs.Records.{kind_at}
 use Rattle.x2_links.specs.Links.{linkable, is_target}

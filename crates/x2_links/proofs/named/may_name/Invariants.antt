@@ -1,12 +1,9 @@
 -- `x2_links::named::may_name` meets its contract. The loop's invariant: what is found from the record at `at` on is what is found at all.
 use Prim.Native.Nat.{◌-◌}
-use mathlib.Core.Path.{◌≡◌, sym, ◌∙◌}
-use native.Mathlib.Omega.{arith}
-use borrow.Author.Rules.{rules}
+use mathlib.Core.Path.{◌≡◌}
 use Rattle.verdict.specs.Facts.{test}
-use Rattle.x2_layout.specs.Records.{kind_at}
-use Rattle.x2_links.specs.Links.{linkable, is_target}
-use Rattle.x2_links.proofs.Seeking.{found_from, found_first, found_next, found_here, found_past, found_end, too_high, answered}
+use Rattle.x2_links.specs.Links.{is_target}
+use Rattle.x2_links.proofs.Seeking.{found_from}
 use Rattle.x2_links.proofs.named.may_name.Given as goal
 
 abbrev pub invariant-loop-at : goal.invariant-loop-at

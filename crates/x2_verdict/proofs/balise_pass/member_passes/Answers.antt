@@ -1,26 +1,9 @@
 -- `x2_verdict::balise_pass::member_passes` meets its contract: each part of the two group bytes in turn.
 use mathlib.Core.Path.{◌∙◌, sym}
-use mathlib.Core.Bool.{true≢false}
 use borrow.Author.Tests.{ltb-true}
 use native.Mathlib.Omega.{arith}
 use Rattle.x2_verdict.proofs.Balises.{member_right}
-use borrow.Author.Rules.{rules}
 use Rattle.x2_verdict.proofs.balise_pass.member_passes.Goals as goal
-
-pub returns-then-before-from : goal.returns-then-before-from
-returns-then-before-from c = λ e. absurd (true≢false (sym e))
-
-pub returns-then-at-before : goal.returns-then-at-before
-returns-then-at-before c = λ e. absurd (true≢false (sym e))
-
-pub returns-then-bits_of-ne0 : goal.returns-then-bits_of-ne0
-returns-then-bits_of-ne0 c = λ e. absurd (true≢false (sym e))
-
-pub returns-then-count_of-rank_of : goal.returns-then-count_of-rank_of
-returns-then-count_of-rank_of c = λ e. absurd (true≢false (sym e))
-
-pub returns-then-count_of : goal.returns-then-count_of
-returns-then-count_of c = λ e. absurd (true≢false (sym e))
 
 pub returns : goal.returns
 returns c = λ e.

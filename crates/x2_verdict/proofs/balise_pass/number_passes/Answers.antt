@@ -4,7 +4,6 @@ use mathlib.Core.Path.{◌∙◌}
 use borrow.Author.Tests.{not-true, eqb-false}
 use native.Mathlib.Omega.{arith}
 use Rattle.x2_verdict.proofs.Balises.{three_below}
-use borrow.Author.Rules.{rules}
 use Rattle.x2_verdict.proofs.balise_pass.number_passes.Goals as goal
 
 pub returns-then-byte_of-ne-NONE_BYTE : goal.returns-then-byte_of-ne-NONE_BYTE

@@ -1,33 +1,16 @@
 -- `x2_verdict::first_pass::balises_obey` meets its contract. The invariant: the records before `at` are passed over, and `at` lies among
 -- the balises, or where they end. They all lie inside the file.
-use Prim.Native.Nat.{ℕ, ◌-◌, ◌≤◌, ◌<◌}
-use mathlib.Core.Path.{sym, subst}
-use mathlib.Core.Bool.{true≢false}
+use Prim.Native.Nat.{ℕ, ◌<◌}
+use mathlib.Core.Path.{subst}
 use native.Mathlib.Omega.{arith}
 use native.Mathlib.Nat.{le_refl}
-use borrow.Author.Tests.{eqb-true, not-false}
 use Rattle.x2_kinds.proofs.Checks.{no_message_tested}
 use Rattle.x2_verdict.specs.inner.Passes.{Passing}
-use Rattle.x2_verdict.proofs.Balises.{plain_size, whole_size, message_right, balise_over, Carried}
-use borrow.Author.Rules.{rules}
-use mathlib.Core.Path.{ap}
-use mathlib.Core.Bool.{not}
+use Rattle.x2_verdict.proofs.Balises.{plain_size, whole_size, message_right, balise_over}
 use Rattle.x2_verdict.proofs.first_pass.balises_obey.Goals as goal
-
-pub returns-then-f-until : goal.returns-then-f-until
-returns-then-f-until c = λ e. absurd (true≢false (sym e))
-
-pub returns-then-until-lt-SIZE : goal.returns-then-until-lt-SIZE
-returns-then-until-lt-SIZE c = λ e. absurd (true≢false (sym e))
 
 pub loop-at-init : goal.loop-at-init
 loop-at-init c = (λ l b s p. p, omega arith, omega (arith, c.requires.1.order))
-
-pub returns-then-not-fixed_passes : goal.returns-then-not-fixed_passes
-returns-then-not-fixed_passes c = λ e. absurd (true≢false (sym e))
-
-pub returns-then-not-group_passes : goal.returns-then-not-group_passes
-returns-then-not-group_passes c = λ e. absurd (true≢false (sym e))
 
 pub mark_lead-requires : goal.mark_lead-requires
 mark_lead-requires c = (omega (arith, c.loop-at.invariant.2, c.requires.1.inside, c.requires.0.end), (c.loop-at.invariant.0 _ c.requires.0 c.requires.1 c.requires.2).marked.blank _ (le_refl _))
@@ -44,8 +27,8 @@ loop-at-preserved-then-size-le-SIZE c = let a = c.args in
     let below : c.loop-at.at < a.until = omega (arith, turn) in (
       λ l b r p.
           balise_over r b.end c.loop-at.invariant.1 below (c.loop-at.invariant.0 l b r p)
-          (c.fixed_passes.ensures (not-false _ (ap not c.if-not-fixed_passes.false)))
-          (c.group_passes.ensures (not-false _ (ap not c.if-not-group_passes.false)))
+          (c.fixed_passes.ensures c.if-not-fixed_passes.false)
+          (c.group_passes.ensures c.if-not-group_passes.false)
           c.leads.ensures c.mark_lead.ensures
           (no_message_tested a.f.now c.loop-at.at c.byte_of-size.result c.byte_of-size.ensures.is c.if-size-le-SIZE.true)
           (plain_size a.f.now c.loop-at.at c.byte_of-size.result c.byte_of-size.ensures.is c.if-size-le-SIZE.true),
@@ -53,18 +36,15 @@ loop-at-preserved-then-size-le-SIZE c = let a = c.args in
       omega (arith, turn),
     )
 
-pub returns-then-not-message_passes : goal.returns-then-not-message_passes
-returns-then-not-message_passes c = λ e. absurd (true≢false (sym e))
-
 pub loop-at-preserved : goal.loop-at-preserved
 loop-at-preserved c = let a = c.args in
     let turn = c.loop-at-test.true in
     let below : c.loop-at.at < a.until = omega (arith, turn) in
-    let ends = c.message_passes.ensures (not-false _ (ap not c.if-not-message_passes.false)) in (
+    let ends = c.message_passes.ensures c.if-not-message_passes.false in (
       λ l b r p.
           balise_over r b.end c.loop-at.invariant.1 below (c.loop-at.invariant.0 l b r p)
-          (c.fixed_passes.ensures (not-false _ (ap not c.if-not-fixed_passes.false)))
-          (c.group_passes.ensures (not-false _ (ap not c.if-not-group_passes.false)))
+          (c.fixed_passes.ensures c.if-not-fixed_passes.false)
+          (c.group_passes.ensures c.if-not-group_passes.false)
           c.leads.ensures c.mark_lead.ensures
           (message_right a.f.now c.loop-at.at c.byte_of-size.result c.byte_of-size.ensures.is a.until c.if-size-le-SIZE.false ends)
           (whole_size a.f.now c.loop-at.at c.byte_of-size.result c.byte_of-size.ensures.is c.if-size-le-SIZE.false c.byte_of-size.ensures.below),
@@ -73,7 +53,5 @@ loop-at-preserved c = let a = c.args in
     )
 
 pub returns : goal.returns
-returns c = λ e.
-    let a = c.args in
-    subst (λ (x : ℕ). Passing a.f.now a.l c.loop-at.marks c.loop-at.last x) (eqb-true c.loop-at.at a.until e)
-    (c.loop-at.invariant.0 _ c.requires.0 c.requires.1 c.requires.2)
+returns c = let a = c.args in
+    subst (λ (x : ℕ). Passing a.f.now a.l c.loop-at.marks c.loop-at.last x) c.if-at-until.false (c.loop-at.invariant.0 _ c.requires.0 c.requires.1 c.requires.2)

@@ -1,6 +1,5 @@
 -- `x2_verdict::kind_passes::is_position` meets its contract.
 use Rattle.x2_verdict.proofs.SingleBytes.{position_tested}
-use borrow.Author.Rules.{rules}
 use Rattle.x2_verdict.proofs.kind_passes.is_position.Goals as goal
 
 pub returns : goal.returns

@@ -1,10 +1,6 @@
 -- `x2_verdict::starts::starts_balise` meets its contract. The invariant: what is found from here on is what is found from the first balise on.
-use Prim.Native.Nat.{◌-◌}
-use mathlib.Core.Path.{◌≡◌, ◌∙◌, refl}
+use mathlib.Core.Path.{◌∙◌, refl}
 use native.Mathlib.Omega.{arith}
-use borrow.Author.Rules.{rules}
-use Rattle.verdict.specs.Facts.{test}
-use Rattle.x2_verdict.specs.inner.Starts.{balise_starts}
 use Rattle.x2_verdict.proofs.Found.{seek_step, seek_stop}
 use Rattle.x2_verdict.proofs.starts.starts_balise.Goals as goal
 

@@ -1,11 +1,8 @@
 -- `x2_verdict::starts::starts_balise` meets its contract. The invariant: what is found from here on is what is found from the first balise on.
 use Prim.Native.Nat.{◌-◌}
-use mathlib.Core.Path.{◌≡◌, ◌∙◌, refl}
-use native.Mathlib.Omega.{arith}
-use borrow.Author.Rules.{rules}
+use mathlib.Core.Path.{◌≡◌}
 use Rattle.verdict.specs.Facts.{test}
 use Rattle.x2_verdict.specs.inner.Starts.{balise_starts}
-use Rattle.x2_verdict.proofs.Found.{seek_step, seek_stop}
 use Rattle.x2_verdict.proofs.starts.starts_balise.Given as goal
 
 abbrev pub invariant-loop-at : goal.invariant-loop-at

@@ -3,7 +3,6 @@ use mathlib.Core.Path.{◌∙◌}
 use native.Mathlib.Omega.{arith}
 use Rattle.x2_layout.proofs.Starts.{found_boundary}
 use Rattle.x2_verdict.proofs.Found.{found_low, found_turnout, found_balise, found_signal, found_joint, found_siding, found_high}
-use borrow.Author.Rules.{rules}
 use Rattle.x2_verdict.proofs.starts.starts_record.Goals as goal
 
 pub returns-then-x-l : goal.returns-then-x-l

@@ -1,6 +1,5 @@
 -- `x1_lookup::presence::Presence::entry` meets its contract.
 use Rattle.x1_lookup.proofs.Present.{not_there, in_words, there}
-use borrow.Author.Rules.{rules}
 use Rattle.x1_lookup.proofs.presence.Presence.entry.Goals as goal
 
 pub returns-then-word-k-eq0 : goal.returns-then-word-k-eq0

@@ -1,15 +1,10 @@
 -- `x1_lookup::presence::Presence::of` meets its contract. The invariant: the words so far, with the numbers of the entries from e on, are
 -- the words of the file.
-use Prim.Native.Nat.{◌-◌}
-use mathlib.Core.Path.{◌≡◌, ◌∙◌}
+use Prim.Native.Nat.{◌+◌}
+use mathlib.Core.Path.{◌∙◌}
 use native.Mathlib.Omega.{arith}
-use Rattle.verdict.specs.Walk.{starts_from}
 use Rattle.x1_records.specs.Places.{entry_size}
-use Rattle.x1_layout.specs.Layout.{points_at, entries}
-use Rattle.x1_lookup.specs.Presence.{with_all, presence_of}
-use Rattle.x1_lookup.specs.declared.presence.Presence.{Presence}
 use Rattle.x1_lookup.proofs.Present.{all_start, all_next, all-stop}
-use borrow.Author.Rules.{rules}
 use Rattle.x1_lookup.proofs.presence.Presence.of.Goals as goal
 
 pub loop-e-init : goal.loop-e-init
@@ -26,3 +21,12 @@ returns c = let h = c.loop-e in
     let a = c.args in
     let from = c.points_at-stop.ensures.value in
     all-stop a.f.now h.words h.e (omega arith) ∙ h.invariant
+
+-- after the last entry
+pub returns-2 : goal.returns-2
+returns-2 c = let h = c.loop-e in
+    let a = c.args in
+    let from = c.points_at-stop.ensures.value in
+    all-stop a.f.now c.with-words.result (h.e + entry_size) (omega arith)
+    ∙ all_next a.f.now h.words h.e (omega arith) c.with-words.result _ c.number_of.ensures.is c.with-words.ensures
+    ∙ h.invariant

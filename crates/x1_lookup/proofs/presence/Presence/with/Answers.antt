@@ -1,5 +1,4 @@
 -- `x1_lookup::presence::Presence::with` meets its contract.
-use borrow.Author.Rules.{rules}
 use Rattle.x1_lookup.proofs.presence.Presence.with.Goals as goal
 
 pub returns : goal.returns

@@ -1,7 +1,0 @@
--- `names::count_at` meets its contract: the bytes that were taken out are those of the file, with 0 past its end.
-use Rattle.names.proofs.Spelling.{cut_count}
-use borrow.Author.Rules.{rules}
-use Rattle.names.proofs.count_at.Goals as goal
-
-pub returns-then-inside-lt-OBJECT_BYTES : goal.returns-then-inside-lt-OBJECT_BYTES
-returns-then-inside-lt-OBJECT_BYTES c = cut_count _ _ _ _ c.cut_field-field.ensures c.spelt.ensures

@@ -1,6 +1,0 @@
--- `rules::between` meets its contract.
-use borrow.Author.Rules.{rules}
-use Rattle.rules.proofs.between.Goals as goal
-
-pub returns : goal.returns
-returns c = simp (c.also_fact.ensures, c.bytes-width.ensures, c.num_at-n.ensures.is)

@@ -1,6 +1,0 @@
--- `x2_kinds::joint_fields` meets its contract: the facts of each rule in turn.
-use borrow.Author.Rules.{rules}
-use Rattle.x2_kinds.proofs.joint_fields.Goals as goal
-
-pub returns : goal.returns
-returns c = simp (c.between.ensures, c.between-w.ensures, c.named-w.ensures, c.exactly-w.ensures)
