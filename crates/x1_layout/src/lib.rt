@@ -4,13 +4,13 @@
 ghost use Rattle.std.specs.Prelude.{◌≡◌, ◌+◌, ◌-◌, ◌≤◌};
 ghost use mathlib.Core.List.{[], ◌∷◌, flat_map};
 ghost use Rattle.octets.specs.Octets.{bytes_of};
-ghost use Rattle.verdict.specs.Facts.{first_fault};
+ghost use Rattle.verdict.specs.Facts.{all_tests, first_fault};
 ghost use Rattle.rules.specs.Rules.{fits};
 ghost use Rattle.x1_records.specs.Places.{entry_size};
 ghost use Rattle.x1_layout.specs.Layout.{size_of, points_at, points_most, is_first, stop_before, due_at, spread, entry_layout, entries, layout_facts};
 
 use envelope::{HEADER, end_of, structure_of};
-use rules::{ends_at, fits, whole};
+use rules::{ends_at, fits, rest, whole};
 use tables::{Field, number_between, number_is, number_of, place_of};
 use verdict::{Mark, Reason};
 use x1_records::{COUNT, ENTRIES, Track, point_size};
@@ -88,6 +88,20 @@ fn spreads(f: &[u8], size: u8, e: u32) -> Result<(), Mark>
 }
 
 // The offsets of the entry at e are what the layout asks.
+fn offsets_obey(f: &[u8], size: u8, e: u32) -> bool
+    ensures { result ≡ all_tests (entry_layout f.now size e) }
+{
+    let first = number_of(f, e, Track::FIRST);
+    let last = number_of(f, e, Track::LAST);
+    let step = size as usize;
+    let due = first == due_at(f, size, e);
+    let above = first + step <= last;
+    let apart = rest(last.saturating_sub(first), step) == 0;
+    let inside = last + step <= end_of(f);
+    due & (above & (apart & inside))
+}
+
+// The same, as facts.
 fn entry_layout(f: &[u8], size: u8, e: u32) -> Result<(), Mark>
     ensures { result ≡ first_fault (entry_layout f.now size e) }
 {
@@ -97,13 +111,15 @@ fn entry_layout(f: &[u8], size: u8, e: u32) -> Result<(), Mark>
     ends_by(e, Track::LAST, last + size as usize, end_of(f))
 }
 
-// The offsets of every entry.
+// The offsets of every entry: those of the first entry that does not obey are the verdict.
 fn entries_layout(f: &[u8], size: u8) -> Result<(), Mark>
     ensures { result ≡ first_fault (flat_map (entry_layout f.now size) (entries f.now)) }
 {
     let points = points_at(f);
     for e in (ENTRIES..points).step_by(Track::SIZE as usize) {
-        entry_layout(f, size, e)?;
+        if !offsets_obey(f, size, e) {
+            return entry_layout(f, size, e);
+        }
     }
     Ok(())
 }

@@ -10,7 +10,7 @@ ghost use Rattle.x2_fields.specs.inner.Header.{header_facts};
 use crate::agreement::entries_agree;
 use crate::header::{entries_fields, header_fields};
 use verdict::Mark;
-use x2_kinds::kind_fields;
+use x2_kinds::{kind_fields, kind_obeys};
 use x2_layout::{ENTRY_SIZE, Layout, START_ENTRIES, is_bounded, kind_at, size_of};
 
 // The fields of every record: the facts of the first that does not obey are the verdict.
@@ -23,7 +23,9 @@ fn records_fields(f: &[u8], l: Layout) -> Result<(), Mark>
     // Stays (3): each record says where the next one starts; an iterator of them would hold the same lines, and one more to make it.
     while at < end {
         let k = kind_at(l, at);
-        kind_fields(f, k, at as u32)?;
+        if !kind_obeys(f, k, at as u32) {
+            return kind_fields(f, k, at as u32);
+        }
         at = at + size_of(f, k, at);
     }
     Ok(())

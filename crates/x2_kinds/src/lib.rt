@@ -64,7 +64,7 @@ fn boundary_obeys(f: &[u8], at: u32, low: usize, high: usize) -> bool
 }
 
 // The same, as facts.
-// Stays (2): the verdict's pass asks the test, which takes a quarter fewer instructions than the facts.
+// Stays (2): the walk over the records asks the test first, which is quicker than the facts; the verdict's pass over boundaries asks it alone.
 fn boundary_fields(f: &[u8], at: u32, low: usize, high: usize) -> Result<(), Mark>
     ensures { result ≡ first_fault (table_facts f.now at (boundary_table low high)) }
 {
@@ -105,7 +105,7 @@ fn turnout_obeys(f: &[u8], at: u32) -> bool
 }
 
 // The same, as facts.
-// Stays (2): the verdict's pass asks the test, which takes a quarter fewer instructions than the facts.
+// Stays (2): the walk over the records asks the test first, which is quicker than the facts, and the facts only where it fails.
 fn turnout_fields(f: &[u8], at: u32) -> Result<(), Mark>
     ensures { result ≡ first_fault (table_facts f.now at turnout_table) }
 {
@@ -146,7 +146,7 @@ fn fixed_obeys(f: &[u8], at: u32) -> bool
 }
 
 // The same, as facts.
-// Stays (2): the verdict's pass asks the test, which takes a quarter fewer instructions than the facts.
+// Stays (2): the walk over the records asks the test first, which is quicker than the facts, and the facts only where it fails.
 fn fixed_fields(f: &[u8], at: u32) -> Result<(), Mark>
     ensures { result ≡ first_fault (table_facts f.now at balise_table) }
 {
@@ -181,7 +181,7 @@ fn message_obeys(f: &[u8], at: u32) -> bool
 }
 
 // The same, as facts.
-// Stays (2): the verdict's pass asks the test, which takes a quarter fewer instructions than the facts.
+// Stays (2): the walk over the records asks the test first, which is quicker than the facts, and the facts only where it fails.
 #[tactic(auto, using(crate::proofs::Checks::no_message, crate::proofs::Checks::message_judged))]
 fn message_fields(f: &[u8], at: u32) -> Result<(), Mark>
     ensures { result ≡ first_fault (message_fields f.now at) }
@@ -210,7 +210,7 @@ pub fn balise_obeys(f: &[u8], at: u32) -> bool
 }
 
 // The same, as facts.
-// Stays (2): the verdict's pass asks the test, which takes a quarter fewer instructions than the facts.
+// Stays (2): the walk over the records asks the test first, which is quicker than the facts, and the facts only where it fails.
 fn balise_fields(f: &[u8], at: u32) -> Result<(), Mark>
     ensures { result ≡ first_fault (table_facts f.now at balise_table ++ message_fields f.now at) }
 {
@@ -237,7 +237,7 @@ fn signal_obeys(f: &[u8], at: u32) -> bool
 }
 
 // The same, as facts.
-// Stays (2): the verdict's pass asks the test, which takes a quarter fewer instructions than the facts.
+// Stays (2): the walk over the records asks the test first, which is quicker than the facts, and the facts only where it fails.
 fn signal_fields(f: &[u8], at: u32) -> Result<(), Mark>
     ensures { result ≡ first_fault (table_facts f.now at signal_table) }
 {
@@ -266,7 +266,7 @@ fn joint_obeys(f: &[u8], at: u32) -> bool
 }
 
 // The same, as facts.
-// Stays (2): the verdict's pass asks the test, which takes a quarter fewer instructions than the facts.
+// Stays (2): the walk over the records asks the test first, which is quicker than the facts, and the facts only where it fails.
 fn joint_fields(f: &[u8], at: u32) -> Result<(), Mark>
     ensures { result ≡ first_fault (table_facts f.now at joint_table) }
 {
@@ -293,7 +293,7 @@ fn siding_obeys(f: &[u8], at: u32) -> bool
 }
 
 // The same, as facts.
-// Stays (2): the verdict's pass asks the test, which takes a quarter fewer instructions than the facts.
+// Stays (2): the walk over the records asks the test first, which is quicker than the facts, and the facts only where it fails.
 fn siding_fields(f: &[u8], at: u32) -> Result<(), Mark>
     ensures { result ≡ first_fault (table_facts f.now at siding_table) }
 {
@@ -321,7 +321,7 @@ pub fn kind_obeys(f: &[u8], k: Kind, at: u32) -> bool
 }
 
 // The same, as facts.
-// Stays (2): the verdict's pass asks the test, which takes a quarter fewer instructions than the facts.
+// Stays (2): the walk over the records asks the test first, which is quicker than the facts; the verdict's pass over boundaries asks it alone.
 #[tactic(auto, unfolding(crate::specs::KindFields::kind_fields))]
 pub fn kind_fields(f: &[u8], k: Kind, at: u32) -> Result<(), Mark>
     ensures { result ≡ first_fault (kind_fields f.now k at) }

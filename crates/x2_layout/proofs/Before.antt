@@ -19,7 +19,7 @@ use Rattle.x2_layout.specs.Records.{kind_at, IsSize, size_of, size_at, starts, b
 use Rattle.x2_layout.proofs.Records.{size_at_pos}
 use Rattle.x2_layout.proofs.Walks.{starts_between, starts_reached}
 use Rattle.x2_layout.specs.inner.Walking.{Following}
-use Rattle.x2_layout.proofs.Walking.{walking_stop, walking_over, walking_on, walking_refused}
+use Rattle.x2_layout.proofs.Walking.{walking_stop, walking_over, walking_fault, walking_on, walking_refused}
 
 module _ (size : ℕ → ℕ) (end : ℕ) (pos : (x : ℕ) → 0 < size x) where
   -- one step of the search
@@ -124,6 +124,14 @@ module _ {f : List ℕ} {l : Layout} {facts : ℕ → Kind → ℕ → List Fact
     walking = walking_over i.walking h kind (e ∙ ap (λ (b : ℕ). all_tests (facts b k at)) (is_before h)) holds size;
     onward_is = further h kind size;
   }
+
+  -- at the first whose tests do not, the first fault is its own
+  pub following_fault :
+      {k : Kind} {t : Bool} {r : Judged} → at < l.end → k ≡ kind_at l at → t ≡ all_tests (facts before k at) → t ≡ false → r ≡ first_fault (facts before k at)
+      → r ≡ first_fault (each_after f l facts)
+  following_fault {k} {t} {r} h kind e fails judged =
+      let b = is_before h in
+      walking_fault i.walking h kind (e ∙ ap (λ (y : ℕ). all_tests (facts y k at)) b) fails (judged ∙ ap (λ (y : ℕ). first_fault (facts y k at)) b)
 
   -- the same of a loop that judges each record, whose first fault is w
   module _ {k : Kind} {w : Judged} (h : at < l.end) (kind : k ≡ kind_at l at) (judged : w ≡ first_fault (facts before k at)) where

@@ -2,10 +2,9 @@
 ghost use Rattle.std.specs.Prelude.{◌≡◌, ◌<◌, ◌+◌};
 ghost use Rattle.verdict.specs.Facts.{test, first_fault};
 ghost use Rattle.x2_layout.specs.inner.Bounds.{slice_over};
-ghost use Rattle.x2_layout.specs.inner.Sizes.{Passed};
+ghost use Rattle.x2_layout.specs.inner.Sizes.{balise_fits, Passed};
 ghost use Rattle.x2_layout.specs.Groups.{right_size, balise_layout, walk_layout};
 
-use crate::stream::balise_bytes;
 use crate::{SIZE_LEAST, SIZE_MOST};
 use octets::byte_at;
 use rules::fits;
@@ -19,8 +18,19 @@ fn is_right_size(n: usize) -> bool
     (n == Balise::SIZE) | ((SIZE_LEAST <= n) & (n <= SIZE_MOST))
 }
 
-// A balise at a place: 16 bytes are left of its group, its size byte is right, and it is not too large for the rest. The end of its group is
-// told at `next`.
+// A balise at a place whose size byte is n: 16 bytes are left of its group, its size byte is right, and it is not too large for the rest.
+fn balise_obeys(at: usize, n: usize, until: usize) -> bool
+    requires { (at < slice_over) × (n < 256) }
+    ensures { result ≡ balise_fits at n until }
+{
+    if until < at + Balise::SIZE {
+        return false;
+    }
+    is_right_size(n) & (at + n <= until)
+}
+
+// The same, as facts; the end of its group is told at `next`.
+// Stays (2): the walk over the balises asks the test first, which is quicker than the facts, and the facts only where it fails.
 fn balise_layout(f: &[u8], at: usize, until: usize, next: usize) -> Result<(), Mark>
     requires { at < slice_over }
     ensures { result ≡ first_fault (balise_layout f.now until next at) }
@@ -51,6 +61,7 @@ fn past_plain(f: &[u8], from: usize, until: usize) -> usize
 
 // The balises of the group that stands from a place to another, which is told at `next`: the facts of the first that does not obey are the
 // verdict.
+#[tactic(auto, using(crate::proofs::Sizes::fits_least, crate::proofs::Sizes::walk_over, crate::proofs::Sizes::walk_fault, crate::proofs::Sizes::walk_stop))]
 pub fn walk_layout(f: &[u8], from: usize, until: usize, next: usize) -> Result<(), Mark>
     requires { until < slice_over }
     ensures { result ≡ first_fault (walk_layout f.now from until next) }
@@ -58,8 +69,11 @@ pub fn walk_layout(f: &[u8], from: usize, until: usize, next: usize) -> Result<(
     let mut at = from;
     // Stays (3): each balise says where the next one starts; an iterator of them would hold the same lines, and one more to make it.
     while at < until {
-        balise_layout(f, at, until, next)?;
-        at = past_plain(f, at + balise_bytes(f, at), until);
+        let n = byte_at(f, at + Balise::SIZE_BYTE.0 as usize);
+        if !balise_obeys(at, n, until) {
+            return balise_layout(f, at, until, next);
+        }
+        at = past_plain(f, at + n, until);
     }
     Ok(())
 }

@@ -1,5 +1,6 @@
-// The first pass over turnouts, signals, joints and sidings: a loop for each kind, which tests single bytes of a record that lies inside
-// the file, and is quicker so. What it tests says the same as the tables: four bytes are a position exactly where the last is below 0x80.
+// The first pass over boundaries, turnouts, signals, joints and sidings: one loop over the records of a kind, which all have one size. Of a
+// boundary it asks the test of its table. Of the others it tests single bytes of a record that lies inside the file, and is quicker so. What
+// it tests says the same as the tables: four bytes are a position exactly where the last is below 0x80.
 ghost use Rattle.std.specs.Prelude.{◌≡◌, ℕ, List, Bool, true, false, ◌+◌, ◌≤◌, ◌<◌, length, IfSome};
 ghost use Rattle.octets.specs.Octets.{num_at};
 ghost use Rattle.verdict.specs.Facts.{same, test, all_tests};

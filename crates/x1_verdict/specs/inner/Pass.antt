@@ -72,10 +72,10 @@ pub record Passing (f : List ℕ) (size e due : ℕ) : Type 0 where
   pub agrees : first_fault (tracks_from f size e) ≡ first_fault (agreement_facts f size)
 
 -- how far the pass came: over all tracks, whose points end where the next ones were due; or to the entry of the first one that does not pass, before
--- which each agrees
+-- which each agrees, and whose points are due at a place before which the fields of all points obey
 abbrev pub Reached : List ℕ → ℕ → Result ℕ ℕ → Type 0
 Reached f size (Ok due) = Passing f size (points_at f) due
-Reached f size (Err e) = first_fault (tracks_from f size e) ≡ first_fault (agreement_facts f size)
+Reached f size (Err e) = (due : ℕ) × Passing f size e due
 
 -- so do all tracks, and the fields of all points
 pub record TracksPassed (f : List ℕ) (size : ℕ) : Type 0 where

@@ -18,7 +18,7 @@ loop-e-preserved c = let h = c.loop-e in
     passing_over a.f.now a.size h.e h.due _ (omega (arith, c.points_at-points.ensures.value)) h.invariant c.in-Some.ensures.0
 
 pub returns-in-None : goal.returns-in-None
-returns-in-None c = c.loop-e.invariant.agrees
+returns-in-None c = (c.loop-e.due, c.loop-e.invariant)
 
 pub returns : goal.returns
 returns c = let h = c.loop-e in

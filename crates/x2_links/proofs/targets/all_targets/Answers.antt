@@ -1,17 +1,16 @@
--- `x2_links::targets::all_targets` meets its contract.
-use Rattle.std.proofs.lemmas.Result.{err_from_is_err_and}
+-- `x2_links::targets::all_targets` meets its contract: a walk over the records that tests each of them.
+use Rattle.x2_layout.proofs.Walking.{walking_over, walking_fault, walking_stop}
 use Rattle.x2_links.specs.Links.{target_facts}
-use Rattle.x2_layout.proofs.Walking.{walking_on, walking_refused, walking_stop}
 use Rattle.x2_links.proofs.targets.all_targets.Goals as goal
 
-pub returns-in_err-record_targets : goal.returns-in_err-record_targets
+pub returns-then-not-record_targets_obey : goal.returns-then-not-record_targets_obey
 unfolding target_facts
-returns-in_err-record_targets c =
-    let p = err_from_is_err_and c.from_residual.result c.from_residual.ensures.1 in
-    rw (p.1, p.2) (walking_refused c.loop-at.invariant c.loop-at-test.true c.kind_at-k.ensures c.record_targets.ensures _ c.in_err-record_targets.was)
+returns-then-not-record_targets_obey c = walking_fault c.loop-at.invariant c.loop-at-test.true c.kind_at-k.ensures
+    c.record_targets_obey.ensures c.if-not-record_targets_obey.true c.record_targets.ensures
 
 pub loop-at-preserved : goal.loop-at-preserved
-loop-at-preserved c = walking_on c.loop-at.invariant c.loop-at-test.true c.kind_at-k.ensures c.record_targets.ensures c.in_ok-record_targets.was c.size_of-at.ensures
+loop-at-preserved c = walking_over c.loop-at.invariant c.loop-at-test.true c.kind_at-k.ensures
+    c.record_targets_obey.ensures c.if-not-record_targets_obey.false c.size_of-at.ensures
 
 pub returns : goal.returns
 unfolding target_facts
