@@ -14,6 +14,14 @@ use Rattle.verdict.proofs.answer_number.Kinds as answer-number-kinds
 use Rattle.verdict.proofs.answer_number.Reads as answer-number-reads
 use Rattle.verdict.proofs.answer_place.Kinds as answer-place-kinds
 use Rattle.verdict.proofs.answer_place.Reads as answer-place-reads
+use Rattle.verdict.proofs.pair_number.Kinds as pair-number-kinds
+use Rattle.verdict.proofs.pair_number.Reads as pair-number-reads
+use Rattle.verdict.proofs.pair_place.Kinds as pair-place-kinds
+use Rattle.verdict.proofs.pair_place.Reads as pair-place-reads
+use Rattle.verdict.proofs.pair_file.Kinds as pair-file-kinds
+use Rattle.verdict.proofs.pair_file.Reads as pair-file-reads
+use Rattle.verdict.proofs.fault_in.Kinds as fault-in-kinds
+use Rattle.verdict.proofs.fault_in.Reads as fault-in-reads
 use Rattle.verdict.proofs.fact.Kinds as fact-kinds
 use Rattle.verdict.proofs.fact.Reads as fact-reads
 use Rattle.verdict.proofs.FaultFromMark.from.Kinds as faultfrommark-from-kinds
@@ -38,6 +46,18 @@ answer_number_determined κs a = by_equation (λ v w. refl)
 
 pub answer_place_determined : Determined 0 answer-place-kinds.ps answer-place-kinds.r answer-place-reads.Pre answer-place-reads.Post
 answer_place_determined κs a = by_equation (λ v w. refl)
+
+pub pair_number_determined : Determined 0 pair-number-kinds.ps pair-number-kinds.r pair-number-reads.Pre pair-number-reads.Post
+pair_number_determined κs a = by_equation (λ v w. refl)
+
+pub pair_place_determined : Determined 0 pair-place-kinds.ps pair-place-kinds.r pair-place-reads.Pre pair-place-reads.Post
+pair_place_determined κs a = by_equation (λ v w. refl)
+
+pub pair_file_determined : Determined 0 pair-file-kinds.ps pair-file-kinds.r pair-file-reads.Pre pair-file-reads.Post
+pair_file_determined κs a = by_equation (λ v w. refl)
+
+pub fault_in_determined : Determined 0 fault-in-kinds.ps fault-in-kinds.r fault-in-reads.Pre fault-in-reads.Post
+fault_in_determined κs a = by_equation (λ v w. refl)
 
 pub fact_determined : Determined 0 fact-kinds.ps fact-kinds.r fact-reads.Pre fact-reads.Post
 fact_determined κs a = by_equation (λ v w. refl)

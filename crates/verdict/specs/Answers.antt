@@ -45,3 +45,8 @@ refusal r = record { reason = r; place = 0 }
 abbrev pub after_verdict : {A : Type 0} → (Fault → A) → Verdict → A → A
 after_verdict say (Ok tt) a = a
 after_verdict say (Err t) a = say t
+
+-- the fault of a verdict that refuses; an accepted file has none, and what stands here for it is never asked for
+abbrev pub fault_in : Verdict → Fault
+fault_in (Ok tt) = refusal Question
+fault_in (Err t) = t

@@ -2,8 +2,8 @@
 #![tactic(auto)]
 
 ghost use Rattle.std.specs.Prelude.{◌≡◌};
-ghost use Rattle.verdict.specs.Reasons.{number_of, file_of, fault_of, own_fault, number_by, place_by};
-ghost use Rattle.verdict.specs.Answers.{refusal};
+ghost use Rattle.verdict.specs.Reasons.{number_of, file_of, fault_of, own_fault, number_by, place_by, pair_number_in, pair_place_in, pair_file_in};
+ghost use Rattle.verdict.specs.Answers.{refusal, fault_in};
 ghost use Rattle.verdict.specs.Facts.{mark, alone};
 
 // Why an answer is refused, in the order of 01's table: 6 comes before 5. Those after 15 are 02's: a bad list of kinds is ticket 4's, which is to
@@ -197,11 +197,51 @@ pub fn answer_place(fault: Option<Fault>) -> usize
     }
 }
 
+// The number of a pair's verdict: 0 where the pair is accepted.
+pub fn pair_number(verdict: Result<(), PairFault>) -> usize
+    ensures { result ≡ pair_number_in verdict }
+{
+    match verdict {
+        Ok(()) => 0,
+        Err(p) => p.fault.number(),
+    }
+}
+
+// The place of a pair's verdict: 0 where the pair is accepted.
+pub fn pair_place(verdict: Result<(), PairFault>) -> usize
+    ensures { result ≡ pair_place_in verdict }
+{
+    match verdict {
+        Ok(()) => 0,
+        Err(p) => p.fault.place,
+    }
+}
+
+// The file at fault: 0 where the pair is accepted.
+pub fn pair_file(verdict: Result<(), PairFault>) -> usize
+    ensures { result ≡ pair_file_in verdict }
+{
+    match verdict {
+        Ok(()) => 0,
+        Err(p) => p.file.number(),
+    }
+}
+
 // A refusal of the question itself, at place 0.
 pub fn refusal(reason: Reason) -> Fault
     ensures { result ≡ refusal reason }
 {
     Fault { reason, place: 0 }
+}
+
+// The fault of a file that is refused, which each question on it answers. An accepted file has none: what stands for it is never asked for.
+pub fn fault_in(verdict: Result<(), Fault>) -> Fault
+    ensures { result ≡ fault_in verdict }
+{
+    match verdict {
+        Ok(()) => refusal(Reason::Question),
+        Err(fault) => fault,
+    }
 }
 
 // A fact: nothing where it holds, and else its mark.
