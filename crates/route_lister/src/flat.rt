@@ -1,6 +1,6 @@
 // The second lister: one loop, which takes up an open choice after the other until none is left. No function here calls itself, directly or
-// through others. With the first lister it shares the reading of an object, the test for a repeat, the count of a walk and the storing of a route's
-// words, and how a question is settled; how the walks are found, and their order, comes from the arrays of open choices alone.
+// through others. With the first lister it shares the reading of an object, the test for a repeat, the storing of a route's words, and how a
+// question is settled in two passes; how the walks are found, counted and put in order comes from here and the arrays of open choices alone.
 ghost use Rattle.std.specs.Prelude.{◌≡◌, ◌≤◌, length, take};
 ghost use Rattle.route_graph.specs.Objects.{is_boundary};
 ghost use Rattle.route_walks.specs.Lent.{room_of};
@@ -13,7 +13,7 @@ ghost use Rattle.route_lister.specs.Answered.{answer_in, left_in};
 use crate::asked::{Lister, list_by};
 use crate::choices::{choice_above, put_choice, put_exits};
 use crate::marks::{CELLS, push, stands};
-use crate::steps::{ONE_WALK, arrived, opened};
+use crate::steps::{ONE_WALK, put_in_room};
 use route_graph::{Ends, Object, ends_of, object_at, object_in};
 use route_walks::{LIMIT_MOST, Tally};
 use verdict::Fault;
@@ -40,10 +40,16 @@ fn count(o: Object, path: &[u16], n: usize, out: &mut [u8], t: Tally) -> Tally
     ensures counted { Taken (is_boundary o) n t result }
     ensures stored { out.new ≡ taken_bytes (is_boundary o) out.old t.words n (take n path.now) }
 {
-    if o.is_boundary() {
-        arrived(path, n, out, t)
-    } else {
-        opened(t)
+    let walks = t.walks + 1;
+    if !o.is_boundary() {
+        return Tally { walks, ..t };
+    }
+    let at = t.words;
+    put_in_room(path, n, out, at);
+    Tally {
+        walks,
+        routes: t.routes + 1,
+        words: at + (n + 1),
     }
 }
 

@@ -1,5 +1,5 @@
 // What the lister does with each partial walk that it opens: the test whether it opens one, the count, and the words of a route.
-ghost use Rattle.std.specs.Prelude.{◌≡◌, ◌+◌, ◌≤◌, ◌∷◌, length, take};
+ghost use Rattle.std.specs.Prelude.{◌≡◌, ◌+◌, ◌^◌, ◌≤◌, ◌<◌, ◌∷◌, length, take};
 ghost use Rattle.route_walks.specs.Lent.{lays};
 ghost use Rattle.route_walks.specs.Range.{limit_most, budget_most};
 ghost use Rattle.route_walks.specs.inner.Grown.{Sane, Counted};
@@ -42,6 +42,16 @@ pub fn opens(
     !stands(path, marks, n, to)
 }
 
+// Stores the words of the route in the first n of a path: its object count and then the offsets, as many as find room. The pass that only counts has
+// room for none.
+pub fn put_in_room(path: &[u16], n: usize, out: &mut [u8], at: usize)
+    requires { (n ≤ length path.now) × (n ≤ limit_most) × (at < 2 ^ 63) }
+    ensures { out.new ≡ lays out.old at (n ∷ take n path.now) }
+{
+    put_words(out, at, &[n as u16]);
+    put_words(out, at + 1, &path[..n]);
+}
+
 // Counts a partial walk that is no route.
 pub fn opened(t: Tally) -> Tally
     requires { Sane budget_most t }
@@ -53,19 +63,17 @@ pub fn opened(t: Tally) -> Tally
     }
 }
 
-// Counts the route in the first n of a path, and stores its words: its object count and then the offsets, as many as find room. The pass that only
-// counts has room for none.
+// Counts the route in the first n of a path, and stores its words.
 pub fn arrived(path: &[u16], n: usize, out: &mut [u8], t: Tally) -> Tally
     requires { (n ≤ length path.now) × (n ≤ limit_most) × Sane budget_most t }
     ensures counted { Counted 1 1 (n + 1) t result }
     ensures stored { out.new ≡ lays out.old t.words (n ∷ take n path.now) }
 {
-    let offsets = t.words + 1;
-    put_words(out, t.words, &[n as u16]);
-    put_words(out, offsets, &path[..n]);
+    let at = t.words;
+    put_in_room(path, n, out, at);
     Tally {
         routes: t.routes + 1,
-        words: offsets + n,
+        words: at + (n + 1),
         ..opened(t)
     }
 }
