@@ -82,12 +82,17 @@ fn begin_line(out: Stdout, name: &[u8], n: usize) {
     write(out, if n == 0 { b" -" } else { b" " });
 }
 
+// The bytes of the file from a place on; none where the place is past its end.
+fn after(f: &[u8], place: usize) -> &[u8] {
+    &f[place.min(f.len())..]
+}
+
 // An object's name in the file; a dash for one of no bytes. A byte past the end of the file counts as 0.
 pub fn name_line(out: Stdout, name: &[u8], f: &[u8], shown: Name)
     ensures { result ≡ tt }
 {
     begin_line(out, name, shown.bytes);
-    let rest = f.iter().copied().skip(shown.place);
+    let rest = after(f, shown.place).iter().copied();
     for b in rest.chain(iter::repeat(0)).take(shown.bytes) {
         write(out, &[b]);
     }
@@ -99,7 +104,7 @@ pub fn message_line(out: Stdout, name: &[u8], f: &[u8], place: usize, n: usize)
     ensures { result ≡ tt }
 {
     begin_line(out, name, n);
-    let rest = f.iter().copied().skip(place);
+    let rest = after(f, place).iter().copied();
     for b in rest.chain(iter::repeat(0)).take(n) {
         let _ = print!(out; "{b:02x}");
     }

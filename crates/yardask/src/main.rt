@@ -3,7 +3,7 @@
 // questions, numbers and files.
 #![tactic(auto)]
 
-ghost use Rattle.std.specs.Prelude.{◌≤◌};
+ghost use Rattle.std.specs.Prelude.{◌≤◌, length, IfOk};
 
 use ahead::{LIES, ROOM_LEAST, UNKNOWN};
 use decimal::number_in;
@@ -13,7 +13,7 @@ use std::env::FillError;
 use std::fs::File;
 use std::io::{Read, Stdout};
 use std::rt::Env;
-use std::{fmt, fs, str};
+use std::{fmt, fs, io, str};
 
 // A question about one file.
 #[derive(Clone, Copy)]
@@ -158,10 +158,10 @@ const NUMBER_ROOM: usize = 32;
 
 // How far a file is read: a byte more than the longest, since a file that has that is too long, whatever follows; and a byte further, so that it is
 // told where reading fails there.
-const FILE_MOST: u64 = 65537;
+const FILE_MOST: usize = 65537;
 
 // How far a file of lies is read, for the same reasons.
-const LIES_MOST: u64 = LIES as u64 + 2;
+const LIES_MOST: usize = LIES + 2;
 
 // The character of the first lie; those of the others follow it.
 const NORMAL_CHARACTER: u8 = b'0';
@@ -254,32 +254,49 @@ fn opened(rt: HostRuntime, i: usize) -> Option<File> {
     fs::open(&rt, str::from_utf8(&word[..n]).ok()?).ok()
 }
 
-// Reads the file that a word names, no further than so many bytes.
-fn read(rt: HostRuntime, i: usize, most: u64) -> Result<Vec<u8>, Wrong> {
-    let file = opened(rt, i).ok_or(Wrong::NotOpened(i))?;
-    let mut bytes = Vec::new(rt.alloc());
-    match file.take(most).read_to_end(&mut bytes) {
-        Ok(_) => Ok(bytes),
-        Err(_) => Err(Wrong::NotRead(i)),
+// Reads until the room is full or the input ends. It answers how many bytes then stand at the front of the room.
+// Stays (2): the library's `read_to_end` begins with short reads, and of input that comes in packets a short read loses what it leaves.
+fn read_full(input: &mut impl Read, room: &mut [u8]) -> io::Result<usize>
+    ensures { IfOk result (λ n. n ≤ length room.new) }
+{
+    let mut got = 0;
+    while got < room.len() {
+        let n = input.read(&mut room[got..])?;
+        if n == 0 {
+            break;
+        }
+        got += n;
     }
+    Ok(got)
+}
+
+// Reads the file that a word names, as far as there is room. It answers what it read.
+// Stays (6): a vector needs more memory than the room, and so could run out of it where the room does not.
+fn read<'a>(rt: HostRuntime, i: usize, room: &'a mut [u8]) -> Result<&'a [u8], Wrong> {
+    let mut file = opened(rt, i).ok_or(Wrong::NotOpened(i))?;
+    let n = read_full(&mut file, room).map_err(|_| Wrong::NotRead(i))?;
+    Ok(&room[..n])
 }
 
 // The lies that the word itself is, a character for each.
-fn lies_in_word(rt: HostRuntime) -> Option<Vec<u8>> {
+fn lies_in_word(rt: HostRuntime) -> Option<[u8; LIES]> {
     let mut word = [0u8; LIES];
     let n = rt.arg(LIES_WORD, &mut word).ok()?;
     let lies = word.map(|c| c.wrapping_sub(NORMAL_CHARACTER));
     if n < LIES || lies.iter().any(|lie| UNKNOWN < *lie) {
         return None;
     }
-    lies.to_vec(rt.alloc()).ok()
+    Some(lies)
 }
 
 // The lies, which are a word or stand in the file that it names.
-fn lies(rt: HostRuntime) -> Result<Vec<u8>, Wrong> {
+fn lies<'a>(rt: HostRuntime, room: &'a mut [u8; LIES_MOST]) -> Result<&'a [u8], Wrong> {
     match lies_in_word(rt) {
-        Some(lies) => Ok(lies),
-        None => read(rt, LIES_WORD, LIES_MOST).map_err(|_| Wrong::Lies),
+        Some(lies) => {
+            room[..LIES].copy_from_slice(&lies);
+            Ok(&room[..LIES])
+        }
+        None => read(rt, LIES_WORD, room).map_err(|_| Wrong::Lies),
     }
 }
 
@@ -306,16 +323,19 @@ fn answer(out: Stdout, about: About, f: &[u8], a: usize, b: usize) {
 fn ask(rt: HostRuntime, about: About) -> Result<(), Wrong> {
     let a = number(rt, NUMBER)?;
     let b = number(rt, NEXT_NUMBER)?;
-    let f = read(rt, FIRST, FILE_MOST)?;
-    answer(rt.stdout(), about, &f, a, b);
+    let mut room = [0u8; FILE_MOST];
+    let f = read(rt, FIRST, &mut room)?;
+    answer(rt.stdout(), about, f, a, b);
     Ok(())
 }
 
 // Answers the question about a pair.
 fn ask_pair(rt: HostRuntime) -> Result<(), Wrong> {
-    let first = read(rt, FIRST, FILE_MOST)?;
-    let second = read(rt, SECOND, FILE_MOST)?;
-    answers::pair(rt.stdout(), &first, &second);
+    let mut first_room = [0u8; FILE_MOST];
+    let first = read(rt, FIRST, &mut first_room)?;
+    let mut second_room = [0u8; FILE_MOST];
+    let second = read(rt, SECOND, &mut second_room)?;
+    answers::pair(rt.stdout(), first, second);
     Ok(())
 }
 
@@ -325,8 +345,9 @@ fn ask_routes(rt: HostRuntime, engine: Engine) -> Result<(), Wrong> {
     let limit = number(rt, NEXT_NUMBER)?;
     let budget = number(rt, THIRD_NUMBER)?;
     let words = number(rt, FOURTH_NUMBER)?;
-    let f = read(rt, FIRST, FILE_MOST)?;
-    let number = listings::routes(rt.stdout(), engine, &f, start, limit, budget, words);
+    let mut room = [0u8; FILE_MOST];
+    let f = read(rt, FIRST, &mut room)?;
+    let number = listings::routes(rt.stdout(), engine, f, start, limit, budget, words);
     if number == NO_ROOM && MOST_ROOM < words {
         return Err(Wrong::List);
     }
@@ -337,18 +358,13 @@ fn ask_routes(rt: HostRuntime, engine: Engine) -> Result<(), Wrong> {
 fn ask_ahead(rt: HostRuntime) -> Result<(), Wrong> {
     let offset = number(rt, OFFSET)?;
     let link = number(rt, LINK)?;
-    let first = read(rt, FIRST, FILE_MOST)?;
-    let second = read(rt, SECOND, FILE_MOST)?;
-    let lies = lies(rt)?;
-    answers::ahead(
-        rt.stdout(),
-        &first,
-        &second,
-        offset,
-        link,
-        &lies,
-        ROOM_LEAST,
-    );
+    let mut first_room = [0u8; FILE_MOST];
+    let first = read(rt, FIRST, &mut first_room)?;
+    let mut second_room = [0u8; FILE_MOST];
+    let second = read(rt, SECOND, &mut second_room)?;
+    let mut lies_room = [0u8; LIES_MOST];
+    let lies = lies(rt, &mut lies_room)?;
+    answers::ahead(rt.stdout(), first, second, offset, link, lies, ROOM_LEAST);
     Ok(())
 }
 

@@ -4,7 +4,7 @@
 // off is handed on as it came, and an input that ends inside a length is a piece of no bytes: the loader refuses both.
 #![tactic(auto)]
 
-ghost use Rattle.std.specs.Prelude.{◌≡◌};
+ghost use Rattle.std.specs.Prelude.{◌≡◌, ◌≤◌, length, IfOk};
 
 use decimal::number_in;
 use loading::refusals::{finishing_refused, opening_refused, piece_refused};
@@ -48,9 +48,9 @@ const PIECE_MOST: usize = 131072;
 const LENGTH: usize = 4;
 
 // What stands next in the input: a piece, as far as the input has it, or one of so many bytes that cannot be held.
-#[derive(Drop)]
-enum Next {
-    Piece(Vec<u8>),
+#[derive(Clone, Copy)]
+enum Next<'a> {
+    Piece(&'a [u8]),
     Long(usize),
 }
 
@@ -83,21 +83,37 @@ impl fmt::Display for End {
 
 // ---- pieces
 
-// What stands next in the input; none where it has ended. One that ends inside a length is a piece of no bytes.
-fn read_next(input: &mut impl Read, rt: HostRuntime) -> io::Result<Option<Next>> {
-    let mut length = Vec::new(rt.alloc());
-    match input.take(LENGTH as u64).read_to_end(&mut length)? {
+// Reads until the room is full or the input ends. It answers how many bytes then stand at the front of the room.
+// Stays (2): the library's `read_to_end` begins with short reads, and of input that comes in packets a short read loses what it leaves.
+fn read_full(input: &mut impl Read, room: &mut [u8]) -> io::Result<usize>
+    ensures { IfOk result (λ n. n ≤ length room.new) }
+{
+    let mut got = 0;
+    while got < room.len() {
+        let n = input.read(&mut room[got..])?;
+        if n == 0 {
+            break;
+        }
+        got += n;
+    }
+    Ok(got)
+}
+
+// What stands next in the input, a piece at the front of the room for it; none where it has ended. One that ends inside a length is a piece of no
+// bytes.
+fn read_next<'a>(input: &mut impl Read, piece_room: &'a mut [u8]) -> io::Result<Option<Next<'a>>> {
+    let mut length = [0u8; LENGTH];
+    match read_full(input, &mut length)? {
         0 => return Ok(None),
         LENGTH => {}
-        _ => return Ok(Some(Next::Piece(Vec::new(rt.alloc())))),
+        _ => return Ok(Some(Next::Piece(&[]))),
     }
     let n = u32_at(&length, 0);
-    if PIECE_MOST < n {
+    if piece_room.len() < n {
         return Ok(Some(Next::Long(n)));
     }
-    let mut piece = Vec::new(rt.alloc());
-    input.take(n as u64).read_to_end(&mut piece)?;
-    Ok(Some(Next::Piece(piece)))
+    let got = read_full(input, &mut piece_room[..n])?;
+    Ok(Some(Next::Piece(&piece_room[..got])))
 }
 
 impl Run {
@@ -114,25 +130,46 @@ impl Run {
         }
     }
 
-    // Passes over the next piece, which has so many bytes, and says that it cannot be held.
-    fn pass_over(&mut self, input: &mut impl Read, err: Stderr, n: usize) -> io::Result<()> {
+    // Passes over the next piece, which has so many bytes, and says that it cannot be held. It answers how many of them the input has.
+    fn pass_over(
+        &mut self,
+        input: &mut impl Read,
+        err: Stderr,
+        n: usize,
+        piece_room: &mut [u8],
+    ) -> io::Result<usize> {
         self.pieces = self.pieces.wrapping_add(1);
         let number = self.pieces;
         let _ = println!(err; "piece {number} has {n} bytes, more than this program holds");
-        io::copy(&mut input.take(n as u64), &mut io::sink())?;
-        Ok(())
+        for start in (0..n).step_by(PIECE_MOST) {
+            let part = piece_room.len().min(n - start);
+            let got = read_full(input, &mut piece_room[..part])?;
+            if got < part {
+                return Ok(start + got);
+            }
+        }
+        Ok(n)
     }
 
-    // Hands on every piece of the input. A proved loop has to end, and nothing says that the input does: it stops after as many pieces as no run
-    // has.
-    fn gather(&mut self, rt: HostRuntime, room: &mut [u8]) -> io::Result<()> {
+    // Hands on every piece of the input, each by the room for pieces. A proved loop has to end, and nothing says that the input does: it stops after
+    // as many pieces as no run has.
+    fn gather(
+        &mut self,
+        rt: HostRuntime,
+        piece_room: &mut [u8],
+        room: &mut [u8],
+    ) -> io::Result<()> {
         let mut input = rt.stdin();
         // Stays (3): nothing says that a `while let` ends, since nothing says that the input does.
         for _ in 0..u64::MAX {
-            match read_next(&mut input, rt)? {
+            match read_next(&mut input, piece_room)? {
                 None => break,
-                Some(Next::Piece(bytes)) => self.hand(rt.stderr(), &bytes, room),
-                Some(Next::Long(n)) => self.pass_over(&mut input, rt.stderr(), n)?,
+                Some(Next::Piece(bytes)) => self.hand(rt.stderr(), bytes, room),
+                Some(Next::Long(n)) => {
+                    if self.pass_over(&mut input, rt.stderr(), n, piece_room)? < n {
+                        break;
+                    }
+                }
             }
         }
         Ok(())
@@ -171,7 +208,8 @@ fn printed(out: Stdout, err: Stderr, state: State, room: &[u8]) -> End {
 
 // Opens a transfer and loads its file. It is said where the opening is refused, and then nothing is read.
 fn load(rt: HostRuntime, identity: Identity) -> io::Result<()> {
-    let mut room = vec![in rt.alloc(); 0u8; FILE_ROOM]?;
+    // Stays (6): a vector needs more memory than the room, and so could run out of it where the room does not.
+    let mut room = [0u8; FILE_ROOM];
     let step = opening(nothing_opened(), identity, room.len());
     let mut run = Run {
         identity,
@@ -181,7 +219,8 @@ fn load(rt: HostRuntime, identity: Identity) -> io::Result<()> {
     };
     let end = match step.verdict {
         Ok(()) => {
-            run.gather(rt, &mut room)?;
+            let mut piece_room = [0u8; PIECE_MOST];
+            run.gather(rt, &mut piece_room, &mut room)?;
             printed(rt.stdout(), rt.stderr(), run.state, &room)
         }
         Err(fault) => {

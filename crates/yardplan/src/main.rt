@@ -3,7 +3,7 @@
 // is said on standard error.
 #![tactic(auto)]
 
-ghost use Rattle.std.specs.Prelude.{◌≡◌, ◌≤◌, length};
+ghost use Rattle.std.specs.Prelude.{◌≡◌, ◌≤◌, length, IfOk};
 ghost use Rattle.std.specs.Iterator.{YieldsFirstRef, at_most};
 ghost use Rattle.plan_reading.specs.ReadPlan.{lines_in, plan_read, named_by, named_in};
 
@@ -17,7 +17,7 @@ use std::env::FillError;
 use std::fs::File;
 use std::io::{Read, Stderr, Stdout};
 use std::rt::Env;
-use std::{fmt, fs, str};
+use std::{fmt, fs, io, str};
 use verdict::{Fault, answer_number, answer_place};
 
 // Where the words of the command stand, the program's own name being the first of them, and how many there may be before the one that picks
@@ -53,10 +53,10 @@ const NUMBER_ROOM: usize = 32;
 
 // How far a file is read: a byte more than the longest, since a file that has that is too long, whatever follows; and a byte further, so that it is
 // told where reading fails there.
-const FILE_MOST: u64 = 65537;
+const FILE_MOST: usize = 65537;
 
 // How far a plan is read, for the same reasons, and how long it may be.
-const PLAN_MOST: u64 = 1048578;
+const PLAN_MOST: usize = 1048578;
 
 const PLAN_LONGEST: usize = 1048576;
 
@@ -106,7 +106,7 @@ enum Wrong {
     NotOpened(usize),
     NotRead(usize),
     PlanLong,
-    // no memory for the words of the plan
+    // no memory for the plan or for its words
     Memory,
     NoStart,
 }
@@ -357,15 +357,28 @@ fn opened(rt: HostRuntime, i: usize) -> Option<File> {
     fs::open(&rt, str::from_utf8(&word[..n]).ok()?).ok()
 }
 
-// Reads the file that a word names, no further than so many bytes.
-// Stays (2): in each program that reads one; a public function of a library is determined by its input (crate promises), and a file is none.
-fn read(rt: HostRuntime, i: usize, most: u64) -> Result<Vec<u8>, Wrong> {
-    let file = opened(rt, i).ok_or(Wrong::NotOpened(i))?;
-    let mut bytes = Vec::new(rt.alloc());
-    match file.take(most).read_to_end(&mut bytes) {
-        Ok(_) => Ok(bytes),
-        Err(_) => Err(Wrong::NotRead(i)),
+// Reads until the room is full or the input ends. It answers how many bytes then stand at the front of the room.
+// Stays (2): the library's `read_to_end` begins with short reads, and of input that comes in packets a short read loses what it leaves.
+fn read_full(input: &mut impl Read, room: &mut [u8]) -> io::Result<usize>
+    ensures { IfOk result (λ n. n ≤ length room.new) }
+{
+    let mut got = 0;
+    while got < room.len() {
+        let n = input.read(&mut room[got..])?;
+        if n == 0 {
+            break;
+        }
+        got += n;
     }
+    Ok(got)
+}
+
+// Reads the file that a word names, as far as there is room. It answers what it read.
+// Stays (2): in each program that reads one; a public function of a library is determined by its input (crate promises), and a file is none.
+fn read<'a>(rt: HostRuntime, i: usize, room: &'a mut [u8]) -> Result<&'a [u8], Wrong> {
+    let mut file = opened(rt, i).ok_or(Wrong::NotOpened(i))?;
+    let n = read_full(&mut file, room).map_err(|_| Wrong::NotRead(i))?;
+    Ok(&room[..n])
 }
 
 // Compares the files that the command names.
@@ -380,9 +393,11 @@ fn command(rt: HostRuntime) -> Result<(), Wrong> {
     if MOST_ROOM < q.room {
         return Err(Wrong::Room);
     }
-    let f = read(rt, FILE, FILE_MOST)?;
-    let text = read(rt, PLAN, PLAN_MOST)?;
-    compare(rt, &f, &text, q)
+    let mut file_room = [0u8; FILE_MOST];
+    let f = read(rt, FILE, &mut file_room)?;
+    let mut plan_room = vec![in rt.alloc(); 0u8; PLAN_MOST].map_err(|_| Wrong::Memory)?;
+    let text = read(rt, PLAN, &mut plan_room)?;
+    compare(rt, f, text, q)
 }
 
 fn main(rt: HostRuntime) {

@@ -4,7 +4,7 @@
 // to open the file, is one line on standard error, and then nothing stands on standard output.
 #![tactic(auto)]
 
-ghost use Rattle.std.specs.Prelude.{◌≤◌, IfOk};
+ghost use Rattle.std.specs.Prelude.{◌≤◌, length, IfOk};
 
 use decimal::number_in;
 use loading::refusals::opening_refused;
@@ -13,7 +13,7 @@ use std::env::FillError;
 use std::fs::File;
 use std::io::{Read, Stdout};
 use std::rt::Env;
-use std::{fs, str};
+use std::{fs, io, str};
 use text::write;
 use transfer::heads::head_of;
 use transfer::opening::{nothing_opened, opening};
@@ -44,7 +44,7 @@ const NUMBER_ROOM: usize = 32;
 
 // How far a file is read: a byte more than the longest, since a file that has that is too long, whatever follows; and a byte further, so that it is
 // told where reading fails there.
-const FILE_MOST: u64 = 65537;
+const FILE_MOST: usize = 65537;
 
 // How many bytes of a number are its length before a piece.
 const LENGTH: usize = 4;
@@ -100,14 +100,28 @@ fn opened(rt: HostRuntime) -> Option<File> {
     fs::open(&rt, str::from_utf8(&word[..n]).ok()?).ok()
 }
 
-// Reads the file of the command.
-fn read(rt: HostRuntime) -> Result<Vec<u8>, Wrong> {
-    let file = opened(rt).ok_or(Wrong::NotOpened)?;
-    let mut bytes = Vec::new(rt.alloc());
-    match file.take(FILE_MOST).read_to_end(&mut bytes) {
-        Ok(_) => Ok(bytes),
-        Err(_) => Err(Wrong::NotRead),
+// Reads until the room is full or the input ends. It answers how many bytes then stand at the front of the room.
+// Stays (2): the library's `read_to_end` begins with short reads, and of input that comes in packets a short read loses what it leaves.
+fn read_full(input: &mut impl Read, room: &mut [u8]) -> io::Result<usize>
+    ensures { IfOk result (λ n. n ≤ length room.new) }
+{
+    let mut got = 0;
+    while got < room.len() {
+        let n = input.read(&mut room[got..])?;
+        if n == 0 {
+            break;
+        }
+        got += n;
     }
+    Ok(got)
+}
+
+// Reads the file of the command, as far as there is room. It answers what it read.
+// Stays (6): a vector needs more memory than the room, and so could run out of it where the room does not.
+fn read<'a>(rt: HostRuntime, room: &'a mut [u8]) -> Result<&'a [u8], Wrong> {
+    let mut file = opened(rt).ok_or(Wrong::NotOpened)?;
+    let n = read_full(&mut file, room).map_err(|_| Wrong::NotRead)?;
+    Ok(&room[..n])
 }
 
 // The identity of a file that a loader with room for it could open.
@@ -162,13 +176,14 @@ fn command(rt: HostRuntime) -> Result<(), Wrong> {
     if PIECES_WORDS < words {
         return Err(Wrong::Many);
     }
+    let mut room = [0u8; FILE_MOST];
     if words == IDENTITY_WORDS {
-        write_identity(rt.stdout(), identity_in(&read(rt)?)?);
+        write_identity(rt.stdout(), identity_in(read(rt, &mut room)?)?);
         return Ok(());
     }
     let most = piece_bytes(rt)?;
-    let f = read(rt)?;
-    write_pieces(rt.stdout(), identity_in(&f)?, &f, most);
+    let f = read(rt, &mut room)?;
+    write_pieces(rt.stdout(), identity_in(f)?, f, most);
     Ok(())
 }
 
