@@ -101,7 +101,10 @@ fn read_full(input: &mut impl Read, room: &mut [u8]) -> io::Result<usize>
 
 // What stands next in the input, a piece at the front of the room for it; none where it has ended. One that ends inside a length is a piece of no
 // bytes.
-fn read_next<'a>(input: &mut impl Read, piece_room: &'a mut [u8]) -> io::Result<Option<Next<'a>>> {
+fn read_next<'a>(
+    input: &mut impl Read,
+    piece_room: &'a mut [u8; PIECE_MOST],
+) -> io::Result<Option<Next<'a>>> {
     let mut length = [0u8; LENGTH];
     match read_full(input, &mut length)? {
         0 => return Ok(None),
@@ -109,7 +112,7 @@ fn read_next<'a>(input: &mut impl Read, piece_room: &'a mut [u8]) -> io::Result<
         _ => return Ok(Some(Next::Piece(&[]))),
     }
     let n = u32_at(&length, 0);
-    if piece_room.len() < n {
+    if PIECE_MOST < n {
         return Ok(Some(Next::Long(n)));
     }
     let got = read_full(input, &mut piece_room[..n])?;
@@ -136,13 +139,13 @@ impl Run {
         input: &mut impl Read,
         err: Stderr,
         n: usize,
-        piece_room: &mut [u8],
+        piece_room: &mut [u8; PIECE_MOST],
     ) -> io::Result<usize> {
         self.pieces = self.pieces.wrapping_add(1);
         let number = self.pieces;
         let _ = println!(err; "piece {number} has {n} bytes, more than this program holds");
         for start in (0..n).step_by(PIECE_MOST) {
-            let part = piece_room.len().min(n - start);
+            let part = PIECE_MOST.min(n - start);
             let got = read_full(input, &mut piece_room[..part])?;
             if got < part {
                 return Ok(start + got);
@@ -156,7 +159,7 @@ impl Run {
     fn gather(
         &mut self,
         rt: HostRuntime,
-        piece_room: &mut [u8],
+        piece_room: &mut [u8; PIECE_MOST],
         room: &mut [u8],
     ) -> io::Result<()> {
         let mut input = rt.stdin();

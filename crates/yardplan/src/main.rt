@@ -284,9 +284,10 @@ fn compare(rt: HostRuntime, f: &[u8], text: &[u8], q: Question) -> Result<(), Wr
     }
     // Stays (6): the marks of the starts are what the definition named_after and the contract of read_plan speak of.
     let mut named = [false; STARTS];
-    // There is a word for each byte: a route of n offsets, 2 or more, takes n + 1 words, and its line has 2n - 1 bytes or more and its end, if it
-    // is not the last.
-    let mut plan = vec![in rt.alloc(); 0u16; text.len()].map_err(|_| Wrong::Memory)?;
+    // A route of n offsets, 2 or more, takes n + 1 words, and its line has 2n - 1 bytes or more and its end, if it is not the last: three words at most
+    // for each four bytes.
+    let most = 3 * (text.len() + 1) / 4 + 1;
+    let mut plan = vec![in rt.alloc(); 0u16; most].map_err(|_| Wrong::Memory)?;
     let words = read_plan(rt.stderr(), text, &mut plan, &mut named);
     for (start, _) in named.iter().enumerate().filter(|(_, named)| **named) {
         start_lines(out, f, start, q, &plan[..words]);
